@@ -7,7 +7,11 @@ ghost use Rattle.semantics.specs.Labels.{has as member, relabel as relabeled};
 pub fn has(state: u32, relation: u32) -> bool
     ensures { λ r. ⌜ r ≡ member state relation ⌝ }
 {
-    if relation < 32 { (state >> relation) & 1 == 1 } else { false }
+    if relation < 32 {
+        (state >> relation) & 1 == 1
+    } else {
+        false
+    }
 }
 
 // The atomic state after a `next` line: the relations of `plus` are added, then those of `minus` removed.
