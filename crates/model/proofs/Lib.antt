@@ -1,3 +1,6 @@
 pub mod Encoding
 pub mod Lines
 pub mod Renaming
+pub mod Numbering
+pub mod Accepted
+pub mod Office

@@ -42,12 +42,14 @@ module _ (num : Clause → ℕ) (L : Clause → Line) (d : Clause) (ℓ : ℕ) w
       (λ (n : ℓ ≢ num c). rw (ne-eqb _ _ n) (before c cs (line (lines cs) ℓ) (λ e. n (sym e)) (look cs)))
       (same? ℓ (num c))
 
-apart : (a b : ℕ) → a ≢ b → (a < b) ⊎ (b < a)
-apart a b n = go (decLe (suc a) b)
+-- a map that rises takes no value twice
+rising-same : (f : ℕ → ℕ) (n : ℕ) → ((i j : ℕ) → i < j → j < n → f i < f j) → (i j : ℕ) → i < n → j < n → f i ≡ f j → i ≡ j
+rising-same f n rising i j hi hj e = go (decLe (suc i) j) (decLe (suc j) i)
   where
-    go : Dec (a < b) → (a < b) ⊎ (b < a)
-    go (yes l) = inl l
-    go (no g) = inr (omega arith)
+    go : Dec (i < j) → Dec (j < i) → i ≡ j
+    go (yes l) d = absurd (let q = rising i j l hj in omega arith)
+    go (no g) (yes l) = absurd (let q = rising j i l hi in omega arith)
+    go (no g) (no l) = omega arith
 
 module _ (m : Model) where
   -- on each line stands one of the clauses, or none
@@ -67,7 +69,8 @@ module _ (m : Model) where
       below i h = omega (arith, rw length-take at h)
 
   -- what holds of every clause's line holds of every line
-  pub every-line : (R : Line → Type 0) → R other → ((i : ℕ) → i < m .clausecount → R (clauseLine (m .literals) (clauseAt m i))) → (ℓ : ℕ) → R (line (programOf m) ℓ)
+  pub every-line : (R : Line → Type 0) → R other → ((i : ℕ) → i < m .clausecount → R (clauseLine (m .literals) (clauseAt m i)))
+      → (ℓ : ℕ) → R (line (programOf m) ℓ)
   every-line R o h ℓ = ⊎-elim (λ w. subst R (sym (w .3)) (h (w .0) (w .1))) (λ w. subst R (sym (w .1)) o) (clause-or-other ℓ)
 
   -- a line of no clause is other
@@ -78,13 +81,11 @@ module _ (m : Model) where
     -- a clause stands on its line, where the lines rise
     pub line-clause : ((i j : ℕ) → i < j → j < m .clausecount → clauseAt m i .line < clauseAt m j .line) → (i : ℕ) → i < m .clausecount
         → line (programOf m) (clauseAt m i .line) ≡ clauseLine (m .literals) (clauseAt m i)
-    line-clause rising i h = ⊎-elim
-        (λ w. w .3 ∙ ap (λ (j : ℕ). clauseLine (m .literals) (clauseAt m j)) (same (w .0) (w .1) (w .2)))
+    line-clause rising i h =
+        ⊎-elim
+        (λ w. w .3 ∙ ap (λ (j : ℕ). clauseLine (m .literals) (clauseAt m j)) (rising-same (λ j. clauseAt m j .line) _ rising (w .0) i (w .1) h (w .2)))
         (λ w. absurd (w .0 i h (omega arith) refl))
         (clause-or-other (clauseAt m i .line))
-      where
-        same : (j : ℕ) → j < m .clausecount → clauseAt m j .line ≡ clauseAt m i .line → j ≡ i
-        same j g e = ⊎-elim (λ q. q) (λ n. ⊎-elim (λ l. absurd (let q = rising j i l h in omega arith)) (λ l. absurd (let q = rising i j l g in omega arith)) (apart j i n)) (same? j i)
 
   module _ (whole : m .stagecount ≤ length (m .stages)) where
     pub length-question : length (questionOf m) ≡ m .stagecount

@@ -1,2 +1,3 @@
 pub mod Literals
 pub mod Records
+pub mod WellFormed
