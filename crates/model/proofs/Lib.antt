@@ -4,3 +4,4 @@ pub mod Renaming
 pub mod Numbering
 pub mod Accepted
 pub mod Office
+pub mod Places

@@ -1,3 +1,4 @@
 pub mod Literals
 pub mod Records
 pub mod WellFormed
+pub mod Places
