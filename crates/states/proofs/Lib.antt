@@ -1,2 +1,3 @@
 pub mod Seats
 pub mod Laws
+pub mod Sorting

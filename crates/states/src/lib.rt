@@ -4,13 +4,20 @@ ghost use Prim.Native.Nat.{_≤_, _<_};
 ghost use lib.ListN.{length, take};
 ghost use Rattle.semantics.specs.Models.{elem};
 ghost use Rattle.semantics.proofs.Tools.{seat};
-ghost use Rattle.states.specs.States.{nothing, appended, added, Proper};
+ghost use Rattle.states.specs.States.{row, nothing, appended, added, Proper};
+ghost use Rattle.states.specs.Rising.{Lists};
 
 // State i came by line lines[i] from state origins[i].
 pub struct States {
     pub states: [u32; 127],
     pub lines: [u32; 127],
     pub origins: [u32; 127],
+    pub count: usize,
+}
+
+// The states by rising number.
+pub struct Listing {
+    pub states: [u32; 127],
     pub count: usize,
 }
 
@@ -77,4 +84,22 @@ pub fn add(s: States, state: u32, line: u32, origin: u32) -> States
         return s;
     }
     append(s, state, line, origin)
+}
+
+// The found states by rising number.
+pub fn rising(s: States) -> Listing
+    requires { ⌜ Proper s ⌝ }
+    ensures { λ r. ⌜ Lists (row s) r ⌝ }
+{
+    let mut states = [0u32; 127];
+    let mut count: usize = 0;
+    let mut t: u32 = 1;
+    while t < 128 {
+        if among(&s.states, s.count, t) {
+            states[count] = t;
+            count += 1;
+        }
+        t += 1;
+    }
+    Listing { states, count }
 }
