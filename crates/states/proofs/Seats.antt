@@ -1,15 +1,15 @@
 -- The first place of a number in a row.
-use mathlib.Core.Path.{_≡_, refl, sym, ap}
+use mathlib.Core.Path.{_≡_, refl, sym, ap, _∙_}
 use mathlib.Core.Logic.{⊎-elim}
 use mathlib.Core.Bool.{true, false}
 use mathlib.Core.List.{List, [], _∷_, _++_}
-use Prim.Native.Nat.{ℕ, zero, suc, _+_, _≤_, _<_}
+use Prim.Native.Nat.{ℕ, zero, suc, _+_, _-_, _≤_, _<_}
 use native.Mathlib.Omega.{arith}
 use native.Mathlib.Nat.{not-suc-le-zero}
 use borrow.Author.Tests.{eq-eqb, ne-eqb, lt-ltb, le-ltb}
 use lib.Dec.{eqb, ltb}
-use lib.ListN.{length, take, getD}
-use lib.Seq.{take-suc, take-take, getD-take, length-take-le}
+use lib.ListN.{length, take, drop, getD, length-drop}
+use lib.Seq.{take-all, take-suc, take-take, getD-take, length-take-le}
 use native.Mathlib.Numerals.{add-one}
 use Rattle.semantics.specs.Models.{elem}
 use Rattle.semantics.proofs.Tools.{either, clash, or-false, seat, seat-ok}
@@ -33,6 +33,13 @@ seat-below x xs =
     (λ (e : elem x xs ≡ false). rw e (le-ltb (seat x xs) (length xs) (let q = seat-absent x xs e in omega arith)))
     (either (elem x xs))
 
+-- the same of a row of n numbers
+pub seat-in : (x : ℕ) (xs : List ℕ) (n : ℕ) → length xs ≡ n → seat x xs < n → elem x xs ≡ true
+seat-in x xs n e l = sym (seat-below x xs) ∙ lt-ltb (seat x xs) (length xs) (omega arith)
+
+pub seat-out : (x : ℕ) (xs : List ℕ) (n : ℕ) → length xs ≡ n → n ≤ seat x xs → elem x xs ≡ false
+seat-out x xs n e l = sym (seat-below x xs) ∙ le-ltb (seat x xs) (length xs) (omega arith)
+
 elem-snoc-false : (x : ℕ) (xs : List ℕ) (y : ℕ) → elem x xs ≡ false → (x ≡ y → ⊥) → elem x (xs ++ (y ∷ [])) ≡ false
 elem-snoc-false x [] y e n = rw (ne-eqb x y n)
 elem-snoc-false x (z ∷ xs) y e n = let p = or-false (eqb x z) (elem x xs) e in rw (p .0) (elem-snoc-false x xs y (p .1) n)
@@ -45,3 +52,7 @@ absent-more x xs i l e n = rw (add-one, take-suc xs i 0 l) (elem-snoc-false x (t
 pub seat-take : (x : ℕ) (xs : List ℕ) (n i : ℕ) → n ≤ length xs → i < n → elem x (take i xs) ≡ false → getD xs i 0 ≡ x → seat x (take n xs) ≡ i
 seat-take x xs n i l h e q =
     seat-first x (take n xs) i (rw (length-take-le n xs l) h) (rw (take-take i n xs (omega arith)) e) (rw (getD-take n xs i 0 h) q)
+
+-- the part of a row that begins at n
+pub rest-whole : (n : ℕ) (l : List ℕ) → take (length l - n) (drop n l) ≡ drop n l
+rest-whole n l = take-all (length l - n) (drop n l) (simp length-drop (omega arith))
