@@ -19,7 +19,7 @@ use Rattle.semantics.proofs.Similar.{Under}
 use Rattle.semantics.proofs.Growth.{came-grows, came-longer}
 use Rattle.states.proofs.Laws.{only-one}
 use Rattle.entries.specs.declared.Levels.{Levels}
-use Rattle.entries.specs.Entries.{entryOf, count, numbers, rowsOf, arrivalOf, cameOf, begun, appended, added, Proper, spare}
+use Rattle.entries.specs.Entries.{entryOf, count, numbers, rowsOf, arrivalOf, cameOf, Brings, Listed, begun, appended, added, Proper, spare}
 use Rattle.entries.proofs.Blocks.{length-rows, room, count-here, count-there, rows-here, rows-there, numbers-here, numbers-there, proper-appended}
 
 -- by what the test of adding says
@@ -52,20 +52,8 @@ distinct-held (suc x ∷ xs) d = (
   distinct-held xs (d .1),
 )
 
--- an entry's state is empty or listed
-abbrev pub Listed : Database → ℕ → Type 0
-Listed S zero = Unit {0}
-Listed S (suc c) = Within S c
-
--- WHAT BRINGS AN ENTRY to level k, over the rows so far
+-- what brings an entry to level k over the rows so far is how it came, once it is there behind the others
 module _ (P : Program) (Q : Question) (v : ℕ) (S : Database) (rows : Rows) where
-  abbrev pub Brings : ℕ → Arrival → Option ℕ → Type 0
-  Brings k first d = (k ≡ 0) × (d ≡ none)
-  Brings k (moved ℓ p) d = (k < length Q) × (p < length (rows k)) × Moves P S (line P ℓ) (entry rows k p) d
-  Brings zero (met p) d = ⊥
-  Brings (suc i) (met p) d = (i < length Q) × (p < length (rows i)) × ((σ : ℕ → ℕ) × Meets P S σ (getD Q i []) × Hands v S (getD Q i []) σ (entry rows i p) d)
-
-  -- the entry is there behind the others
   module _ (rows′ : Rows) (k : ℕ) (d : Option ℕ) (here : rows′ k ≡ rows k ++ (d ∷ [])) (there : (j : ℕ) → j ≢ k → rows′ j ≡ rows j) where
     last : entry rows′ k (length (rows k)) ≡ d
     last = rw here (getD-append-seam (rows k) d [] none)
@@ -73,10 +61,10 @@ module _ (P : Program) (Q : Question) (v : ℕ) (S : Database) (rows : Rows) whe
     earlier : (p : ℕ) → p < length (rows k) → entry rows′ k p ≡ entry rows k p
     earlier p h = rw here (List·getD-append (rows k) (d ∷ []) none p h)
 
-    brought : (a : Arrival) → Brings k a d → Came P Q v S rows′ k (length (rows k)) a
+    brought : (a : Arrival) → Brings P Q v S rows k a d → Came P Q v S rows′ k (length (rows k)) a
     brought = go k refl
       where
-        go : (i : ℕ) → i ≡ k → (a : Arrival) → Brings i a d → Came P Q v S rows′ i (length (rows k)) a
+        go : (i : ℕ) → i ≡ k → (a : Arrival) → Brings P Q v S rows i a d → Came P Q v S rows′ i (length (rows k)) a
         go i e first h = (h .0, rw e (last ∙ h .1))
         go i e (moved ℓ p) h = rw e (rw e at (h .0), rw e at (h .1), rw (last, earlier p (rw e at (h .1))) (rw e at (h .2)))
         go zero e (met p) h = h

@@ -5,8 +5,9 @@ use mathlib.Core.List.{List, [], _∷_, map}
 use mathlib.Core.Option.{Option, none, some}
 use Prim.Native.Nat.{ℕ, zero, suc, _+_, _-_, _*_, _≤_, _<_}
 use lib.ListN.{length, take, drop, getD, set, replicate}
-use Rattle.semantics.specs.Models.{elem, Distinct}
-use Rattle.semantics.specs.Tables.{Rows, Arrival, first, moved, met}
+use Rattle.semantics.specs.Models.{elem, Program, line, Question, Distinct}
+use Rattle.semantics.specs.Facts.{Database, Meets}
+use Rattle.semantics.specs.Tables.{Within, Rows, entry, Arrival, first, moved, met, Moves, Hands}
 use Rattle.entries.specs.declared.Levels.{Levels}
 
 -- what a number stands for: nothing is carried yet, or the carried object's state
@@ -33,6 +34,19 @@ arrivalOf k (suc ℓ) p = moved (suc ℓ) p
 
 abbrev pub cameOf : Levels → ℕ → ℕ → Arrival
 cameOf l k j = arrivalOf k (getD (l .lines) (k * 129 + j) 0) (getD (l .origins) (k * 129 + j) 0)
+
+-- what brings entry d to level k, over the rows so far: it is the first; a line moves entry p of the level; the level's stage is met from entry p of the level below
+module _ (P : Program) (Q : Question) (v : ℕ) (S : Database) (rows : Rows) where
+  abbrev pub Brings : ℕ → Arrival → Option ℕ → Type 0
+  Brings k first d = (k ≡ 0) × (d ≡ none)
+  Brings k (moved ℓ p) d = (k < length Q) × (p < length (rows k)) × Moves P S (line P ℓ) (entry rows k p) d
+  Brings zero (met p) d = ⊥
+  Brings (suc i) (met p) d = (i < length Q) × (p < length (rows i)) × ((σ : ℕ → ℕ) × Meets P S σ (getD Q i []) × Hands v S (getD Q i []) σ (entry rows i p) d)
+
+-- the state of an entry is empty or listed
+abbrev pub Listed : Database → ℕ → Type 0
+Listed S zero = Unit {0}
+Listed S (suc c) = Within S c
 
 -- no stage is met and nothing is carried
 abbrev pub begun : Levels
