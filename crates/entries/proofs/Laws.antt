@@ -18,6 +18,7 @@ use Rattle.semantics.proofs.Tools.{either, same?, clash, or-true-cases, or-fals
 use Rattle.semantics.proofs.Similar.{Under}
 use Rattle.semantics.proofs.Growth.{came-grows, came-longer}
 use Rattle.states.proofs.Laws.{only-one}
+use Rattle.states.proofs.Seats.{elem-getD}
 use Rattle.entries.specs.declared.Levels.{Levels}
 use Rattle.entries.specs.Entries.{entryOf, count, numbers, rowsOf, arrivalOf, cameOf, Brings, Listed, begun, appended, added, Proper, spare}
 use Rattle.entries.proofs.Blocks.{length-rows, room, count-here, count-there, rows-here, rows-there, numbers-here, numbers-there, proper-appended}
@@ -189,11 +190,6 @@ entryOf-same zero zero e = refl
 entryOf-same zero (suc y) e = absurd (let z : _≡_ {A = ℕ} 0 1 = cc in omega arith)
 entryOf-same (suc x) zero e = absurd (let z : _≡_ {A = ℕ} 0 1 = cc in omega arith)
 entryOf-same (suc x) (suc y) e = cc
-
-elem-getD : (xs : List ℕ) (j : ℕ) → j < length xs → elem (getD xs j 0) xs ≡ true
-elem-getD [] j h = absurd (not-suc-le-zero h)
-elem-getD (x ∷ xs) zero h = elem-here x xs
-elem-getD (x ∷ xs) (suc j) h = or-right (eqb (getD xs j 0) x) (elem (getD xs j 0) xs) (elem-getD xs j (omega arith))
 
 pub of-entry : (l : Levels) (k x : ℕ) → Entry (rowsOf l) k (entryOf x) → elem x (numbers l k) ≡ true
 of-entry l k x (j, h, e) =

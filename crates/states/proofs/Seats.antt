@@ -12,7 +12,7 @@ use lib.ListN.{length, take, drop, getD, length-drop}
 use lib.Seq.{take-all, take-suc, take-take, getD-take, length-take-le}
 use native.Mathlib.Numerals.{add-one}
 use Rattle.semantics.specs.Models.{elem}
-use Rattle.semantics.proofs.Tools.{either, clash, or-false, seat, seat-ok}
+use Rattle.semantics.proofs.Tools.{either, or-false, or-right, elem-here, seat, seat-ok}
 
 -- a number that is not in the row has no place
 pub seat-absent : (x : ℕ) (xs : List ℕ) → elem x xs ≡ false → seat x xs ≡ length xs
@@ -56,3 +56,9 @@ seat-take x xs n i l h e q =
 -- the part of a row that begins at n
 pub rest-whole : (n : ℕ) (l : List ℕ) → take (length l - n) (drop n l) ≡ drop n l
 rest-whole n l = take-all (length l - n) (drop n l) (simp length-drop (omega arith))
+
+-- each place has an element of the row
+pub elem-getD : (xs : List ℕ) (j : ℕ) → j < length xs → elem (getD xs j 0) xs ≡ true
+elem-getD [] j h = absurd (not-suc-le-zero h)
+elem-getD (x ∷ xs) zero h = elem-here x xs
+elem-getD (x ∷ xs) (suc j) h = or-right (eqb (getD xs j 0) x) (elem (getD xs j 0) xs) (elem-getD xs j (omega arith))
