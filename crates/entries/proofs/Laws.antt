@@ -42,6 +42,15 @@ elem-held c (suc x ∷ xs) e =
     (λ q. or-right (eqb (suc c) (suc x)) (elem (suc c) xs) (elem-held c xs q))
     (or-true-cases (eqb c x) (elem c (held (map entryOf xs))) e)
 
+pub held-elem : (c : ℕ) (xs : List ℕ) → elem (suc c) xs ≡ true → elem c (held (map entryOf xs)) ≡ true
+held-elem c [] e = e
+held-elem c (zero ∷ xs) e = held-elem c xs (⊎-elim (λ q. absurd (let z = eqb-true (suc c) 0 q in omega arith)) (λ q. q) (or-true-cases (eqb (suc c) 0) (elem (suc c) xs) e))
+held-elem c (suc y ∷ xs) e =
+    ⊎-elim
+    (λ q. let z : c ≡ y = let r = eqb-true (suc c) (suc y) q in omega arith in rw z (elem-here y (held (map entryOf xs))))
+    (λ q. or-right (eqb c y) (elem c (held (map entryOf xs))) (held-elem c xs q))
+    (or-true-cases (eqb (suc c) (suc y)) (elem (suc c) xs) e)
+
 distinct-held : (xs : List ℕ) → Distinct xs → Distinct (held (map entryOf xs))
 distinct-held [] d = tt
 distinct-held (zero ∷ xs) d = distinct-held xs (d .1)
@@ -140,15 +149,6 @@ module _ (P : Program) (Q : Question) (v : ℕ) (S : Database) (l : Levels) (pro
       where
         own : (c : ℕ) → suc c ≡ x → Within S c
         own c e = subst (Listed S) (sym e) listed
-
-        held-elem : (c : ℕ) (xs : List ℕ) → elem (suc c) xs ≡ true → elem c (held (map entryOf xs)) ≡ true
-        held-elem c [] e = e
-        held-elem c (zero ∷ xs) e = held-elem c xs (⊎-elim (λ q. absurd (let z = eqb-true (suc c) 0 q in omega arith)) (λ q. q) (or-true-cases (eqb (suc c) 0) (elem (suc c) xs) e))
-        held-elem c (suc y ∷ xs) e =
-            ⊎-elim
-            (λ q. let z : c ≡ y = let r = eqb-true (suc c) (suc y) q in omega arith in rw z (elem-here y (held (map entryOf xs))))
-            (λ q. or-right (eqb c y) (elem c (held (map entryOf xs))) (held-elem c xs q))
-            (or-true-cases (eqb (suc c) (suc y)) (elem (suc c) xs) e)
 
   pub founded-added : FoundedRows P Q v S (rowsOf (added l k x ℓ p)) (cameOf (added l k x ℓ p))
   unfolding added
