@@ -1,0 +1,76 @@
+// The levels of a model: every clause and every stage is taken over the entries found so far until no entry is added.
+use carry::Carried;
+use entries::Levels;
+use model::Model;
+use states::States;
+ghost use mathlib.Core.Path.{_≡_};
+ghost use Prim.Native.Nat.{_≤_};
+ghost use lib.ListN.{take};
+ghost use Rattle.model.specs.WellFormed.{WellFormed};
+ghost use Rattle.entries.specs.Entries.{Proper};
+ghost use Rattle.shows.specs.Shows.{Own};
+ghost use Rattle.moves.specs.Moves.{Over};
+ghost use Rattle.reachable.specs.Reachable.{Reaches};
+ghost use Rattle.passes.specs.Passes.{TakesClauses, MeetsStages, Fills};
+
+// Takes every clause once.
+fn take_clauses(
+    work: &[u8],
+    slots: &[u8],
+    states: &[u32],
+    n: usize,
+    m: Model,
+    s: Carried,
+) -> Carried
+    requires { ⌜ WellFormed m × Over (now work) (now states) n × Own (now slots) × Proper (s .levels) ⌝ }
+    ensures { λ r. ⌜ TakesClauses m (now (work .entry)) (take n (now (states .entry))) s (m .clausecount) r ⌝ }
+{
+    let mut r = s;
+    let mut i: usize = 0;
+    while i < m.clausecount {
+        let c = m.clauses[i];
+        let more = moves::take(work, slots, states, n, &m.literals, c, m.stagecount, r);
+        r = more;
+        i += 1;
+    }
+    r
+}
+
+// Meets every stage once.
+fn meet_stages(work: &[u8], slots: &[u8], states: &[u32], n: usize, m: Model, s: Carried) -> Carried
+    requires { ⌜ WellFormed m × Over (now work) (now states) n × Own (now slots) × Proper (s .levels) ⌝ }
+    ensures { λ r. ⌜ MeetsStages m (now (work .entry)) (take n (now (states .entry))) s (m .stagecount) r ⌝ }
+{
+    let mut r = s;
+    let mut k: usize = 0;
+    while k < m.stagecount {
+        let stage = m.stages[k];
+        let more = meetings::meet(work, slots, states, n, &m.literals, stage, m.carried, k, r);
+        r = more;
+        k += 1;
+    }
+    r
+}
+
+// The entries of every level, over the reachable states and the facts derived over them.
+pub fn fill(work: &[u8], m: Model, found: States) -> Levels
+    requires { ⌜ WellFormed m × Reaches m (now work) found ⌝ }
+    ensures { λ r. ⌜ Fills m (now (work .entry)) found r ⌝ }
+{
+    let slots = shows::slots();
+    let n = found.count;
+    let mut levels = entries::start();
+    loop {
+        let begin = Carried {
+            levels,
+            added: false,
+        };
+        let moved = take_clauses(work, &slots, &found.states, n, m, begin);
+        let r = meet_stages(work, &slots, &found.states, n, m, moved);
+        let more = r.levels;
+        if !r.added {
+            return more;
+        }
+        levels = more;
+    }
+}
