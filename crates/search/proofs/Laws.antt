@@ -1,0 +1,104 @@
+-- What is found when no clause and no stage adds anything is all, and gives the verdict.
+use mathlib.Core.Path.{_≡_, refl, sym, ap, _∙_, subst}
+use mathlib.Core.Logic.{_⊎_, inl, inr, ⊎-elim, _↔_, _≢_}
+use mathlib.Core.Bool.{Bool, true, false}
+use mathlib.Core.List.{List, [], _∷_, map}
+use mathlib.Core.Option.{Option, none, some}
+use Prim.Native.Nat.{ℕ, suc, pred, _≤_, _<_}
+use native.Mathlib.Omega.{arith}
+use lib.Dec.{ltb}
+use lib.ListN.{length, getD}
+use Rattle.semantics.specs.Models.{elem, Body, vars, Line, rule, new, next, other, line}
+use Rattle.semantics.specs.Facts.{Database, state, In, Obeys, Derived}
+use Rattle.semantics.specs.Steps.{Reachable}
+use Rattle.semantics.specs.Questions.{Verdict}
+use Rattle.semantics.specs.Tables.{Shows, Rows, Entry, Steady, Passed, Saturated}
+use Rattle.semantics.proofs.Tools.{either}
+use Rattle.semantics.proofs.Bodies.{more-facts}
+use Rattle.semantics.proofs.Derived.{derived-obeys}
+use Rattle.semantics.proofs.Verdict as verdicts
+use Rattle.model.specs.declared.Model.{Model}
+use Rattle.model.specs.Records.{clauseLine, programOf, stageOf, questionOf, clauseAt, stageAt}
+use Rattle.model.specs.WellFormed.{WellFormed}
+use Rattle.model.proofs.Lines.{every-line}
+use Rattle.model.proofs.Accepted.{on-line, stages, stage-here}
+use Rattle.table.specs.Table.{tableOf}
+use Rattle.states.specs.declared.States.{States}
+use Rattle.states.specs.States.{row, by, from}
+use Rattle.reach.specs.Reach.{Lists}
+use Rattle.reachable.specs.Reachable.{Reaches}
+use Rattle.entries.specs.declared.Levels.{Levels}
+use Rattle.entries.specs.Entries.{entryOf, count, rowsOf, cameOf}
+use Rattle.entries.proofs.Blocks.{length-rows}
+use Rattle.entries.proofs.Laws.{entry-of, of-entry}
+use Rattle.carry.specs.declared.Carried.{Carried}
+use Rattle.moves.specs.Moves.{Keeps}
+use Rattle.passes.specs.Passes.{Onward, Fills}
+
+module _ (m : Model) (wf : WellFormed m) (w : List ℕ) (s : States) (l : Levels) (reaches : Reaches m w s) (fills : Fills m w s l) where
+  abbrev here : Carried
+  here = record { levels = l; added = false }
+
+  -- the facts of the work area are closed under the rules
+  obeyed : (L : Line) → Obeys (row s) (Derived (programOf m) (row s)) L → Obeys (row s) (In (tableOf w)) L
+  obeyed (rule r xs b) h = λ σ shown. reaches .exact .facts r (map σ xs) .1
+      (h σ (more-facts (row s) (In (tableOf w)) (Derived (programOf m) (row s)) (λ q os e. reaches .exact .facts q os .0 e) σ b shown))
+  obeyed (new t b) h = tt
+  obeyed (next x plus minus b) h = tt
+  obeyed other h = tt
+
+  -- a line that adds no fact, no state and no entry
+  steady : (L : Line) → Obeys (row s) (In (tableOf w)) L → Lists L (row s) w → Keeps w (row s) (m .stagecount) L here → Steady (programOf m) (questionOf m) (m .carried) (row s) (tableOf w) (rowsOf l) L
+  steady (rule r xs b) o a k = o
+  steady (new t b) o a k = a
+  steady (next x plus minus b) o a k = λ σ shown. (
+    a σ shown,
+    λ i h e. entry-of l i (suc _) (k σ shown i (rw (stages m wf) at h) (of-entry l i (suc _) e)),
+  )
+  steady other o a k = tt
+
+  lines : (ℓ : ℕ) → Steady (programOf m) (questionOf m) (m .carried) (row s) (tableOf w) (rowsOf l) (line (programOf m) ℓ)
+  lines = every-line m (Steady (programOf m) (questionOf m) (m .carried) (row s) (tableOf w) (rowsOf l)) tt
+      (λ i h. steady (clauseLine (m .literals) (clauseAt m i))
+      (obeyed (clauseLine (m .literals) (clauseAt m i)) (rw (on-line m wf i h) at (derived-obeys (programOf m) (row s) (clauseAt m i .line))))
+      (reaches .listed i h) (fills .keeps i h))
+
+  -- a stage that adds no entry
+  passed : (i : ℕ) → (b : Body) → b ≡ stageOf (m .literals) (stageAt m i) → Onward m w (row s) i here → (σ : ℕ → ℕ) → Shows (row s) (tableOf w) σ b
+      → Passed (programOf m) (questionOf m) (m .carried) (row s) (tableOf w) (rowsOf l) i b σ
+  passed i b q on σ shown =
+      record {
+        without = λ n e. entry-of l (suc i) 0 (on .leaves (rw q at n) σ (rw q at shown) 0 (of-entry l i 0 e));
+        takes = λ n e. entry-of l (suc i) (suc _) (on .takes (rw q at n) σ (rw q at shown) (inl (of-entry l i 0 e)));
+        keeps = λ c n e. ⊎-elim
+            (λ (p : elem (m .carried) (vars b) ≡ true).
+            let z = n p in
+            subst (λ (d : ℕ). Entry (rowsOf l) (suc i) (some d)) z
+            (entry-of l (suc i) (suc _) (on .takes (rw q at p) σ (rw q at shown) (inr (of-entry l i (suc _) (subst (λ (d : ℕ). Entry (rowsOf l) i (some d)) (sym z) e))))))
+            (λ (p : elem (m .carried) (vars b) ≡ false). entry-of l (suc i) (suc c) (on .leaves (rw q at p) σ (rw q at shown) (suc c) (of-entry l i (suc c) e)))
+            (either (elem (m .carried) (vars b)));
+      }
+
+  -- NOTHING IS MISSING
+  pub saturated : Saturated (programOf m) (questionOf m) (m .carried) (row s) (tableOf w) (rowsOf l)
+  saturated =
+      record {
+        lines = lines;
+        begins = fills .begins;
+        meetings = λ i h σ shown. let n : i < m .stagecount = rw (stages m wf) at h in
+            passed i (getD (questionOf m) i []) (stage-here m wf i n) (fills .onward i n) σ shown;
+      }
+
+  -- EXACTLY THE REACHABLE STATES, and the verdict; both speak of runs of every length
+  pub reachable : (t : ℕ) → Reachable (programOf m) t ↔ elem t (row s) ≡ true
+  reachable t =
+      let q = verdicts.states (programOf m) (wf .safe) (questionOf m) (wf .safely) (m .carried) (row s) (tableOf w) (rowsOf l) saturated (by s) (from s) (reaches .found) t in
+      ((λ r. q .0 r .1), λ e. q .1 ((λ z. let p = reaches .proper .atomic t e in omega arith), e))
+
+  pub verdict : (r : Bool) → r ≡ ltb 0 (count l (m .stagecount)) → Verdict (programOf m) (questionOf m) r
+  verdict r e =
+      let n = stages m wf in
+      let k : suc (pred (m .stagecount)) ≡ length (questionOf m) = (let o = wf .one in omega arith) in
+      let v = verdicts.verdict (programOf m) (wf .safe) (questionOf m) (wf .safely) (m .carried) (row s) (tableOf w) (rowsOf l) saturated (by s) (from s) (reaches .found)
+      (wf .carries) (cameOf l) (fills .rows) (pred (m .stagecount)) k in
+      subst (Verdict (programOf m) (questionOf m)) (sym (e ∙ ap (ltb 0) (sym (length-rows l (fills .proper) (m .stagecount)) ∙ ap (λ (i : ℕ). length (rowsOf l i)) (sym n)))) v

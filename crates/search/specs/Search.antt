@@ -1,0 +1,34 @@
+-- WHAT THE SEARCH FINDS of a model: exactly the reachable states, and the verdict, both about runs of every length; and what a run can be built from.
+use mathlib.Core.Path.{_≡_}
+use mathlib.Core.Logic.{_↔_}
+use mathlib.Core.Bool.{true}
+use mathlib.Core.List.{List}
+use Prim.Native.Nat.{ℕ}
+use lib.ListN.{take}
+use Rattle.semantics.specs.Models.{elem}
+use Rattle.semantics.specs.Facts.{Table}
+use Rattle.semantics.specs.Steps.{Reachable}
+use Rattle.semantics.specs.Questions.{Verdict}
+use Rattle.semantics.specs.Tables.{SoundFacts, Saturated, FoundedRows}
+use Rattle.model.specs.declared.Model.{Model}
+use Rattle.model.specs.Records.{programOf, questionOf}
+use Rattle.states.specs.States as states
+use Rattle.states.specs.States.{row, Discovered}
+use Rattle.states.specs.Rising.{Lists}
+use Rattle.entries.specs.Entries as entries
+use Rattle.entries.specs.Entries.{rowsOf, cameOf}
+use Rattle.search.specs.declared.Found.{Found}
+
+pub record Searched (m : Model) (r : Found) : Type 0 where
+  -- the states, in order of discovery, are exactly the reachable ones; and so are those by rising number
+  pub proper : states.Proper (r .states)
+  pub reachable : (t : ℕ) → Reachable (programOf m) t ↔ elem t (row (r .states)) ≡ true
+  pub listing : Lists (row (r .states)) (r .listing)
+  -- the verdict is right
+  pub verdict : Verdict (programOf m) (questionOf m) (r .reached)
+  -- each state and each entry came from those before it
+  pub found : Discovered (programOf m) (r .states)
+  pub levels : entries.Proper (r .levels)
+  pub rows : FoundedRows (programOf m) (questionOf m) (m .carried) (row (r .states)) (rowsOf (r .levels)) (cameOf (r .levels))
+  -- and nothing is missing, with the facts T that are derived over the states
+  pub complete : (T : Table) × SoundFacts (programOf m) (row (r .states)) T × Saturated (programOf m) (questionOf m) (m .carried) (row (r .states)) T (rowsOf (r .levels))
