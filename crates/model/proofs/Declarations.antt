@@ -16,7 +16,8 @@ use Rattle.semantics.proofs.Sets.{has-beyond}
 use Rattle.model.specs.declared.Model.{Model}
 use Rattle.model.specs.WellFormed.{classOf, indexOf, inClass, declaredIn, Declared, WellFormed}
 
-inClass-snoc : (k r : ℕ) (rs : List ℕ) → inClass k (rs ++ (r ∷ [])) ≡ inClass k rs + inClass k (r ∷ [])
+-- one code more
+pub inClass-snoc : (k r : ℕ) (rs : List ℕ) → inClass k (rs ++ (r ∷ [])) ≡ inClass k rs + inClass k (r ∷ [])
 inClass-snoc k r [] = omega arith
 inClass-snoc k r (s ∷ rs) =
     ⊎-elim

@@ -1,0 +1,70 @@
+use mathlib.Core.Path.{_≡_, subst}
+use mathlib.Core.Logic.{inl, inr, ⊎-elim}
+use mathlib.Core.Bool.{true}
+use Prim.Native.Nat.{ℕ, _<_}
+use native.Mathlib.Omega.{arith}
+use borrow.Author.Needs.{needs}
+use Rattle.semantics.specs.Labels.{has}
+use Rattle.model.specs.WellFormed.{declaredIn}
+use Rattle.session.specs.Sessions.{Says, stateIn}
+use Rattle.session.proofs.Fitting.{fits-says}
+use Rattle.session.proofs.fits.Statement.{statement}
+use Rattle.session.proofs.fits.Tie as tie
+use Rattle.session.proofs.fits.Reads as reads
+use Rattle.session.proofs.fits.Lts as lts
+use Rattle.session.proofs.declared_states.Reads as declared-states-reads
+use Rattle.session.proofs.relations_declared.Reads as relations-declared-reads
+
+-- src/lib.rt:103:9
+returns : tie.Need-returns
+returns c = search needs
+
+-- src/lib.rt:106:9
+returns-2 : tie.Need-returns-2
+returns-2 c = search needs
+
+-- src/lib.rt:109:9
+returns-3 : tie.Need-returns-3
+returns-3 c = search needs
+
+-- src/lib.rt:112:12
+cast-if5 : tie.Need-cast-if5
+cast-if5 c = search needs
+
+-- src/lib.rt:113:13
+returns-4 : tie.Need-returns-4
+returns-4 c = λ f. ⊎-elim (λ e. c .before .before .before .if4 .taken e) (λ l. let g = c .if5 .taken in omega arith) (f .carried)
+
+-- src/lib.rt:117:27
+declared-states-requires : tie.Need-declared-states-requires
+declared-states-requires c κs = search needs
+
+-- src/lib.rt:117:5
+relations-declared-requires : tie.Need-relations-declared-requires
+unfolding declaredIn
+relations-declared-requires c κs =
+    let w = c .before .before .before .before .before .before .before .before .before .before .before .pre in
+    (search needs, omega (arith, c .declared-states .ensures, w .relations .states))
+
+-- src/lib.rt:98:1
+returns-5 : tie.Need-returns-5
+unfolding declaredIn
+returns-5 c =
+    let s = c .before .before .before .before .before .before .before .before .before .before .before .before in
+    let k = c .before .before .before .before .before in
+    fits-says (s .args .m) (s .args .s) (c .relations-declared .result) (k .before .before .before .before .before .if1 .left) (k .before .before .if2 .left) (k .if3 .left)
+    (⊎-elim (λ w. inr (w .3 .left)) (λ w. inl (w .left)) (c .before .before .before .if4 .came))
+    (subst (λ (n : ℕ). Says ((o a : ℕ) → o < s .args .s .objects → has (stateIn (s .args .s) o) a ≡ true → a < n) (c .relations-declared .result)) (c .before .declared-states .ensures) (c .relations-declared .ensures))
+
+pub fits-spec : {M : Type 1} → statement M
+fits-spec =
+    tie.close
+    (tie.spec
+    returns
+    returns-2
+    returns-3
+    cast-if5
+    returns-4
+    declared-states-requires
+    relations-declared-requires
+    returns-5)
