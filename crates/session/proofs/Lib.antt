@@ -1,3 +1,4 @@
 pub mod Relations
 pub mod Fitting
+pub mod Effects
 pub mod Answers

@@ -8,8 +8,6 @@ use Rattle.model.specs.WellFormed.{inClass}
 use Rattle.session.proofs.Relations.{state-more, other-more}
 use Rattle.session.proofs.declared_states.Statement.{statement}
 use Rattle.session.proofs.declared_states.Tie as tie
-use Rattle.session.proofs.declared_states.Reads as reads
-use Rattle.session.proofs.declared_states.Lts as lts
 
 abbrev Inv-loop : tie.InvT-loop
 Inv-loop relations n found₀ i₀ found i = (i ≤ n) × (n ≤ 23) × (length (relations .codes) ≡ 23) × (found ≤ i) × (found ≡ inClass 0 (take i (relations .codes)))
@@ -17,31 +15,24 @@ Inv-loop relations n found₀ i₀ found i = (i ≤ n) × (n ≤ 23) × (length 
 abbrev μ-loop : tie.MeasureT-loop
 μ-loop relations n found₀ i₀ found i = n - i
 
--- src/lib.rt:72:5
 loop-holds : tie.Need-loop-holds Inv-loop μ-loop
 loop-holds c = search needs
 
--- src/lib.rt:73:12
 mul-if1 : tie.Need-mul-if1 Inv-loop μ-loop
 mul-if1 c = search needs
 
--- src/lib.rt:73:12
 element-copy-out-if1 : tie.Need-element-copy-out-if1 Inv-loop μ-loop
 element-copy-out-if1 c = search needs
 
--- src/lib.rt:74:13
 add-found : tie.Need-add-found Inv-loop μ-loop
 add-found c = search needs
 
--- src/lib.rt:76:9
 add-i : tie.Need-add-i Inv-loop μ-loop
 add-i c = search needs
 
--- src/lib.rt:72:5
 loop-less : tie.Need-loop-less Inv-loop μ-loop
 loop-less c = search needs
 
--- src/lib.rt:72:5
 loop-again : tie.Need-loop-again Inv-loop μ-loop
 loop-again c =
     let l = c .before .before .before .loop in
@@ -53,7 +44,6 @@ loop-again c =
     (λ w. let e = other-more (a .t1 .codes) (l .i) (omega arith) (w .0 .left) in (omega arith, omega arith, n, omega arith, omega arith))
     (c .if1 .came)
 
--- src/lib.rt:65:1
 returns : tie.Need-returns Inv-loop μ-loop
 returns c = let l = c .before .loop in let e : l .i ≡ c .before .before .args .t1 .count = omega arith in
     rw (← e) (l .inv .4)

@@ -10,43 +10,31 @@ use Rattle.session.specs.Sessions.{Says, stateIn}
 use Rattle.session.proofs.Fitting.{fits-says}
 use Rattle.session.proofs.fits.Statement.{statement}
 use Rattle.session.proofs.fits.Tie as tie
-use Rattle.session.proofs.fits.Reads as reads
-use Rattle.session.proofs.fits.Lts as lts
-use Rattle.session.proofs.declared_states.Reads as declared-states-reads
-use Rattle.session.proofs.relations_declared.Reads as relations-declared-reads
 
--- src/lib.rt:103:9
 returns : tie.Need-returns
 returns c = search needs
 
--- src/lib.rt:106:9
 returns-2 : tie.Need-returns-2
 returns-2 c = search needs
 
--- src/lib.rt:109:9
 returns-3 : tie.Need-returns-3
 returns-3 c = search needs
 
--- src/lib.rt:112:12
 cast-if5 : tie.Need-cast-if5
 cast-if5 c = search needs
 
--- src/lib.rt:113:13
 returns-4 : tie.Need-returns-4
 returns-4 c = λ f. ⊎-elim (λ e. c .before .before .before .if4 .taken e) (λ l. let g = c .if5 .taken in omega arith) (f .carried)
 
--- src/lib.rt:117:27
 declared-states-requires : tie.Need-declared-states-requires
 declared-states-requires c κs = search needs
 
--- src/lib.rt:117:5
 relations-declared-requires : tie.Need-relations-declared-requires
 unfolding declaredIn
 relations-declared-requires c κs =
     let w = c .before .before .before .before .before .before .before .before .before .before .before .pre in
     (search needs, omega (arith, c .declared-states .ensures, w .relations .states))
 
--- src/lib.rt:98:1
 returns-5 : tie.Need-returns-5
 unfolding declaredIn
 returns-5 c =

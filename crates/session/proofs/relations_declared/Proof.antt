@@ -11,8 +11,6 @@ use Rattle.session.specs.Sessions.{stateIn}
 use Rattle.session.proofs.Relations.{among-below, shifted-below, among-shifted}
 use Rattle.session.proofs.relations_declared.Statement.{statement}
 use Rattle.session.proofs.relations_declared.Tie as tie
-use Rattle.session.proofs.relations_declared.Reads as reads
-use Rattle.session.proofs.relations_declared.Lts as lts
 
 abbrev Inv-loop : tie.InvT-loop
 Inv-loop n s count i₀ i = (i ≤ count) × (count ≤ 255) × (length (s .states) ≡ 255) × ((o a : ℕ) → o < i → has (stateIn s o) a ≡ true → a < n)
@@ -20,35 +18,27 @@ Inv-loop n s count i₀ i = (i ≤ count) × (count ≤ 255) × (length (s .stat
 abbrev μ-loop : tie.MeasureT-loop
 μ-loop n s count i₀ i = count - i
 
--- src/lib.rt:88:5
 loop-holds : tie.Need-loop-holds Inv-loop μ-loop
 loop-holds c = search needs
 
--- src/lib.rt:89:12
 mul-if1 : tie.Need-mul-if1 Inv-loop μ-loop
 mul-if1 c = search needs
 
--- src/lib.rt:89:12
 element-copy-out-if1 : tie.Need-element-copy-out-if1 Inv-loop μ-loop
 element-copy-out-if1 c = search needs
 
--- src/lib.rt:89:12
 shr-if1 : tie.Need-shr-if1 Inv-loop μ-loop
 shr-if1 c = search needs
 
--- src/lib.rt:90:13
 returns : tie.Need-returns Inv-loop μ-loop
 returns c = λ all. c .if1 .taken (among-shifted _ _ (λ a e. all (c .before .before .before .loop .i) a (c .before .before .loop-test .taken) e))
 
--- src/lib.rt:92:9
 add-i : tie.Need-add-i Inv-loop μ-loop
 add-i c = search needs
 
--- src/lib.rt:88:5
 loop-less : tie.Need-loop-less Inv-loop μ-loop
 loop-less c = search needs
 
--- src/lib.rt:88:5
 loop-again : tie.Need-loop-again Inv-loop μ-loop
 loop-again c =
     let l = c .before .before .before .loop in
@@ -58,7 +48,6 @@ loop-again c =
     let here = among-below n (stateIn t (l .i)) (shifted-below n (stateIn t (l .i)) (c .if1 .left)) in
     (omega arith, omega arith, l .inv .2, λ o a k. ⊎-elim (λ (e : o ≡ l .i). rw e (here a)) (λ (e : o ≢ l .i). l .inv .3 o a (omega arith)) (same? o (l .i)))
 
--- src/lib.rt:82:1
 returns-2 : tie.Need-returns-2 Inv-loop μ-loop
 returns-2 c = λ o a l. c .before .loop .inv .3 o a (omega arith)
 
