@@ -29,7 +29,7 @@ pub struct Outcome {
 const FREE: usize = 255;
 
 // The place is not allowed, and the state is left.
-fn disallow(s: Session) -> Outcome
+pub fn disallow(s: Session) -> Outcome
     ensures { λ r. ⌜ (r .allowed ≡ false) × (r .session ≡ s) ⌝ }
 {
     Outcome {
@@ -56,7 +56,7 @@ fn clause_on(m: Model, line: u32) -> usize
 }
 
 // Whether a body holds in the database for a choice that has the fixed objects.
-fn holds(
+pub fn holds(
     m: Model,
     s: Session,
     v: View,
@@ -149,7 +149,7 @@ fn change(
 }
 
 // A step of a line and an object.
-fn step_place(m: Model, s: Session, v: View, work: &[u8], line: u32, object: u32) -> Outcome
+pub fn step_place(m: Model, s: Session, v: View, work: &[u8], line: u32, object: u32) -> Outcome
     requires { ⌜ Ready m s v (now work) × (s .met < m .stagecount) × (object < 255) ⌝ }
     ensures { λ r. ⌜ Tried m s (step line object) (r .allowed) (r .session) ⌝ }
 {
