@@ -64,7 +64,7 @@ fn play_run(m: Model, run: &[u32], work: &mut [u8]) -> Answer
         }
         let t = outcome.session;
         s = t;
-        v = place::look(m, s, work);
+        v = place::follow(m, s, v, work);
         i += 1;
     }
     if s.met == m.stagecount {
