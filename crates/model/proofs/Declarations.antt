@@ -62,7 +62,7 @@ module _ (rs : List ℕ) (c : ℕ) (whole : c ≤ length rs)
           (n, omega arith, omega arith)
       go (no g) (inr e) f = absurd (let m = rw e at (more k n l) in omega arith)
 
-set-below : (s a k : ℕ) → s < 2 ^ k → has s a ≡ true → a < k
+pub set-below : (s a k : ℕ) → s < 2 ^ k → has s a ≡ true → a < k
 set-below s a k h e = go (decLe (suc a) k)
   where
     go : Dec (a < k) → a < k
