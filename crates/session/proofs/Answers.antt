@@ -8,7 +8,7 @@ use native.Mathlib.Omega.{arith}
 use lib.ListN.{length, take, drop}
 use Rattle.semantics.specs.Models.{Program, Question}
 use Rattle.semantics.specs.Runs as runs
-use Rattle.semantics.specs.Runs.{Session, Allowed, after, Plays}
+use Rattle.semantics.specs.Runs.{Session, start, Allowed, after, Plays}
 use Rattle.semantics.proofs.Leads.{Leads}
 use Rattle.model.specs.Places.{placeOf}
 use Rattle.session.specs.declared.Answer.{Answer}
@@ -80,3 +80,7 @@ module _ (P : Program) (Q : Question) where
 
   pub broken : (s : Session) (ns : List ℕ) (i k : ℕ) → Replays P Q s ns i (Broken (i + k)) ↔ Breaks s ns k
   broken s ns i k = ((λ h. let r = broken-breaks s ns i (i + k) h in subst (Breaks s ns) (omega (arith, r .1)) (r .2)), breaks-broken s ns i (i + k) k refl)
+
+  -- THE WHOLE RUN, from the empty database: kept exactly if its numbers are those of a kept run
+  pub kept-run : (ns : List ℕ) → Replays P Q (start []) ns 0 Kept ↔ ((ps : List runs.Place) × Decodes ns ps × runs.Kept P Q ps)
+  kept-run ns = kept (start []) ns 0
