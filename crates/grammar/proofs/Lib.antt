@@ -1,0 +1,3 @@
+pub mod Tests
+pub mod Printing
+pub mod Examples

@@ -1,0 +1,7 @@
+pub mod Bytes
+pub mod Forms
+pub mod Shapes
+pub mod Declarations
+pub mod Rows
+pub mod Models
+pub mod Texts
