@@ -1,4 +1,5 @@
 pub mod Tests
 pub mod Reading
+pub mod Lower
 pub mod Printing
 pub mod Examples
