@@ -1,5 +1,6 @@
 pub mod Tests
 pub mod Reading
+pub mod Words
 pub mod Lower
 pub mod Printing
 pub mod Examples

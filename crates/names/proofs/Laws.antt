@@ -8,8 +8,8 @@ use Prim.Native.Nat.{ℕ, zero, suc, _+_, _-_, _/_, _≤_, _<_}
 use native.Mathlib.Numerals.{add-one}
 use native.Mathlib.Omega.{arith}
 use lib.Dec.{eqb}
-use lib.ListN.{length, take, drop, getD, set, length-set, length-append}
-use lib.Seq.{slice, getD-set-same, getD-set-other, take-take}
+use lib.ListN.{length, take, drop, getD, set, length-set, length-append, List·getD-append}
+use lib.Seq.{slice, getD-at, getD-set-same, getD-set-other, take-take}
 use borrow.Author.Tests.{eqb-true, eqb-false, eq-eqb, ne-eqb}
 use Rattle.grammar.specs.Bytes.{Word, same}
 use Rattle.grammar.specs.Declarations as grammar
@@ -28,6 +28,13 @@ listOf-same (suc n) f g h = rw (listOf-same n f g (λ i l. h i (omega arith)), h
 pub length-listOf : {A : Type 0} (n : ℕ) (f : ℕ → A) → length (listOf n f) ≡ n
 length-listOf zero f = refl
 length-listOf (suc n) f = length-append (listOf n f) (f n ∷ []) ∙ rw (length-listOf n f, add-one)
+
+pub getD-listOf : {A : Type 0} (n : ℕ) (f : ℕ → A) (j : ℕ) (d : A) → j < n → getD (listOf n f) j d ≡ f j
+getD-listOf zero f j d h = absurd (omega arith)
+getD-listOf (suc n) f j d h = ⊎-elim
+    (λ (q : eqb j n ≡ true). rw (eqb-true j n q) (getD-at (listOf n f) (f n) [] d n (length-listOf n f)))
+    (λ (q : eqb j n ≡ false). let k : j < n = (let z = eqb-false j n q in omega arith) in
+    List·getD-append (listOf n f) (f n ∷ []) d j (omega (arith, length-listOf n f)) ∙ getD-listOf n f j d k) (either (eqb j n))
 
 -- LOOKING UP
 module _ (w : Word) where
