@@ -1,6 +1,7 @@
 pub mod Tests
 pub mod Reading
 pub mod Words
+pub mod Bodies
 pub mod Lower
 pub mod Printing
 pub mod Examples

@@ -4,7 +4,7 @@ use mathlib.Core.Logic.{⊎-elim}
 use mathlib.Core.Bool.{Bool, true, false, cond, _&&_, _||_, or-assoc, or-false, and-assoc, and-true}
 use mathlib.Core.List.{List, [], _∷_, _++_, map, append-assoc, append-nil}
 use Prim.Native.Nat.{ℕ, suc, _+_, _≤_, _<_}
-use native.Mathlib.Nat.{zero-add, suc-add}
+use native.Mathlib.Nat.{zero-add, add-zero, suc-add}
 use native.Mathlib.Omega.{arith}
 use lib.Dec.{eqb}
 use lib.ListN.{length, set, length-append}
@@ -180,3 +180,17 @@ allMarked (m ∷ ms) = m && allMarked ms
 pub marks-all : (S vs : List Word) → allMarked (marks S vs) ≡ among S vs
 marks-all S [] = refl
 marks-all S (v ∷ vs) = rw (marks-all S vs)
+
+pub place-le : (x : Word) (a : List Word) → place a x ≤ length a
+place-le x a = ⊎-elim (λ (q : member x a ≡ true). let h = place-below x a q in omega arith) (λ (q : member x a ≡ false). let h = place-none x a q in omega arith) (either (member x a))
+
+pub place-full : (x : Word) (a : List Word) → length a ≤ place a x → member x a ≡ false
+place-full x a h = ⊎-elim (λ (q : member x a ≡ true). absurd (let k = place-below x a q in omega arith)) (λ q. q) (either (member x a))
+
+pub place-own : (x : Word) (vs : List Word) → place (extend vs (x ∷ [])) x ≡ place vs x
+unfolding extend place
+place-own x vs = ⊎-elim (λ (q : member x vs ≡ true). rw q)
+    (λ (q : member x vs ≡ false). rw q (place-miss x vs (x ∷ []) q ∙ rw (same-refl x, add-zero) (sym (place-none x vs q)))) (either (member x vs))
+
+pub extend-own : (x : Word) (vs : List Word) → member x (extend vs (x ∷ [])) ≡ true
+extend-own x vs = extend-new x vs (x ∷ []) (rw (same-refl x))
