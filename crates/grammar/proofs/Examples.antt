@@ -49,6 +49,9 @@ examples =
     ("(state A)\n(ask ((A x)))", 2, 2) ∷
     ("(state abcdefghijklmnop)\n(ask ((abcdefghijklmnop x)))\n", 0, 0) ∷
     ("(state abcdefghijklmnopq)\n", 3, 1) ∷
+    ("(state A)\n(rel R 1)\n(rule (R x) (R x x) (Z x))\n", 6, 3) ∷
+    ("(state A)\n(new () (not (A x)))\n", 9, 2) ∷
+    ("(rel W 2)\n(new () (W x y) (W z u))\n", 9, 2) ∷
     []
 
 pub table : right examples ≡ true

@@ -5,3 +5,4 @@ pub mod Bodies
 pub mod Lower
 pub mod Printing
 pub mod Examples
+pub mod Safety
