@@ -1,0 +1,1 @@
+// What acceptance of a text guarantees, in specs/, and its proof, in proofs/. There is no code.
