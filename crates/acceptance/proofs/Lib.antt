@@ -1,3 +1,6 @@
 pub mod Shapes
 pub mod Words
 pub mod Declarations
+pub mod Bodies
+pub mod Scopes
+pub mod Clauses
