@@ -4,3 +4,4 @@ pub mod Declarations
 pub mod Bodies
 pub mod Scopes
 pub mod Clauses
+pub mod Questions
