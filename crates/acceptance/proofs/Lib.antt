@@ -5,3 +5,4 @@ pub mod Bodies
 pub mod Scopes
 pub mod Clauses
 pub mod Questions
+pub mod Acceptance
