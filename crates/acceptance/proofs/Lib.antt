@@ -6,3 +6,4 @@ pub mod Scopes
 pub mod Clauses
 pub mod Questions
 pub mod Acceptance
+pub mod WellFormed
