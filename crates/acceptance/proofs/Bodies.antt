@@ -27,7 +27,7 @@ use Rattle.acceptance.specs.Sound.{Each, GoodDeclarations, DeclaredRelat
 use Rattle.acceptance.proofs.Declarations.{row-none, found-state, found-derived}
 
 -- A NAME without fault is found, and is of the kind that is wanted there
-abbrev Found : Option ℕ → (ℕ → Type 0) → Type 0
+abbrev pub Found : Option ℕ → (ℕ → Type 0) → Type 0
 Found o R = (c : ℕ) × (o ≡ some c) × R c
 
 pub right : (n : ℕ) (b : Bool) → 0 < n → row n (not b) ≡ 0 → b ≡ true
@@ -51,11 +51,11 @@ head-right (some c) n e = ⊎-elim
       ),
     )) (either (isState c))
 
-plain-right : (o : Option ℕ) (n : ℕ) → plainFault o n ≡ 0 → Found o (λ c. n ≡ arityOf c)
+pub plain-right : (o : Option ℕ) (n : ℕ) → plainFault o n ≡ 0 → Found o (λ c. n ≡ arityOf c)
 plain-right none n e = absurd (omega arith)
 plain-right (some c) n e = (c, refl, eqb-true n (arityOf c) (right 7 (eqb n (arityOf c)) (omega arith) e))
 
-negated-right : (o : Option ℕ) (n : ℕ) → negatedFault o n ≡ 0 → Found o (λ c. (isState c ≡ true) × (n ≡ arityOf c))
+pub negated-right : (o : Option ℕ) (n : ℕ) → negatedFault o n ≡ 0 → Found o (λ c. (isState c ≡ true) × (n ≡ arityOf c))
 negated-right none n e = absurd (omega arith)
 negated-right (some c) n e = ⊎-elim
     (λ (q : eqb n (arityOf c) ≡ true). (c, refl, (right 8 (isState c) (omega arith) (rw q at e), eqb-true n (arityOf c) q)))
@@ -83,46 +83,49 @@ module _ (D : Declared) (good : GoodDeclarations D) where
       go : (c : ℕ) → lookup w D ≡ some c → isState c ≡ false → n ≡ arityOf c → DeclaredRelation D (codeOf D w) n
       go c f q a = rw (a, f) (found-derived D good w c f q)
 
-  -- A LITERAL
-  module _ (vs : List Word) where
-    abbrev Right : Literal → meaning.Literal → Type 0
-    Right l m = GoodLiteral D m × (meaning.variables m ≡ map (place vs) (variablesOf l)) × (meaning.supports m ≡ map (place vs) (supportsOf l))
+-- A LITERAL with the numbers that vs gives to its variables
+module _ (D : Declared) (vs : List Word) where
+  abbrev Right : Literal → meaning.Literal → Type 0
+  Right l m =
+      (GoodDeclarations D → GoodLiteral D m)
+      × (meaning.variables m ≡ map (place vs) (variablesOf l))
+      × (meaning.supports m ≡ map (place vs) (supportsOf l))
 
-    good-literal : (l : Literal) → literalFault D l ≡ 0 → Right l (literalOf D vs l)
-    good-literal (plain a) e =
-        let f = plain-right (lookup (a .name) D) (length (a .variables)) e in
-        let n = map (place vs) (a .variables) in
-        let len = length-map (a .variables) (place vs) in
-        rw (f .1) (⊎-elim
-        (λ (q : isState (f .0) ≡ true).
-        let one : length n ≡ 1 = len ∙ f .2 ∙ rw q in
-        rw q (found-state D good (a .name) (f .0) (f .1) q, single n one, single n one))
-        (λ (q : isState (f .0) ≡ false). rw q (subst (DeclaredRelation D (f .0)) (sym (len ∙ f .2)) (found-derived D good (a .name) (f .0) (f .1) q), refl, refl))
-        (either (isState (f .0))))
-    good-literal (negated a) e =
-        let f = negated-right (lookup (a .name) D) (length (a .variables)) e in
-        let n = map (place vs) (a .variables) in
-        let one : length n ≡ 1 = length-map (a .variables) (place vs) ∙ f .2 .1 ∙ rw (f .2 .0) in
-        rw (f .1) (found-state D good (a .name) (f .0) (f .1) (f .2 .0), single n one, refl)
+  literal-right : (l : Literal) → literalFault D l ≡ 0 → Right l (literalOf D vs l)
+  literal-right (plain a) e =
+      let f = plain-right (lookup (a .name) D) (length (a .variables)) e in
+      let n = map (place vs) (a .variables) in
+      let len = length-map (a .variables) (place vs) in
+      rw (f .1) (⊎-elim
+      (λ (q : isState (f .0) ≡ true).
+      let one : length n ≡ 1 = len ∙ f .2 ∙ rw q in
+      rw q ((λ good. found-state D good (a .name) (f .0) (f .1) q), single n one, single n one))
+      (λ (q : isState (f .0) ≡ false). rw q ((λ good. subst (DeclaredRelation D (f .0)) (sym (len ∙ f .2)) (found-derived D good (a .name) (f .0) (f .1) q)), refl, refl))
+      (either (isState (f .0))))
+  literal-right (negated a) e =
+      let f = negated-right (lookup (a .name) D) (length (a .variables)) e in
+      let n = map (place vs) (a .variables) in
+      let one : length n ≡ 1 = length-map (a .variables) (place vs) ∙ f .2 .1 ∙ rw (f .2 .0) in
+      rw (f .1) ((λ good. found-state D good (a .name) (f .0) (f .1) (f .2 .0)), single n one, refl)
 
-    -- A BODY
-    pub good-literals : (b : List Literal) → bodyFault D b ≡ 0 → Each (GoodLiteral D) (bodyOf D vs b)
-    unfolding bodyFault
-    good-literals [] e = tt
-    good-literals (l ∷ b) e =
-        let f = lower-none (literalFault D l) (bodyFault D b) e in
-        (good-literal l (f .0) .0, good-literals b (f .1))
+  -- A BODY
+  pub good-literals : GoodDeclarations D → (b : List Literal) → bodyFault D b ≡ 0 → Each (GoodLiteral D) (bodyOf D vs b)
+  unfolding bodyFault
+  good-literals good [] e = tt
+  good-literals good (l ∷ b) e =
+      let f = lower-none (literalFault D l) (bodyFault D b) e in
+      (literal-right l (f .0) .0 good, good-literals good b (f .1))
 
-    pub vars-body : (b : List Literal) → bodyFault D b ≡ 0 → vars (bodyOf D vs b) ≡ map (place vs) (words.variables b)
-    unfolding bodyFault words.variables
-    vars-body [] e = refl
-    vars-body (l ∷ b) e =
-        let f = lower-none (literalFault D l) (bodyFault D b) e in
-        rw (good-literal l (f .0) .1, vars-body b (f .1), map-append (place vs) (variablesOf l) (words.variables b))
+  pub vars-body : (b : List Literal) → bodyFault D b ≡ 0 → vars (bodyOf D vs b) ≡ map (place vs) (words.variables b)
+  unfolding bodyFault words.variables
+  vars-body [] e = refl
+  vars-body (l ∷ b) e =
+      let f = lower-none (literalFault D l) (bodyFault D b) e in
+      rw (literal-right l (f .0) .1, vars-body b (f .1), map-append (place vs) (variablesOf l) (words.variables b))
 
-    pub supported-body : (b : List Literal) → bodyFault D b ≡ 0 → meaning.supported (bodyOf D vs b) ≡ map (place vs) (words.supports b)
-    unfolding bodyFault words.supports
-    supported-body [] e = refl
-    supported-body (l ∷ b) e =
-        let f = lower-none (literalFault D l) (bodyFault D b) e in
-        rw (good-literal l (f .0) .2, supported-body b (f .1), map-append (place vs) (supportsOf l) (words.supports b))
+  pub supported-body : (b : List Literal) → bodyFault D b ≡ 0 → meaning.supported (bodyOf D vs b) ≡ map (place vs) (words.supports b)
+  unfolding bodyFault words.supports
+  supported-body [] e = refl
+  supported-body (l ∷ b) e =
+      let f = lower-none (literalFault D l) (bodyFault D b) e in
+      rw (literal-right l (f .0) .2, supported-body b (f .1), map-append (place vs) (supportsOf l) (words.supports b))

@@ -31,7 +31,7 @@ module _ (D : Declared) (good : GoodDeclarations D) where
   pub good-body : (vs : List Word) (b : List Literal) → properBody b ≡ true → bodyFault D b ≡ 0 → GoodBody D (bodyOf D vs b)
   good-body vs b p e = record {
     short = rw (length-map b _) (leb-true (length b) 8 (and-right (all properLiteral b) (leb (length b) 8) p));
-    literals = good-literals D good vs b e;
+    literals = good-literals D vs good b e;
   }
 
   -- the lines that the forms say
@@ -62,8 +62,8 @@ module _ (D : Declared) (good : GoodDeclarations D) where
             last = omega arith;
             head = rw len (good-head D good (h .name) (length hs) (f6 .0), up);
             body = good-body vs b p (f8 .0);
-            variables = numbered D good hs b (f8 .0) (f9 .1);
-            safe = (subst Distinct (sym up) (upFrom-distinct 0 (length hs)), safe-head D good hs b (f8 .0) (f9 .1) vs, safe-body D good hs b (f8 .0) (f9 .1) vs);
+            variables = numbered D hs b (f8 .0) (f9 .1);
+            safe = (subst Distinct (sym up) (upFrom-distinct 0 (length hs)), safe-head D hs b (f8 .0) (f9 .1) vs, safe-body D hs b (f8 .0) (f9 .1) vs);
           },
         )
 
@@ -80,8 +80,8 @@ module _ (D : Declared) (good : GoodDeclarations D) where
             last = omega arith;
             head = list-set D good l (f6 .0);
             body = good-body vs b p (f8 .0);
-            variables = numbered D good [] b (f8 .0) (f8 .1);
-            safe = safe-body D good [] b (f8 .0) (f8 .1) vs;
+            variables = numbered D [] b (f8 .0) (f8 .1);
+            safe = safe-body D [] b (f8 .0) (f8 .1) vs;
           },
         )
 
@@ -99,7 +99,7 @@ module _ (D : Declared) (good : GoodDeclarations D) where
             last = omega arith;
             head = (first-place x (variables b), list-set D good l (f6 .0), list-set D good m (f7 .0));
             body = good-body vs b p (f8 .0);
-            variables = numbered D good (x ∷ []) b (f8 .0) (f8 .1);
-            safe = (safe-head D good (x ∷ []) b (f8 .0) (f8 .1) vs (place vs x) (elem-here (place vs x) []), safe-body D good (x ∷ []) b (f8 .0) (f8 .1) vs);
+            variables = numbered D (x ∷ []) b (f8 .0) (f8 .1);
+            safe = (safe-head D (x ∷ []) b (f8 .0) (f8 .1) vs (place vs x) (elem-here (place vs x) []), safe-body D (x ∷ []) b (f8 .0) (f8 .1) vs);
           },
         )

@@ -7,3 +7,5 @@ pub mod Clauses
 pub mod Questions
 pub mod Acceptance
 pub mod WellFormed
+pub mod Stages
+pub mod Records

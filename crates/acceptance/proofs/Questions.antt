@@ -25,15 +25,18 @@ use Rattle.acceptance.specs.Sound.{Each, GoodDeclarations, GoodStage, Go
 use Rattle.acceptance.proofs.Words.{member-here, news, extend-news, news-both, place-injective}
 use Rattle.acceptance.proofs.Declarations.{row-none}
 use Rattle.acceptance.proofs.Bodies.{vars-body}
-use Rattle.acceptance.proofs.Scopes.{elem-mapped, in-order, at-most-three, safe-body, few-numbers}
+use Rattle.acceptance.proofs.Scopes.{elem-mapped, few-in-order, at-most-three, safe-body, few-numbers}
 use Rattle.acceptance.proofs.Clauses.{good-body}
 
 -- numbers are equal where the words are
 module _ (vs : List Word) where
-  abbrev Within : List Word → Type 0
+  abbrev pub Within : List Word → Type 0
   Within ws = (w : Word) → member w ws ≡ true → member w vs ≡ true
 
-  number-same : (w v : Word) → member w vs ≡ true → member v vs ≡ true → eqb (place vs w) (place vs v) ≡ same w v
+  pub within-rest : (w : Word) (ws : List Word) → Within (w ∷ ws) → Within ws
+  within-rest w ws k u e = k u (or-right (same u w) (member u ws) e)
+
+  pub number-same : (w v : Word) → member w vs ≡ true → member v vs ≡ true → eqb (place vs w) (place vs v) ≡ same w v
   number-same w v h k = ⊎-elim
       (λ (q : same w v ≡ true). rw q (eq-eqb (place vs w) (place vs v) (ap (place vs) (same-eq w v q))))
       (λ (q : same w v ≡ false). rw q (ne-eqb (place vs w) (place vs v) (λ z. clash (subst (λ (u : Word). same w u ≡ true) (place-injective vs w v h k z) (same-refl w)) q)))
@@ -41,7 +44,7 @@ module _ (vs : List Word) where
 
   number-member : (w : Word) (ws : List Word) → member w vs ≡ true → Within ws → elem (place vs w) (map (place vs) ws) ≡ member w ws
   number-member w [] h k = refl
-  number-member w (v ∷ ws) h k = rw (number-same w v h (k v (member-here v ws)), number-member w ws h (λ u e. k u (or-right (same u v) (member u ws) e)))
+  number-member w (v ∷ ws) h k = rw (number-same w v h (k v (member-here v ws)), number-member w ws h (within-rest v ws k))
 
 -- AT MOST ONE
 same-one : (xs : List Word) (v w : Word) → length xs < 2 → member v xs ≡ true → member w xs ≡ true → v ≡ w
@@ -95,14 +98,14 @@ small-at D (q ∷ Q) h zero x e = h .0 .small x e
 small-at D (q ∷ Q) h (suc i) x e = small-at D Q (h .1) i x e
 
 -- THE STAGES, their variables numbered by vs
-module _ (D : Declared) (good : GoodDeclarations D) where
+module _ (D : Declared) where
   -- different variables of all stages
   few-all : (qs : List (List Literal)) → stagesFault D qs ≡ 0 → length (news [] (allVariables qs)) ≤ 3 * length qs
   unfolding stagesFault allVariables
   few-all [] e = omega arith
   few-all (q ∷ qs) e =
       let f = stage-right D q qs e in
-      let a = at-most-three D good [] q (f .0) (f .1) in
+      let a = at-most-three D [] q (f .0) (f .1) in
       let b = few-all qs (f .2) in
       let c = news-both (variables q) (allVariables qs) in
       omega arith
@@ -113,56 +116,56 @@ module _ (D : Declared) (good : GoodDeclarations D) where
     vars-all [] e = refl
     vars-all (q ∷ qs) e =
         let f = stage-right D q qs e in
-        rw (vars-body D good vs q (f .0), vars-all qs (f .2), map-append (place vs) (variables q) (allVariables qs))
+        rw (vars-body D vs q (f .0), vars-all qs (f .2), map-append (place vs) (variables q) (allVariables qs))
 
     safe-all : (qs : List (List Literal)) → stagesFault D qs ≡ 0 → SafeQuestion (map (bodyOf D vs) qs)
     unfolding stagesFault
     safe-all [] e i x h = absurd (false≢true h)
-    safe-all (q ∷ qs) e zero x h = let f = stage-right D q qs e in safe-body D good [] q (f .0) (f .1) vs x h
+    safe-all (q ∷ qs) e zero x h = let f = stage-right D q qs e in safe-body D [] q (f .0) (f .1) vs x h
     safe-all (q ∷ qs) e (suc i) x h = safe-all qs (stage-right D q qs e .2) i x h
 
     -- a variable stands in as many stages as its word
-    stands-all : (qs : List (List Literal)) → stagesFault D qs ≡ 0 → Within vs (allVariables qs) → (w : Word) → member w vs ≡ true
+    pub stands-all : (qs : List (List Literal)) → stagesFault D qs ≡ 0 → Within vs (allVariables qs) → (w : Word) → member w vs ≡ true
         → meaning.stands (place vs w) (map (bodyOf D vs) qs) ≡ words.stands w qs
     unfolding stagesFault allVariables words.stands
     stands-all [] e k w h = refl
     stands-all (q ∷ qs) e k w h =
         let f = stage-right D q qs e in
         rw (
-          vars-body D good vs q (f .0),
+          vars-body D vs q (f .0),
           number-member vs w (variables q) h (λ v m. k v (member-left v (variables q) (allVariables qs) m)),
           stands-all qs (f .2) (λ v m. k v (member-right v (variables q) (allVariables qs) m)) w h,
         )
 
-    good-stages : (qs : List (List Literal)) → all properStage qs ≡ true → stagesFault D qs ≡ 0 → Within vs (allVariables qs) → length vs ≤ 12
+    good-stages : GoodDeclarations D → (qs : List (List Literal)) → all properStage qs ≡ true → stagesFault D qs ≡ 0 → Within vs (allVariables qs) → length vs ≤ 12
         → Each (GoodStage D) (map (bodyOf D vs) qs)
     unfolding stagesFault allVariables
-    good-stages [] p e k l = tt
-    good-stages (q ∷ qs) p e k l =
+    good-stages good [] p e k l = tt
+    good-stages good (q ∷ qs) p e k l =
         let f = stage-right D q qs e in
         let s = and-left (properStage q) (all properStage qs) p in (
           record {
             some = rw (length-map q _) (ltb-true 0 (length q) (and-right (properBody q) (ltb 0 (length q)) s));
             body = good-body D good vs q (and-left (properBody q) (ltb 0 (length q)) s) (f .0);
-            few = few-numbers D good [] q (f .0) (f .1) vs;
+            few = few-numbers D [] q (f .0) (f .1) vs;
             small = λ x h.
-                let w = elem-mapped (place vs) x (variables q) (rw (vars-body D good vs q (f .0)) at h) in
+                let w = elem-mapped (place vs) x (variables q) (rw (vars-body D vs q (f .0)) at h) in
                 let b = place-below (w .0) vs (k (w .0) (member-left (w .0) (variables q) (allVariables qs) (w .1))) in
                 rw (w .2) (omega arith);
           },
-          good-stages qs (and-right (properStage q) (all properStage qs) p) (f .2) (λ v m. k v (member-right v (variables q) (allVariables qs) m)) l,
+          good-stages good qs (and-right (properStage q) (all properStage qs) p) (f .2) (λ v m. k v (member-right v (variables q) (allVariables qs) m)) l,
         )
 
   -- THE `ask` LINE
   module _ (qs : List (List Literal)) (faultless : stagesFault D qs ≡ 0) (one : carriesMany qs ≡ false) where
-    abbrev line : List Word
+    abbrev pub line : List Word
     line = extend [] (allVariables qs)
 
-    within : Within line (allVariables qs)
+    pub within : Within line (allVariables qs)
     within w e = extend-new w [] (allVariables qs) e
 
     -- a carried variable's word
-    word-of : (x : ℕ) → shared (questionOf D qs) x ≡ true → (w : Word) × (member w (carried qs line) ≡ true) × (x ≡ place line w)
+    pub word-of : (x : ℕ) → shared (questionOf D qs) x ≡ true → (w : Word) × (member w (carried qs line) ≡ true) × (x ≡ place line w)
     unfolding shared
     word-of x h =
         let s = ltb-true 1 (meaning.stands x (questionOf D qs)) h in
@@ -172,7 +175,7 @@ module _ (D : Declared) (good : GoodDeclarations D) where
         let t = ap (λ (y : ℕ). meaning.stands y (questionOf D qs)) (w .2) in
         (w .0, carried-member qs line (w .0) m (le-leb 2 (words.stands (w .0) qs) (omega arith)), w .2)
 
-    only-carried : (x : ℕ) → shared (questionOf D qs) x ≡ true → x ≡ carriedOf (questionOf D qs)
+    pub only-carried : (x : ℕ) → shared (questionOf D qs) x ≡ true → x ≡ carriedOf (questionOf D qs)
     unfolding carriedOf shared
     only-carried x h =
         let Q = questionOf D qs in
@@ -183,7 +186,7 @@ module _ (D : Declared) (good : GoodDeclarations D) where
         let e = same-one (carried qs line) (a .0) (b .0) (leb-false 2 (length (carried qs line)) one) (a .1) (b .1) in
         a .2 ∙ ap (place line) e ∙ sym (b .2)
 
-    carried-or-none : (carriedOf (questionOf D qs) ≡ uncarried) ⊎ (shared (questionOf D qs) (carriedOf (questionOf D qs)) ≡ true)
+    pub carried-or-none : (carriedOf (questionOf D qs) ≡ uncarried) ⊎ (shared (questionOf D qs) (carriedOf (questionOf D qs)) ≡ true)
     unfolding carriedOf
     carried-or-none = none-or-shared (questionOf D qs) (askVars (questionOf D qs))
 
@@ -196,9 +199,9 @@ module _ (D : Declared) (good : GoodDeclarations D) where
     few-line : length qs ≤ 4 → length (news [] (allVariables qs)) ≤ 12
     few-line h = let z = few-all qs faultless in omega arith
 
-  pub good-question : (clauses : ℕ) (qs : List (List Literal)) → proper (askForm qs) ≡ true → fault D clauses (askForm qs) ≡ 0 → GoodQuestion D (questionOf D qs)
+  pub good-question : GoodDeclarations D → (clauses : ℕ) (qs : List (List Literal)) → proper (askForm qs) ≡ true → fault D clauses (askForm qs) ≡ 0 → GoodQuestion D (questionOf D qs)
   unfolding fault
-  good-question clauses qs p e =
+  good-question good clauses qs p e =
       let vs = extend [] (allVariables qs) in
       let f = lower-none (stagesFault D qs) (row 11 (carriesMany qs)) e in
       let g = and-left (all properStage qs && ltb 0 (length qs)) (leb (length qs) 4) p in
@@ -206,12 +209,12 @@ module _ (D : Declared) (good : GoodDeclarations D) where
       let one = row-none 11 (carriesMany qs) (omega arith) (f .1) in
       let len = length-map qs (bodyOf D vs) in
       let few = few-line qs (f .0) one four in
-      let stages = good-stages vs qs (and-left (all properStage qs) (ltb 0 (length qs)) g) (f .0) (within qs (f .0) one) (rw (extend-news [] (allVariables qs)) few) in
+      let stages = good-stages vs good qs (and-left (all properStage qs) (ltb 0 (length qs)) g) (f .0) (within qs (f .0) one) (rw (extend-news [] (allVariables qs)) few) in
       record {
         one = rw len (ltb-true 0 (length qs) (and-right (all properStage qs) (ltb 0 (length qs)) g));
         stages = rw len four;
         stage = stages;
-        variables = rw (vars-all vs qs (f .0)) (in-order 12 (allVariables qs) few);
+        variables = rw (vars-all vs qs (f .0)) (few-in-order 12 (allVariables qs) few);
         safe = safe-all vs qs (f .0);
         carries = carries qs (f .0) one stages;
         carried = carried-or-none qs (f .0) one;

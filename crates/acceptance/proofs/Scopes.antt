@@ -11,6 +11,7 @@ use borrow.Author.Tests.{eqb-true, eq-eqb, leb-true, le-ltb}
 use Rattle.semantics.specs.Models.{elem, vars, firsts, Supported}
 use Rattle.semantics.proofs.Tools.{or-true-cases, or-right, elem-left, elem-right}
 use Rattle.model.specs.Records.{upFrom}
+use Rattle.model.specs.WellFormed.{Numbered}
 use Rattle.model.proofs.Numbering.{length-upFrom}
 use Rattle.grammar.specs.Bytes.{Word, same}
 use Rattle.grammar.specs.Forms.{Literal, all}
@@ -19,7 +20,7 @@ use Rattle.grammar.specs.Rows.{bodyFault, supported, few, scopeFault}
 use Rattle.grammar.specs.Models.{bodyOf}
 use Rattle.grammar.proofs.Words.{same-eq}
 use Rattle.grammar.proofs.Tests.{and-left, and-right}
-use Rattle.acceptance.specs.Sound.{GoodDeclarations, InOrder}
+use Rattle.acceptance.specs.Sound.{InOrder}
 use Rattle.acceptance.proofs.Words.{member-here, news, extend-news, numbers-in-order, few-mapped}
 use Rattle.acceptance.proofs.Bodies.{right, vars-body, supported-body}
 
@@ -46,14 +47,22 @@ all-members S (v ∷ ws) h w e = ⊎-elim
     (or-true-cases (same w v) (member w ws) e)
 
 -- words are numbered from 0 by first appearance
-pub in-order : (n : ℕ) (ws : List Word) → length (news [] ws) ≤ n → InOrder n (map (place (extend [] ws)) ws)
-in-order n ws h =
-    let e = numbers-in-order [] ws [] (λ i. sym (le-ltb i 0 (omega arith))) in
-    let l = ap length e ∙ length-upFrom 0 (length (news [] ws)) in
-    record { numbered = e ∙ ap (upFrom 0) (sym l); few = rw l h }
+pub in-order : (ws : List Word) → Numbered (map (place (extend [] ws)) ws) (length (extend [] ws))
+in-order ws = numbers-in-order [] ws [] (λ i. sym (le-ltb i 0 (omega arith))) ∙ ap (λ (l : List Word). upFrom 0 (length l)) (sym (extend-news [] ws))
+
+pub few-in-order : (n : ℕ) (ws : List Word) → length (news [] ws) ≤ n → InOrder n (map (place (extend [] ws)) ws)
+few-in-order n ws h =
+    let e = in-order ws in
+    let l = ap length e ∙ length-upFrom 0 (length (extend [] ws)) in
+    record { numbered = e ∙ ap (upFrom 0) (sym l); few = rw (l, extend-news [] ws) h }
+
+-- the variables of a head and a body, numbered by those of the line
+pub numbered-by-line : (D : Declared) (hs : List Word) (b : List Literal) → bodyFault D b ≡ 0
+    → let vs = extend [] (hs ++ variables b) in Numbered (map (place vs) hs ++ vars (bodyOf D vs b)) (length vs)
+numbered-by-line D hs b e = let vs = extend [] (hs ++ variables b) in rw (vars-body D vs b e, ← map-append (place vs) hs (variables b)) (in-order (hs ++ variables b))
 
 -- A BODY with the variables hs in its head
-module _ (D : Declared) (good : GoodDeclarations D) (hs : List Word) (b : List Literal) (faultless : bodyFault D b ≡ 0) (scoped : scopeFault hs b ≡ 0) where
+module _ (D : Declared) (hs : List Word) (b : List Literal) (faultless : bodyFault D b ≡ 0) (scoped : scopeFault hs b ≡ 0) where
   tests : (supported hs b && few hs b) ≡ true
   tests = right 9 (supported hs b && few hs b) (omega arith) scoped
 
@@ -65,21 +74,21 @@ module _ (D : Declared) (good : GoodDeclarations D) (hs : List Word) (b : List L
     safe : Supported (map (place vs) (hs ++ variables b)) (bodyOf D vs b)
     safe x e =
         let w = elem-mapped (place vs) x (hs ++ variables b) e in
-        rw (supported-body D good vs b faultless, w .2)
+        rw (supported-body D vs b faultless, w .2)
         (mapped-elem (place vs) (w .0) (supports b) (all-members (supports b) (hs ++ variables b) (and-left (supported hs b) (few hs b) tests) (w .0) (w .1)))
 
     pub safe-head : Supported (map (place vs) hs) (bodyOf D vs b)
     safe-head x e = safe x (rw (map-append (place vs) hs (variables b)) (elem-left x (map (place vs) hs) (map (place vs) (variables b)) e))
 
     pub safe-body : Supported (vars (bodyOf D vs b)) (bodyOf D vs b)
-    safe-body x e = safe x (rw (map-append (place vs) hs (variables b)) (elem-right x (map (place vs) hs) (map (place vs) (variables b)) (rw (vars-body D good vs b faultless) at e)))
+    safe-body x e = safe x (rw (map-append (place vs) hs (variables b)) (elem-right x (map (place vs) hs) (map (place vs) (variables b)) (rw (vars-body D vs b faultless) at e)))
 
     pub few-numbers : length (firsts [] (map (place vs) hs ++ vars (bodyOf D vs b))) ≤ 3
-    few-numbers = rw (vars-body D good vs b faultless, ← map-append (place vs) hs (variables b))
+    few-numbers = rw (vars-body D vs b faultless, ← map-append (place vs) hs (variables b))
         (let z = few-mapped (place vs) [] (hs ++ variables b) [] (λ x e. absurd (false≢true e)) in let h = at-most-three in omega arith)
 
   -- where they are numbered by those of the line
   pub numbered : InOrder 3 (map (place (extend [] (hs ++ variables b))) hs ++ vars (bodyOf D (extend [] (hs ++ variables b)) b))
   numbered =
       let vs = extend [] (hs ++ variables b) in
-      rw (vars-body D good vs b faultless, ← map-append (place vs) hs (variables b)) (in-order 3 (hs ++ variables b) at-most-three)
+      rw (vars-body D vs b faultless, ← map-append (place vs) hs (variables b)) (few-in-order 3 (hs ++ variables b) at-most-three)
