@@ -9,3 +9,4 @@ pub mod Acceptance
 pub mod WellFormed
 pub mod Stages
 pub mod Records
+pub mod Office
