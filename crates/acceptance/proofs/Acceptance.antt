@@ -91,11 +91,11 @@ module _ (n : ℕ) (D : Declared) (P : Program) (before : GoodLines n D P) where
       line-before i k = ap (λ (c : ℕ × Line). c .0) (List·getD-append P ((n, l) ∷ []) (0, other) i k)
 
 -- WHAT EACH PART OF THE READER GIVES. A line that is judged good keeps the limits of its shape
-abbrev GoodJudged : Judged → Type 0
+abbrev pub GoodJudged : Judged → Type 0
 GoodJudged (bad r) = Unit {0}
 GoodJudged (good f) = proper f ≡ true
 
-judge-good : (l : bytes.Line) → GoodJudged (judge l)
+pub judge-good : (l : bytes.Line) → GoodJudged (judge l)
 unfolding judge
 judge-good (unended s) = tt
 judge-good (ended s) = ⊎-elim (λ (q : every allowed s ≡ true). rw q (go (formOf s) refl)) (λ (q : every allowed s ≡ false). rw q tt) (either (every allowed s))
@@ -105,18 +105,18 @@ judge-good (ended s) = ⊎-elim (λ (q : every allowed s ≡ true). rw q (go (fo
     go (some f) e = read-proper s f e
 
 -- an accepted text has n lines
-abbrev GoodOutcome : ℕ → Outcome → Type 0
+abbrev pub GoodOutcome : ℕ → Outcome → Type 0
 GoodOutcome n (accepted D P Q) = GoodLines n D P × GoodQuestion D Q
 GoodOutcome n (refused r l) = Unit {0}
 
 -- line n
-abbrev GoodStep : ℕ → Step → Type 0
+abbrev pub GoodStep : ℕ → Step → Type 0
 GoodStep n (wrong r) = Unit {0}
 GoodStep n (adds D P) = GoodLines (suc n) D P
 GoodStep n (asks o) = GoodOutcome n o
 
 module _ (n : ℕ) (D : Declared) (P : Program) (before : GoodLines n D P) (some : 1 ≤ n) where
-  effect-good : (f : Form) → proper f ≡ true → fault D (length P) f ≡ 0 → GoodStep n (effect n D P f)
+  pub effect-good : (f : Form) → proper f ≡ true → fault D (length P) f ≡ 0 → GoodStep n (effect n D P f)
   unfolding effect declare clause
   effect-good (stateForm w) p e =
       with-declaration n D P before (D ++ ((w, stateCode D) ∷ [])) (λ k. count-grows D w (stateCode D) k) (good-state D (before .declarations) w p (length P) e)
@@ -134,14 +134,14 @@ module _ (n : ℕ) (D : Declared) (P : Program) (before : GoodLines n D P) (some
       with-clause n D P before _ (c .0) (c .1)
   effect-good (askForm qs) p e = (before, good-question D (before .declarations) (length P) qs p e)
 
-  step-good : (j : Judged) → GoodJudged j → GoodStep n (step n D P j)
+  pub step-good : (j : Judged) → GoodJudged j → GoodStep n (step n D P j)
   unfolding step
   step-good (bad r) p = tt
   step-good (good f) p = ⊎-elim
       (λ (q : eqb (fault D (length P) f) 0 ≡ true). rw q (effect-good f p (eqb-true (fault D (length P) f) 0 q)))
       (λ (q : eqb (fault D (length P) f) 0 ≡ false). rw q tt) (either (eqb (fault D (length P) f) 0))
 
-finish-good : (n m : ℕ) (o : Outcome) (ls : List bytes.Line) → GoodOutcome n o → n + length ls ≡ m → GoodOutcome m (finish n o ls)
+pub finish-good : (n m : ℕ) (o : Outcome) (ls : List bytes.Line) → GoodOutcome n o → n + length ls ≡ m → GoodOutcome m (finish n o ls)
 unfolding finish
 finish-good n m o [] h e = let z : n ≡ m = omega arith in subst (λ (k : ℕ). GoodOutcome k o) z h
 finish-good n m o (l ∷ ls) h e = tt
@@ -159,7 +159,7 @@ read-good m (l ∷ ls) n D P h k e = go (step n D P (judge l)) (step-good n D P 
     go (asks o) g rec = finish-good n m o ls g (omega arith)
 
 -- before the first line
-nothing-good : GoodLines 1 [] []
+pub nothing-good : GoodLines 1 [] []
 unfolding count
 nothing-good = record {
   declarations = record {
