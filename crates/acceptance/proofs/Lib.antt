@@ -10,3 +10,4 @@ pub mod WellFormed
 pub mod Stages
 pub mod Records
 pub mod Office
+pub mod Growth

@@ -6,7 +6,7 @@ use native.Mathlib.Omega.{arith}
 use Rattle.semantics.specs.Labels.{setOf, union}
 use Rattle.semantics.specs.Models.{is, isnt, fact, rule, new, next, Program, Question, firsts, shared}
 use Rattle.model.specs.Literals.{literalOf, decoded}
-use Rattle.model.specs.Records.{programOf, questionOf, clauseAt, stageAt}
+use Rattle.model.specs.Records.{clauseAt, stageAt}
 use Rattle.model.specs.WellFormed.{WellFormed}
 use Rattle.model.proofs.Office.{office, program, question}
 use Rattle.grammar.specs.Bytes.{bytes, alphanumeric, allowed, isName}
@@ -17,8 +17,7 @@ use Rattle.grammar.specs.Models.{declare, clause}
 use Rattle.grammar.specs.Texts.{accepted, judge, effect, step, finish, readLines, outcome}
 use Rattle.acceptance.specs.Sound.{carriedOf}
 use Rattle.acceptance.specs.Represents.{HoldsClause, HoldsStage, Represents}
-use Rattle.acceptance.proofs.Acceptance.{accepted-sound}
-use Rattle.acceptance.proofs.WellFormed.{well-formed}
+use Rattle.acceptance.proofs.WellFormed.{accepted-well-formed}
 
 abbrev text : List ℕ
 text = bytes "(state Admin)\n(state User)\n(rel Control 1)\n(new (Admin))\n(new (User))\n(next x (Admin) () (User x) (Admin y))\n(rule (Control x) (Admin x))\n(ask ((User x) (not (Admin x))) ((Control x)))\n"
@@ -71,4 +70,4 @@ represented = record {
 }
 
 pub office-well-formed : WellFormed office
-office-well-formed = well-formed 8 D P Q office (accepted-sound text D P Q office-accepted) represented
+office-well-formed = accepted-well-formed text D P Q office office-accepted represented

@@ -26,12 +26,13 @@ use Rattle.model.proofs.Encoding.{decoded-is, decoded-isnot, decoded-nullary, d
 use Rattle.model.proofs.Lines.{stage-at}
 use Rattle.model.proofs.Numbering.{length-upFrom}
 use Rattle.model.proofs.Renaming.{firsts-from}
-use Rattle.grammar.specs.Bytes.{Word}
+use Rattle.grammar.specs.Bytes.{Word, lines}
 use Rattle.grammar.specs.Declarations.{Declared, class, count}
+use Rattle.grammar.specs.Texts.{accepted, outcome}
 use Rattle.acceptance.specs.Sound.{Each, codeAt, DeclaredState, DeclaredRelation, GoodLiteral, GoodBody, GoodHead, headOf, bodyOf, Sound}
 use Rattle.acceptance.specs.Sound as sound
 use Rattle.acceptance.specs.Represents.{codesOf, Represents}
-use Rattle.acceptance.proofs.Acceptance.{each-at}
+use Rattle.acceptance.proofs.Acceptance.{each-at, accepted-sound}
 
 -- AN ELEMENT of a mapped part of a list
 getD-mapped : {A B : Type 0} (f : A → B) (xs : List A) (n i : ℕ) (d : A) (e : B) → i < n → n ≤ length xs → getD (map f (take n xs)) i e ≡ f (getD xs i d)
@@ -280,3 +281,7 @@ module _ (n : ℕ) (D : Declared) (P : Program) (Q : Question) (m : Model) (s : 
     asked = r .asked;
     numbers = λ i h. r .stage i h .room;
   }
+
+-- the record of an accepted text
+pub accepted-well-formed : (text : List ℕ) (D : Declared) (P : Program) (Q : Question) (m : Model) → outcome text ≡ accepted D P Q → Represents (length (lines text)) D P Q m → WellFormed m
+accepted-well-formed text D P Q m e r = well-formed (length (lines text)) D P Q m (accepted-sound text D P Q e) r
