@@ -27,6 +27,16 @@ use Rattle.acceptance.proofs.Scopes.{safe-head, safe-body, numbered}
 pub room : (clauses : ℕ) → row 4 (manyClauses clauses) ≡ 0 → clauses < 64
 room clauses e = leb-false 64 clauses (row-none 4 (manyClauses clauses) (omega arith) e)
 
+-- THE LINES that the forms say
+abbrev ruleLine : Declared → Atom → List Literal → Line
+ruleLine D h b = let vs = extend [] (h .variables ++ variables b) in rule (codeOf D (h .name)) (map (place vs) (h .variables)) (bodyOf D vs b)
+
+abbrev newLine : Declared → List Word → List Literal → Line
+newLine D l b = new (setOf (codes D l)) (bodyOf D (extend [] (variables b)) b)
+
+abbrev nextLine : Declared → Word → List Word → List Word → List Literal → Line
+nextLine D x p m b = let vs = extend [] (x ∷ variables b) in next (place vs x) (setOf (codes D p)) (setOf (codes D m)) (bodyOf D vs b)
+
 module _ (D : Declared) (good : GoodDeclarations D) where
   pub good-body : (vs : List Word) (b : List Literal) → properBody b ≡ true → bodyFault D b ≡ 0 → GoodBody D (bodyOf D vs b)
   good-body vs b p e = record {
@@ -34,18 +44,8 @@ module _ (D : Declared) (good : GoodDeclarations D) where
     literals = good-literals D vs good b e;
   }
 
-  -- the lines that the forms say
-  abbrev pub ruleLine : Atom → List Literal → Line
-  ruleLine h b = let vs = extend [] (h .variables ++ variables b) in rule (codeOf D (h .name)) (map (place vs) (h .variables)) (bodyOf D vs b)
-
-  abbrev pub newLine : List Word → List Literal → Line
-  newLine l b = new (setOf (codes D l)) (bodyOf D (extend [] (variables b)) b)
-
-  abbrev pub nextLine : Word → List Word → List Word → List Literal → Line
-  nextLine x p m b = let vs = extend [] (x ∷ variables b) in next (place vs x) (setOf (codes D p)) (setOf (codes D m)) (bodyOf D vs b)
-
   module _ (n clauses : ℕ) (some : 1 ≤ n) where
-    pub good-rule : (h : Atom) (b : List Literal) → properBody b ≡ true → fault D clauses (ruleForm h b) ≡ 0 → (clauses < 64) × GoodClause (suc n) D (n, ruleLine h b)
+    pub good-rule : (h : Atom) (b : List Literal) → properBody b ≡ true → fault D clauses (ruleForm h b) ≡ 0 → (clauses < 64) × GoodClause (suc n) D (n, ruleLine D h b)
     unfolding fault
     good-rule h b p e =
         let hs = h .variables in
@@ -67,7 +67,7 @@ module _ (D : Declared) (good : GoodDeclarations D) where
           },
         )
 
-    pub good-new : (l : List Word) (b : List Literal) → properBody b ≡ true → fault D clauses (newForm l b) ≡ 0 → (clauses < 64) × GoodClause (suc n) D (n, newLine l b)
+    pub good-new : (l : List Word) (b : List Literal) → properBody b ≡ true → fault D clauses (newForm l b) ≡ 0 → (clauses < 64) × GoodClause (suc n) D (n, newLine D l b)
     unfolding fault
     good-new l b p e =
         let vs = extend [] (variables b) in
@@ -85,7 +85,7 @@ module _ (D : Declared) (good : GoodDeclarations D) where
           },
         )
 
-    pub good-next : (x : Word) (l m : List Word) (b : List Literal) → properBody b ≡ true → fault D clauses (nextForm x l m b) ≡ 0 → (clauses < 64) × GoodClause (suc n) D (n, nextLine x l m b)
+    pub good-next : (x : Word) (l m : List Word) (b : List Literal) → properBody b ≡ true → fault D clauses (nextForm x l m b) ≡ 0 → (clauses < 64) × GoodClause (suc n) D (n, nextLine D x l m b)
     unfolding fault
     good-next x l m b p e =
         let vs = extend [] (x ∷ variables b) in

@@ -6,11 +6,11 @@ use native.Mathlib.Nat.{zero-add, suc-add}
 use native.Mathlib.Omega.{arith}
 use lib.ListN.{length, take, drop, getD}
 use lib.Seq.{take-nil, take-suc, take-take, getD-take}
-use Rattle.semantics.specs.Models.{Body, Line, Program, Question}
-use Rattle.model.specs.declared.Clause.{Clause}
+use Rattle.semantics.specs.Models.{Body, Program, Question}
 use Rattle.model.specs.declared.Model.{Model}
 use Rattle.model.specs.Literals.{literalOf}
-use Rattle.model.specs.Records.{bodyAt, lineOf, clauseLine, stageOf, renamed, numberIn, programOf, questionOf, clauseAt, stageAt}
+use Rattle.model.specs.Records.{bodyAt, lineOf, stageOf, renamed, numberIn, programOf, questionOf, clauseAt, stageAt}
+use Rattle.acceptance.proofs.WellFormed.{clauseOf}
 use Rattle.acceptance.specs.Represents.{HoldsClause, HoldsStage}
 
 -- A PART that lies before place k of the row
@@ -61,11 +61,8 @@ module _ (m m′ : Model) (keeps : Keeps m m′) where
         let l = keeps .literalcount in
         rw (clause-kept i h) (record { within = omega arith; numbered = rw (part-kept (c .first) (c .count) w) (held i h .numbered) })
 
-    abbrev said : List ℕ → Clause → ℕ × Line
-    said row c = (c .line, clauseLine row c)
-
-    said-kept : map (said (m′ .literals)) (take (m .clausecount) (m .clauses)) ≡ map (said (m .literals)) (take (m .clausecount) (m .clauses))
-    said-kept = map-same (said (m′ .literals)) (said (m .literals)) (m .clausecount) (m .clauses) _
+    said-kept : map (clauseOf (m′ .literals)) (take (m .clausecount) (m .clauses)) ≡ map (clauseOf (m .literals)) (take (m .clausecount) (m .clauses))
+    said-kept = map-same (clauseOf (m′ .literals)) (clauseOf (m .literals)) (m .clausecount) (m .clauses) _
         (λ i h. let c = clauseAt m i in ap (λ (b : Body). (c .line, lineOf (c .action) b)) (part-kept (c .first) (c .count) (held i h .within)))
 
     pub program-kept : m′ .clausecount ≡ m .clausecount → programOf m′ ≡ programOf m
@@ -74,11 +71,11 @@ module _ (m m′ : Model) (keeps : Keeps m m′) where
 
     -- one clause more
     pub program-more : m′ .clausecount ≡ suc (m .clausecount) → m .clausecount < length (m′ .clauses)
-        → programOf m′ ≡ programOf m ++ ((clauseAt m′ (m .clausecount) .line, clauseLine (m′ .literals) (clauseAt m′ (m .clausecount))) ∷ [])
+        → programOf m′ ≡ programOf m ++ (clauseOf (m′ .literals) (clauseAt m′ (m .clausecount)) ∷ [])
     unfolding programOf
     program-more e h =
-        rw e (map-one-more (said (m′ .literals)) (m .clausecount) (m′ .clauses) _ h
-        ∙ ap (λ (l : Program). l ++ (said (m′ .literals) (clauseAt m′ (m .clausecount)) ∷ [])) (ap (map (said (m′ .literals))) (keeps .clauses) ∙ said-kept))
+        rw e (map-one-more (clauseOf (m′ .literals)) (m .clausecount) (m′ .clauses) _ h
+        ∙ ap (λ (l : Program). l ++ (clauseOf (m′ .literals) (clauseAt m′ (m .clausecount)) ∷ [])) (ap (map (clauseOf (m′ .literals))) (keeps .clauses) ∙ said-kept))
 
   -- STAGES
   module _ (held : (i : ℕ) → i < m .stagecount → HoldsStage m (stageAt m i)) where

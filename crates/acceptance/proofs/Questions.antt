@@ -46,6 +46,13 @@ module _ (vs : List Word) where
   number-member w [] h k = refl
   number-member w (v ∷ ws) h k = rw (number-same w v h (k v (member-here v ws)), number-member w ws h (within-rest v ws k))
 
+-- the variables of the `ask` line, each once
+abbrev pub askWords : List (List Literal) → List Word
+askWords qs = extend [] (allVariables qs)
+
+pub within-asked : (qs : List (List Literal)) → Within (askWords qs) (allVariables qs)
+within-asked qs w e = extend-new w [] (allVariables qs) e
+
 -- AT MOST ONE
 same-one : (xs : List Word) (v w : Word) → length xs < 2 → member v xs ≡ true → member w xs ≡ true → v ≡ w
 same-one [] v w l h k = absurd (false≢true h)
@@ -84,6 +91,10 @@ module _ (Q : Question) where
   none-or-shared : (xs : List ℕ) → (firstShared Q xs ≡ uncarried) ⊎ (shared Q (firstShared Q xs) ≡ true)
   none-or-shared [] = inl refl
   none-or-shared (x ∷ xs) = ⊎-elim (λ (q : shared Q x ≡ true). rw q (inr q)) (λ (q : shared Q x ≡ false). rw q (none-or-shared xs)) (either (shared Q x))
+
+  pub carried-or-none : (carriedOf Q ≡ uncarried) ⊎ (shared Q (carriedOf Q) ≡ true)
+  unfolding carriedOf
+  carried-or-none = none-or-shared (askVars Q)
 
 stage-right : (D : Declared) (q : List Literal) (qs : List (List Literal)) → stagesFault D (q ∷ qs) ≡ 0 → (bodyFault D q ≡ 0) × (scopeFault [] q ≡ 0) × (stagesFault D qs ≡ 0)
 unfolding stagesFault
@@ -157,65 +168,58 @@ module _ (D : Declared) where
         )
 
   -- THE `ask` LINE
-  module _ (qs : List (List Literal)) (faultless : stagesFault D qs ≡ 0) (one : carriesMany qs ≡ false) where
-    abbrev pub line : List Word
-    line = extend [] (allVariables qs)
-
-    pub within : Within line (allVariables qs)
-    within w e = extend-new w [] (allVariables qs) e
+  module _ (qs : List (List Literal)) (faultless : stagesFault D qs ≡ 0) where
+    few-asked : length qs ≤ 4 → length (news [] (allVariables qs)) ≤ 12
+    few-asked h = let z = few-all qs faultless in omega arith
 
     -- a carried variable's word
-    pub word-of : (x : ℕ) → shared (questionOf D qs) x ≡ true → (w : Word) × (member w (carried qs line) ≡ true) × (x ≡ place line w)
+    pub word-of : (x : ℕ) → shared (questionOf D qs) x ≡ true → (w : Word) × (member w (carried qs (askWords qs)) ≡ true) × (x ≡ place (askWords qs) w)
     unfolding shared
     word-of x h =
+        let vs = askWords qs in
         let s = ltb-true 1 (meaning.stands x (questionOf D qs)) h in
-        let w = elem-mapped (place line) x (allVariables qs) (rw (vars-all line qs faultless) at (stands-elem x (questionOf D qs) (omega arith))) in
-        let m = within (w .0) (w .1) in
-        let e = stands-all line qs faultless within (w .0) m in
+        let w = elem-mapped (place vs) x (allVariables qs) (rw (vars-all vs qs faultless) at (stands-elem x (questionOf D qs) (omega arith))) in
+        let m = within-asked qs (w .0) (w .1) in
+        let e = stands-all vs qs faultless (within-asked qs) (w .0) m in
         let t = ap (λ (y : ℕ). meaning.stands y (questionOf D qs)) (w .2) in
-        (w .0, carried-member qs line (w .0) m (le-leb 2 (words.stands (w .0) qs) (omega arith)), w .2)
+        (w .0, carried-member qs vs (w .0) m (le-leb 2 (words.stands (w .0) qs) (omega arith)), w .2)
 
-    pub only-carried : (x : ℕ) → shared (questionOf D qs) x ≡ true → x ≡ carriedOf (questionOf D qs)
-    unfolding carriedOf shared
-    only-carried x h =
-        let Q = questionOf D qs in
-        let s = ltb-true 1 (meaning.stands x Q) h in
-        let v = shared-first Q x (askVars Q) (stands-elem x Q (omega arith)) h in
-        let a = word-of x h in
-        let b = word-of (carriedOf Q) v in
-        let e = same-one (carried qs line) (a .0) (b .0) (leb-false 2 (length (carried qs line)) one) (a .1) (b .1) in
-        a .2 ∙ ap (place line) e ∙ sym (b .2)
+    module _ (one : carriesMany qs ≡ false) where
+      pub only-carried : (x : ℕ) → shared (questionOf D qs) x ≡ true → x ≡ carriedOf (questionOf D qs)
+      unfolding carriedOf shared
+      only-carried x h =
+          let Q = questionOf D qs in
+          let s = ltb-true 1 (meaning.stands x Q) h in
+          let v = shared-first Q x (askVars Q) (stands-elem x Q (omega arith)) h in
+          let a = word-of x h in
+          let b = word-of (carriedOf Q) v in
+          let e = same-one (carried qs (askWords qs)) (a .0) (b .0) (leb-false 2 (length (carried qs (askWords qs))) one) (a .1) (b .1) in
+          a .2 ∙ ap (place (askWords qs)) e ∙ sym (b .2)
 
-    pub carried-or-none : (carriedOf (questionOf D qs) ≡ uncarried) ⊎ (shared (questionOf D qs) (carriedOf (questionOf D qs)) ≡ true)
-    unfolding carriedOf
-    carried-or-none = none-or-shared (questionOf D qs) (askVars (questionOf D qs))
-
-    carries : Each (GoodStage D) (questionOf D qs) → CarriesOnly (questionOf D qs) (carriedOf (questionOf D qs))
-    carries good-ones = record {
-      only = only-carried;
-      own = λ i e. ⊎-elim (λ q. absurd (let z = small-at D (questionOf D qs) good-ones i (carriedOf (questionOf D qs)) e in omega arith)) (λ q. q) carried-or-none;
-    }
-
-    few-line : length qs ≤ 4 → length (news [] (allVariables qs)) ≤ 12
-    few-line h = let z = few-all qs faultless in omega arith
+      carries : Each (GoodStage D) (questionOf D qs) → CarriesOnly (questionOf D qs) (carriedOf (questionOf D qs))
+      carries stages =
+          let Q = questionOf D qs in
+          record {
+            only = only-carried;
+            own = λ i e. ⊎-elim (λ q. absurd (let z = small-at D Q stages i (carriedOf Q) e in omega arith)) (λ q. q) (carried-or-none Q);
+          }
 
   pub good-question : GoodDeclarations D → (clauses : ℕ) (qs : List (List Literal)) → proper (askForm qs) ≡ true → fault D clauses (askForm qs) ≡ 0 → GoodQuestion D (questionOf D qs)
   unfolding fault
   good-question good clauses qs p e =
-      let vs = extend [] (allVariables qs) in
+      let vs = askWords qs in
       let f = lower-none (stagesFault D qs) (row 11 (carriesMany qs)) e in
       let g = and-left (all properStage qs && ltb 0 (length qs)) (leb (length qs) 4) p in
       let four = leb-true (length qs) 4 (and-right (all properStage qs && ltb 0 (length qs)) (leb (length qs) 4) p) in
-      let one = row-none 11 (carriesMany qs) (omega arith) (f .1) in
       let len = length-map qs (bodyOf D vs) in
-      let few = few-line qs (f .0) one four in
-      let stages = good-stages vs good qs (and-left (all properStage qs) (ltb 0 (length qs)) g) (f .0) (within qs (f .0) one) (rw (extend-news [] (allVariables qs)) few) in
+      let few = few-asked qs (f .0) four in
+      let stages = good-stages vs good qs (and-left (all properStage qs) (ltb 0 (length qs)) g) (f .0) (within-asked qs) (rw (extend-news [] (allVariables qs)) few) in
       record {
         one = rw len (ltb-true 0 (length qs) (and-right (all properStage qs) (ltb 0 (length qs)) g));
         stages = rw len four;
         stage = stages;
         variables = rw (vars-all vs qs (f .0)) (few-in-order 12 (allVariables qs) few);
         safe = safe-all vs qs (f .0);
-        carries = carries qs (f .0) one stages;
-        carried = carried-or-none qs (f .0) one;
+        carries = carries qs (f .0) (row-none 11 (carriesMany qs) (omega arith) (f .1)) stages;
+        carried = carried-or-none (questionOf D qs);
       }

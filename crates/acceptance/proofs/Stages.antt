@@ -18,7 +18,7 @@ use Rattle.model.specs.WellFormed.{uncarried}
 use Rattle.grammar.specs.Bytes.{Word, same}
 use Rattle.grammar.specs.Forms.{Atom, Literal, plain, negated}
 use Rattle.grammar.specs.Declarations as words
-use Rattle.grammar.specs.Declarations.{isState, arityOf, Declared, lookup, member, extend, place, variablesOf, variables, allVariables}
+use Rattle.grammar.specs.Declarations.{isState, arityOf, Declared, lookup, member, extend, place, variablesOf, variables}
 use Rattle.grammar.specs.Rows.{literalFault, bodyFault, stagesFault, carried, carriesMany}
 use Rattle.grammar.specs.Models.{codeOf, literalOf, bodyOf, questionOf}
 use Rattle.grammar.proofs.Words.{same-eq, member-append, member-left, member-right, place-below}
@@ -27,7 +27,7 @@ use Rattle.grammar.proofs.Tests.{either}
 use Rattle.acceptance.specs.Sound.{carriedOf}
 use Rattle.acceptance.proofs.Words.{member-here, news, extend-news, place-at}
 use Rattle.acceptance.proofs.Bodies.{Found, plain-right, negated-right, vars-body}
-use Rattle.acceptance.proofs.Questions.{Within, within-rest, number-same, stands-all, within, word-of, only-carried, carried-or-none}
+use Rattle.acceptance.proofs.Questions.{Within, within-rest, number-same, askWords, within-asked, stands-all, word-of, only-carried, carried-or-none}
 
 getD-map-in : (f : Word → ℕ) (ws : List Word) (i : ℕ) → i < length ws → getD (map f ws) i 0 ≡ f (getD ws i [])
 getD-map-in f [] i h = absurd (omega arith)
@@ -122,20 +122,20 @@ carried-stands qs (x ∷ xs) w e = ⊎-elim
     (λ (p : leb 2 (words.stands x qs) ≡ false). let r = carried-stands qs xs w (rw p at e) in (or-right (same w x) (member w xs) (r .0), r .1))
     (either (leb 2 (words.stands x qs)))
 
-module _ (D : Declared) (qs : List (List Literal)) (faultless : stagesFault D qs ≡ 0) (one : carriesMany qs ≡ false) where
-  pub carried-number : carriedOf (questionOf D qs) ≡ firstNumber (extend [] (allVariables qs)) (carried qs (extend [] (allVariables qs)))
-  unfolding shared
-  carried-number = go (carried qs vs) refl
-    where
-      vs : List Word
-      vs = extend [] (allVariables qs)
+pub carried-number : (D : Declared) (qs : List (List Literal)) → stagesFault D qs ≡ 0 → carriesMany qs ≡ false
+    → carriedOf (questionOf D qs) ≡ firstNumber (askWords qs) (carried qs (askWords qs))
+unfolding shared
+carried-number D qs faultless one = go (carried qs vs) refl
+  where
+    vs : List Word
+    vs = askWords qs
 
-      go : (ws : List Word) → carried qs vs ≡ ws → carriedOf (questionOf D qs) ≡ firstNumber vs ws
-      go [] e = ⊎-elim (λ q. q)
-          (λ q. let w = word-of D qs faultless one (carriedOf (questionOf D qs)) q in absurd (false≢true (subst (λ (l : List Word). member (w .0) l ≡ true) e (w .1))))
-          (carried-or-none D qs faultless one)
-      go (w ∷ ws) e =
-          let c = carried-stands qs vs w (subst (λ (l : List Word). member w l ≡ true) (sym e) (member-here w ws)) in
-          let n = stands-all D vs qs faultless (within D qs faultless one) w (c .0) in
-          let h = leb-true 2 (words.stands w qs) (c .1) in
-          sym (only-carried D qs faultless one (place vs w) (lt-ltb 1 (meaning.stands (place vs w) (questionOf D qs)) (omega arith)))
+    go : (ws : List Word) → carried qs vs ≡ ws → carriedOf (questionOf D qs) ≡ firstNumber vs ws
+    go [] e = ⊎-elim (λ q. q)
+        (λ q. let w = word-of D qs faultless (carriedOf (questionOf D qs)) q in absurd (false≢true (subst (λ (l : List Word). member (w .0) l ≡ true) e (w .1))))
+        (carried-or-none (questionOf D qs))
+    go (w ∷ ws) e =
+        let c = carried-stands qs vs w (subst (λ (l : List Word). member w l ≡ true) (sym e) (member-here w ws)) in
+        let n = stands-all D vs qs faultless (within-asked qs) w (c .0) in
+        let h = leb-true 2 (words.stands w qs) (c .1) in
+        sym (only-carried D qs faultless one (place vs w) (lt-ltb 1 (meaning.stands (place vs w) (questionOf D qs)) (omega arith)))

@@ -121,7 +121,10 @@ firsts-distinct seen (x ∷ xs) = ⊎-elim
     (λ (q : elem x seen ≡ false). rw q (firsts-unseen x (x ∷ seen) xs (elem-here x seen), firsts-distinct (x ∷ seen) xs))
     (either (elem x seen))
 
--- LINES of actions
+-- A CLAUSE of a record with its line
+abbrev pub clauseOf : List ℕ → Clause → ℕ × Line
+clauseOf row c = (c .line, clauseLine row c)
+
 head-line : (a : Action) (b : Body) → headOf (lineOf a b) ≡ records.headOf a
 head-line (Rule r n) b = refl
 head-line (New s) b = refl
@@ -190,16 +193,13 @@ module _ (n : ℕ) (D : Declared) (P : Program) (Q : Question) (m : Model) (s : 
     }
 
   -- CLAUSES
-  abbrev clauseOf : Clause → ℕ × Line
-  clauseOf c = (c .line, clauseLine (m .literals) c)
-
-  clause-at : (i : ℕ) → i < m .clausecount → getD P i (0, other) ≡ clauseOf (clauseAt m i)
+  clause-at : (i : ℕ) → i < m .clausecount → getD P i (0, other) ≡ clauseOf (m .literals) (clauseAt m i)
   unfolding programOf
   clause-at i h =
       ap (λ (l : Program). getD l i (0, other)) (sym (r .program))
-      ∙ getD-mapped clauseOf (m .clauses) (m .clausecount) i _ (0, other) h (let a = r .clauses in let b = r .row in let c = s .lines .clauses in omega arith)
+      ∙ getD-mapped (clauseOf (m .literals)) (m .clauses) (m .clausecount) i _ (0, other) h (let a = r .clauses in let b = r .row in let c = s .lines .clauses in omega arith)
 
-  is-good : (i : ℕ) → i < m .clausecount → sound.GoodClause n D (clauseOf (clauseAt m i))
+  is-good : (i : ℕ) → i < m .clausecount → sound.GoodClause n D (clauseOf (m .literals) (clauseAt m i))
   is-good i h = subst (sound.GoodClause n D) (clause-at i h) (each-at (sound.GoodClause n D) P (0, other) (s .lines .clause) i (rw (r .clauses) at h))
 
   good-action : (a : Action) (b : Body) → GoodHead D (lineOf a b) → GoodAction m a
