@@ -4,7 +4,7 @@ use mathlib.Core.Logic.{⊎-elim, _≢_}
 use mathlib.Core.Bool.{Bool, true, false, cond, _&&_}
 use mathlib.Core.List.{List, [], _∷_, _++_}
 use mathlib.Core.Option.{Option, none, some}
-use Prim.Native.Nat.{ℕ, zero, suc, _+_, _-_, _/_, _≤_, _<_}
+use Prim.Native.Nat.{ℕ, zero, suc, _+_, _*_, _-_, _/_, _≤_, _<_}
 use native.Mathlib.Omega.{arith}
 use lib.Dec.{eqb, leb}
 use lib.ListN.{length, take, getD, List·getD-append}
@@ -120,6 +120,17 @@ module _ (D : Declared) (good : GoodDeclarations D) (w : Word) (c : ℕ) (found 
       let k = known in
       let z : class c ≡ suc (class c - 1) = omega arith in
       rw e (omega arith, z, subst (λ (j : ℕ). indexOf c < count j D) z (k .1))
+
+-- THE CODES: states are below 7; derived relations are from 32, 64 and 96 on by their arity, and pairs below 102
+module _ (D : Declared) (good : GoodDeclarations D) where
+  pub state-range : (a : ℕ) → DeclaredState D a → a < 7
+  state-range a h = let z = good .states in omega arith
+
+  pub relation-range : (r n : ℕ) → DeclaredRelation D r n → (32 * n + 32 ≤ r) × (r < 32 * n + 48) × (n ≡ 2 → r < 102)
+  relation-range r zero h = let z = good .derived in omega arith
+  relation-range r (suc zero) h = let z = good .derived in omega arith
+  relation-range r (suc (suc zero)) h = let z = good .derived in let y = good .pairs in omega arith
+  relation-range r (suc (suc (suc n))) h = absurd (omega arith)
 
 -- ONE NAME MORE
 module _ (D : Declared) (good : GoodDeclarations D) (w : Word) (c : ℕ) (named : isName w ≡ true) (new : lookup w D ≡ none) (four : class c < 4) (after : indexOf c ≡ count (class c) D) where

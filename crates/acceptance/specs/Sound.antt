@@ -11,7 +11,7 @@ use Rattle.model.specs.WellFormed.{indexOf, Numbered, uncarried}
 use Rattle.grammar.specs.Bytes.{Word, isName}
 use Rattle.grammar.specs.Declarations.{class, Declared, count}
 
--- so is each element of a list
+-- each element of the list is so
 abbrev pub Each : {A : Type 0} → (A → Type 0) → List A → Type 0
 Each R [] = Unit {0}
 Each R (x ∷ xs) = R x × Each R xs
