@@ -5,4 +5,3 @@ pub mod Bodies
 pub mod Lower
 pub mod Printing
 pub mod Examples
-pub mod Safety
