@@ -118,3 +118,19 @@ pub fn place_model(m: Model, s: Session, n: u32, work: &mut [u8]) -> Reply
     wipe(work);
     reply
 }
+
+// The answer of a reply.
+pub fn answer_of(reply: Reply) -> Answer
+    ensures { λ r. ⌜ r ≡ reply .answer ⌝ }
+{
+    let answer = reply.answer;
+    answer
+}
+
+// The state of a reply.
+pub fn session_of(reply: Reply) -> Session
+    ensures { λ r. ⌜ r ≡ reply .session ⌝ }
+{
+    let session = reply.session;
+    session
+}
