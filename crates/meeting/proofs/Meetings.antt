@@ -1,9 +1,9 @@
 -- The meeting of a stage: whether it is allowed, and the state after it.
 use mathlib.Core.Path.{_≡_, refl, sym, ap, _∙_, subst}
-use mathlib.Core.Logic.{_⊎_, inl, inr, ⊎-elim, _↔_, _≢_}
-use mathlib.Core.Bool.{true, false, cond}
-use mathlib.Core.List.{List, [], _∷_, map}
-use mathlib.Core.Option.{Option, none, some, Option·none-ne-some, Option·some-injective}
+use mathlib.Core.Logic.{_⊎_, inl, inr, ⊎-elim, _≢_}
+use mathlib.Core.Bool.{true, false}
+use mathlib.Core.List.{List, [], _∷_}
+use mathlib.Core.Option.{some, Option·none-ne-some, Option·some-injective}
 use Prim.Native.Nat.{ℕ, suc, _≤_, _<_}
 use native.Mathlib.Omega.{arith}
 use borrow.Author.Tests.{eqb-true, eq-eqb, ne-eqb}
@@ -16,15 +16,14 @@ use Rattle.semantics.proofs.Tools.{either, same?, clash}
 use Rattle.semantics.proofs.Bodies.{holds-agree, supported-vars}
 use Rattle.model.specs.declared.Model.{Model}
 use Rattle.model.specs.declared.Stage.{Stage}
-use Rattle.model.specs.Records.{upFrom, programOf, questionOf, stageBody, stageOf, numberIn, stageAt}
+use Rattle.model.specs.Records.{programOf, questionOf, stageBody, stageOf, numberIn, stageAt}
 use Rattle.model.specs.Places.{objects}
 use Rattle.model.specs.WellFormed.{WellFormed}
 use Rattle.model.proofs.Renaming.{elem-map, elem-of-map, vars-renamed, supported-renamed, meets-renamed, named-renamed}
 use Rattle.model.proofs.Accepted.{stages, stage-here, stage-vars, stage-different, stage-count}
-use Rattle.levels.specs.declared.Choice.{Choice}
 use Rattle.levels.specs.Choices.{chosen}
 use Rattle.session.specs.declared.Session.{Session}
-use Rattle.session.specs.Sessions.{optional, sessionOf, carriedBy, met, taken}
+use Rattle.session.specs.Sessions.{sessionOf, carriedBy, met}
 use Rattle.view.specs.declared.View.{View}
 use Rattle.play.specs.Tries.{Ready, Holding, Tried}
 use Rattle.meeting.specs.Carried.{Named, Agrees, carriedOn}

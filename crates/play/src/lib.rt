@@ -17,7 +17,7 @@ ghost use Rattle.model.specs.Literals.{GoodBody};
 ghost use Rattle.model.specs.Records.{bodyAt, clauseAt};
 ghost use Rattle.model.specs.WellFormed.{WellFormed};
 ghost use Rattle.session.specs.Sessions.{Says};
-ghost use Rattle.play.specs.Tries.{Sees, Ready, Holding, Tried, TriedAt};
+ghost use Rattle.play.specs.Tries.{Ready, Holding, Tried};
 
 // Whether a place is allowed, and the state after it, which is the one before where it is not.
 pub struct Outcome {

@@ -1,9 +1,9 @@
 -- A run, place by place.
 use mathlib.Core.Path.{_≡_, refl, sym, ap, _∙_, subst, fun-ext}
-use mathlib.Core.Logic.{inl, inr, ⊎-elim, _≢_}
+use mathlib.Core.Logic.{inl, inr, _≢_}
 use mathlib.Core.Bool.{Bool, true, false, cond}
-use mathlib.Core.List.{List, [], _∷_, _++_}
-use mathlib.Core.Option.{Option, none, some}
+use mathlib.Core.List.{List, [], _++_}
+use mathlib.Core.Option.{Option, none}
 use Prim.Native.Nat.{ℕ, suc, _+_, _≤_, _<_}
 use native.Mathlib.Omega.{arith}
 use native.Mathlib.Numerals.{add-one}
@@ -18,7 +18,7 @@ use Rattle.semantics.specs.Runs as runs
 use Rattle.semantics.specs.Runs.{step, meet, start, nobody, Allowed, after}
 use Rattle.model.specs.declared.Model.{Model}
 use Rattle.model.specs.Records.{programOf, questionOf}
-use Rattle.model.specs.Places.{placeOf, Numerable}
+use Rattle.model.specs.Places.{Numerable}
 use Rattle.model.specs.WellFormed.{WellFormed}
 use Rattle.model.proofs.Places.{number-of-place}
 use Rattle.model.proofs.Accepted.{stages}
@@ -26,7 +26,7 @@ use Rattle.session.specs.declared.Answer.{Answer}
 use Rattle.session.specs.declared.Answer.the-variants.{Kept, Broken}
 use Rattle.session.specs.declared.Session.{Session}
 use Rattle.session.specs.Sessions.{sessionOf, Fits, stepped, taken}
-use Rattle.session.specs.Replays.{Allows, Replays}
+use Rattle.session.specs.Replays.{Replays}
 use Rattle.session.proofs.Effects.{taken-after, taken-fits}
 use Rattle.play.specs.Tries.{TriedAt}
 use Rattle.replay.specs.Replies.{fresh, wiped}

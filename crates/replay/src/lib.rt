@@ -11,7 +11,6 @@ ghost use lib.ListN.{length};
 ghost use Rattle.semantics.specs.Runs.{start as beginning};
 ghost use Rattle.model.specs.Records.{programOf, questionOf};
 ghost use Rattle.model.specs.WellFormed.{WellFormed};
-ghost use Rattle.session.specs.Sessions.{Fits};
 ghost use Rattle.session.specs.Replays.{Replays};
 ghost use Rattle.replay.specs.Replies.{fresh, PlaceReply, wiped};
 

@@ -1,14 +1,14 @@
 -- A run has one answer. It is kept exactly if its places are a kept run, and broken at exactly the first place that is not allowed.
 use mathlib.Core.Path.{_≡_, refl, sym, ap, ap₂, _∙_, subst}
-use mathlib.Core.Logic.{_⊎_, inl, inr, ⊎-elim, _↔_, _≢_}
-use mathlib.Core.List.{List, [], _∷_, map}
+use mathlib.Core.Logic.{inl, inr, _↔_, _≢_}
+use mathlib.Core.List.{List, [], _∷_}
 use mathlib.Core.Option.{Option, some, Option·some-injective}
 use Prim.Native.Nat.{ℕ, zero, suc, _+_, _≤_}
 use native.Mathlib.Omega.{arith}
 use lib.ListN.{length, take, drop}
 use Rattle.semantics.specs.Models.{Program, Question}
 use Rattle.semantics.specs.Runs as runs
-use Rattle.semantics.specs.Runs.{Session, start, Allowed, after, Plays}
+use Rattle.semantics.specs.Runs.{Session, start, after, Plays}
 use Rattle.semantics.proofs.Leads.{Leads}
 use Rattle.model.specs.Places.{placeOf}
 use Rattle.session.specs.declared.Answer.{Answer}

@@ -1,13 +1,13 @@
 -- What a place makes of the replay's state is what the semantics make of it, and it fits the text again.
-use mathlib.Core.Path.{_≡_, refl, sym, ap, _∙_, subst, fun-ext}
-use mathlib.Core.Logic.{_⊎_, inl, inr, ⊎-elim, _≢_}
-use mathlib.Core.Bool.{Bool, true, false, cond, not, _&&_, _||_, and-eq-true-iff}
+use mathlib.Core.Path.{_≡_, sym, ap, _∙_, subst, fun-ext}
+use mathlib.Core.Logic.{inl, inr, ⊎-elim, _≢_}
+use mathlib.Core.Bool.{true, false, cond, not, _&&_, _||_, and-eq-true-iff}
 use mathlib.Core.List.{List, [], _∷_, _++_}
-use mathlib.Core.Option.{Option, none, some}
-use Prim.Native.Nat.{ℕ, suc, _+_, _^_, _≤_, _<_}
+use mathlib.Core.Option.{none, some}
+use Prim.Native.Nat.{ℕ, _+_, _<_}
 use native.Mathlib.Omega.{arith}
 use native.Mathlib.Numerals.{add-one}
-use borrow.Author.Tests.{eqb-true, eqb-false, ne-eqb, eq-eqb}
+use borrow.Author.Tests.{eqb-true, eqb-false, ne-eqb}
 use lib.Dec.{eqb}
 use lib.ListN.{length, take, set, getD}
 use lib.Seq.{length-take-le, take-suc-set, take-set-lt, getD-take, getD-set-same, getD-set-other}
@@ -17,7 +17,7 @@ use Rattle.semantics.specs.Facts.{Database, state}
 use Rattle.semantics.specs.Steps.{Enabled, execute}
 use Rattle.semantics.specs.Runs as runs
 use Rattle.semantics.specs.Runs.{step, meet, named, Allowed, after}
-use Rattle.semantics.proofs.Tools.{either, same?, clash, or-true-cases, and-false}
+use Rattle.semantics.proofs.Tools.{either, same?, or-true-cases, and-false}
 use Rattle.semantics.proofs.Sets.{has-relabel}
 use Rattle.model.specs.declared.Action.{Action}
 use Rattle.model.specs.declared.Action.the-variants.{Rule, New, Next}
@@ -28,7 +28,7 @@ use Rattle.model.specs.WellFormed.{declaredIn, GoodAction, WellFormed}
 use Rattle.model.proofs.Lines.{every-line}
 use Rattle.model.proofs.Accepted.{stages}
 use Rattle.session.specs.declared.Session.{Session}
-use Rattle.session.specs.Sessions.{optional, sessionOf, stateIn, Fits, created, relabeled, stepped, carriedBy, taken}
+use Rattle.session.specs.Sessions.{optional, sessionOf, stateIn, Fits, created, stepped, carriedBy, taken}
 use Rattle.session.proofs.Relations.{Among, among-below}
 
 -- the sets of a line have declared relations only

@@ -1,9 +1,9 @@
 -- A set whose relations are among the first n is a number below 2 ^ n, and the other way round.
 use mathlib.Core.Path.{_≡_, sym, _∙_}
 use mathlib.Core.Logic.{⊎-elim}
-use mathlib.Core.Bool.{true, false}
+use mathlib.Core.Bool.{true}
 use mathlib.Core.List.{List, [], _∷_}
-use Prim.Native.Nat.{ℕ, suc, _+_, _*_, _^_, _/_, _≤_, _<_}
+use Prim.Native.Nat.{ℕ, suc, _+_, _^_, _/_, _≤_, _<_}
 use native.Mathlib.Omega.{arith}
 use native.Mathlib.Decide.{decLe}
 use native.Mathlib.Nat.{div-div-eq-div-mul, div-lt-iff-lt-mul}

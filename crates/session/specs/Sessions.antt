@@ -6,7 +6,7 @@ use mathlib.Core.List.{List, []}
 use mathlib.Core.Option.{Option, none, some}
 use Prim.Native.Nat.{ℕ, _+_, _≤_, _<_}
 use lib.Dec.{eqb}
-use lib.ListN.{length, take, set, getD}
+use lib.ListN.{take, set, getD}
 use Rattle.semantics.specs.Labels.{has, relabel}
 use Rattle.semantics.specs.Models.{elem, Body, Line, rule, new, next, other, line, vars}
 use Rattle.semantics.specs.Runs as runs

@@ -4,7 +4,7 @@ use model::Relations;
 ghost use mathlib.Core.Path.{_≡_};
 ghost use mathlib.Core.Bool.{true};
 ghost use Prim.Native.Nat.{ℕ, _≤_, _<_};
-ghost use lib.ListN.{length, take};
+ghost use lib.ListN.{take};
 ghost use Rattle.semantics.specs.Labels.{has};
 ghost use Rattle.model.specs.WellFormed.{inClass, WellFormed};
 ghost use Rattle.session.specs.Sessions.{Says, stateIn, Fits, created, relabeled, met as stageMet};

@@ -1,4 +1,4 @@
-use mathlib.Core.Path.{_≡_, subst}
+use mathlib.Core.Path.{subst}
 use Rattle.model.specs.declared.Action.the-variants.{New}
 use Rattle.model.specs.Records.{clauseBody, clauseAt}
 use Rattle.model.proofs.Accepted.{clause-body}
