@@ -23,10 +23,10 @@ use Rattle.scope.specs.declared.Scope.{Scope}
 
 -- PLACES IN A ROW
 module _ (w : Word) (f : ℕ → Word) where
-  member-more : (i : ℕ) → member w (listOf i f) ≡ false → same w (f i) ≡ false → member w (listOf (i + 1) f) ≡ false
+  pub member-more : (i : ℕ) → member w (listOf i f) ≡ false → same w (f i) ≡ false → member w (listOf (i + 1) f) ≡ false
   member-more i e q = rw (add-one, member-append w (listOf i f) (f i ∷ []), e, q)
 
-  place-listOf : (n i : ℕ) → i < n → member w (listOf i f) ≡ false → same w (f i) ≡ true → place (listOf n f) w ≡ i
+  pub place-listOf : (n i : ℕ) → i < n → member w (listOf i f) ≡ false → same w (f i) ≡ true → place (listOf n f) w ≡ i
   unfolding place
   place-listOf zero i h e q = absurd (omega arith)
   place-listOf (suc n) i h e q = ⊎-elim
