@@ -87,6 +87,7 @@ module _ {text : List ℕ} {t : Table} {s : Scope} {u : Table} {numbers : List �
   pub numbered-all : j ≡ s .count → Numbers text t (scopes.knownOf text s) (record { table = u; numbers = numbers })
   unfolding scopes.knownOf
   numbered-all e = record {
+    few = rw (length-listOf (s .count) (scopes.variable text s)) (rw e at (so .few));
     holds = λ ws o. rw (← e) (so .holds ws o);
     numbers = λ ws o. rw (length-listOf (s .count) (scopes.variable text s)) (rw e at (so .numbers ws o));
     room = so .room;

@@ -59,6 +59,7 @@ pub record Holds (text : List ℕ) (t : Table) (ws : List Word) : Type 0 where
 
 -- the words own more, and their numbers
 pub record Numbers (text : List ℕ) (t : Table) (own : List Word) (r : Numbering) : Type 0 where
+  pub few : r .table .count ≤ t .count + length own
   pub holds : (ws : List Word) → Holds text t ws → Holds text (r .table) (ws ++ own)
   pub numbers : (ws : List Word) → Holds text t ws → take (length own) (r .numbers) ≡ map (place (extend [] (ws ++ own))) own
   pub room : length (r .numbers) ≡ 3
