@@ -1,37 +1,33 @@
 -- The `ask` line as a whole: its first stage, the others, and its row number.
-use mathlib.Core.Path.{_≡_, refl, sym, ap, _∙_, subst}
+use mathlib.Core.Path.{_≡_, refl, sym, ap, _∙_}
 use mathlib.Core.Logic.{_⊎_, ⊎-elim, inl, inr}
 use mathlib.Core.Bool.{Bool, true, false, not, _&&_}
-use mathlib.Core.List.{List, [], _∷_, _++_, map}
-use mathlib.Core.Option.{none, some}
-use Prim.Native.Nat.{ℕ, _+_, _≤_, _<_}
+use mathlib.Core.List.{List, [], _∷_}
+use mathlib.Core.Option.{none}
+use Prim.Native.Nat.{ℕ, _≤_, _<_}
 use native.Mathlib.Omega.{arith}
 use lib.Dec.{eqb}
 use lib.ListN.{length, take, drop, length-map}
-use borrow.Author.Tests.{eqb-true, eqb-false, eq-eqb, ne-eqb}
+use borrow.Author.Tests.{eqb-true, eqb-false}
 use Rattle.model.specs.Records as model
 use Rattle.model.specs.declared.Model.{Model}
 use Rattle.grammar.specs.Bytes.{Word}
 use Rattle.grammar.specs.Forms as forms
-use Rattle.grammar.specs.Shapes.{Read, rest, stage, askRest, whole}
+use Rattle.grammar.specs.Shapes.{Read, stage, askRest, whole}
 use Rattle.grammar.specs.Declarations.{Declared, extend}
 use Rattle.grammar.specs.Rows.{lower, row, bodyFault, supported, few, scopeFault, stagesFault, carriesMany, fault}
 use Rattle.grammar.specs.Models.{bodyOf, questionOf}
 use Rattle.grammar.proofs.Tests.{either}
 use Rattle.grammar.proofs.Lower.{lower-first, lower-bound, lower-under}
-use Rattle.acceptance.specs.Sound.{carriedOf}
-use Rattle.acceptance.specs.Represents.{HoldsStage}
 use Rattle.acceptance.proofs.Questions.{askWords}
 use Rattle.acceptance.proofs.Stages.{firstNumber, carried-number}
-use Rattle.acceptance.proofs.Growth.{Keeps}
-use Rattle.frame.specs.Frames as frames
 use Rattle.frame.proofs.Adding.{body-bound}
 use Rattle.body.specs.declared.Body.{Body}
 use Rattle.clause.proofs.Laws.{Row, lower-row, row-row, body-row, row-bound, whole-all, whole-part}
 use Rattle.asking.specs.Asking as asking
 use Rattle.asking.specs.declared.Table.{Table}
 use Rattle.asking.proofs.Stages.{each, each-words, carries}
-use Rattle.question.specs.Questions.{Empty, Stored, Holds, Addable, Added}
+use Rattle.question.specs.Questions.{Empty, Stored, Holds, Added}
 use Rattle.question.specs.declared.Asking.{Asking}
 use Rattle.ask.specs.Asks.{StagesEnd, carrying, finished, Asks, AskEnd}
 use Rattle.ask.specs.declared.Stages.{Stages}
@@ -150,7 +146,7 @@ module _ {text : List ℕ} {D : Declared} {m₀ : Model} {qs : List (List forms.
         (either (eqb (s .number) 0))
 
 -- THE LINE
-pub no-ask : {text : List ℕ} {D : Declared} {m₀ m : Model} {read : Read forms.Form} → whole read ≡ none → AskEnd text D m₀ read (record { number = 3; model = m })
+pub no-ask : {D : Declared} {m₀ m : Model} {read : Read forms.Form} → whole read ≡ none → AskEnd D m₀ read (record { number = 3; model = m })
 no-ask h = record { missing = λ y. h; found = λ y. absurd (y refl) }
 
 pub ask-unopened : (text : List ℕ) (at : ℕ) → stage (drop at text) ≡ none → whole (askRest (drop at text)) ≡ none
@@ -168,7 +164,7 @@ module _ {text : List ℕ} {D : Declared} {m : Model} {at : ℕ} {b : Body} {s f
       (λ (q : eqb (r .end) 0 ≡ false). let w = others .found (eqb-false (r .end) 0 q) in rw (first .3, w .3) (whole-part (forms.askForm (first .0 ∷ w .0)) text (r .end) (let y = w .1 in omega arith)))
       (either (eqb (r .end) 0))
 
-  pub ask-ended : {g : Asked} → Empty m → 0 < length text → r .end ≡ length text → g ≡ finished (r .asking) → AskEnd text D m (askRest (drop at text)) g
+  pub ask-ended : {g : Asked} → Empty m → 0 < length text → r .end ≡ length text → g ≡ finished (r .asking) → AskEnd D m (askRest (drop at text)) g
   unfolding askRest
   ask-ended empty long z e =
       let w = others .found (λ y. absurd (omega arith)) in

@@ -1,5 +1,5 @@
 -- Laws of the reader of the `ask` line.
-use mathlib.Core.Path.{_≡_, refl, sym, ap, _∙_}
+use mathlib.Core.Path.{_≡_, refl}
 use mathlib.Core.List.{List, [], _∷_, _++_, append-nil, append-assoc}
 use mathlib.Core.Option.{none, some}
 use Prim.Native.Nat.{ℕ, _+_, _-_, _≤_, _<_}
@@ -10,14 +10,13 @@ use Rattle.grammar.specs.Bytes.{bytes}
 use Rattle.grammar.specs.Forms as forms
 use Rattle.grammar.specs.Shapes.{after, rest, stage}
 use Rattle.grammar.specs.Declarations.{Declared}
-use Rattle.grammar.proofs.Reading.{Reading, reading-start, reading-more, reading-closed, reading-full, reading-ends, reading-fails}
+use Rattle.grammar.proofs.Reading.{Reading, reading-start, reading-more, reading-closed}
 use Rattle.frame.specs.Frames as frames
 use Rattle.body.specs.declared.Body.{Body}
 use Rattle.question.specs.Questions as questions
 use Rattle.question.specs.Questions.{Addable, Added}
 use Rattle.question.specs.declared.Asking.{Asking}
 use Rattle.ask.specs.Asks.{Extends, StagesEnd}
-use Rattle.ask.specs.declared.Stages.{Stages}
 
 -- READING STAGES
 pub record StagesSo (text : List ℕ) (D : Declared) (at n : ℕ) (s g : Asking) (i k : ℕ) : Type 0 where

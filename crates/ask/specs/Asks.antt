@@ -1,7 +1,7 @@
 -- What the reader of the `ask` line finds.
 use mathlib.Core.Path.{_≡_}
 use mathlib.Core.Bool.{cond}
-use mathlib.Core.List.{List, [], _∷_, _++_}
+use mathlib.Core.List.{List, _++_}
 use mathlib.Core.Option.{none, some}
 use Prim.Native.Nat.{ℕ, _+_, _≤_, _<_}
 use lib.Dec.{eqb}
@@ -73,7 +73,7 @@ pub record Asks (D : Declared) (m₀ : Model) (qs : List (List forms.Literal)) (
   pub stages : length (m .stages) ≡ 4
 
 -- the `ask` line that is read, after the declarations D
-pub record AskEnd (text : List ℕ) (D : Declared) (m₀ : Model) (read : Read forms.Form) (r : Asked) : Type 0 where
+pub record AskEnd (D : Declared) (m₀ : Model) (read : Read forms.Form) (r : Asked) : Type 0 where
   pub missing : r .number ≡ 3 → whole read ≡ none
   pub found : (r .number ≡ 3 → ⊥)
       → (qs : List (List forms.Literal)) × (whole read ≡ some (forms.askForm qs)) × ((clauses : ℕ) → r .number ≡ fault D clauses (forms.askForm qs)) × (r .number ≡ 0 → Asks D m₀ qs (r .model))

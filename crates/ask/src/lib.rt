@@ -90,7 +90,7 @@ fn finish(s: Asking) -> Asked
 // `(ask (L ..) (L ..))`, in a record without stages.
 pub fn read_ask(text: &[u8], d: Declared, at: usize, m: Model) -> Asked
     requires { ⌜ (at ≤ length (now text)) × (0 < at) × (length (now text) < 4294967296) × names.Valid (now text) d × questions.Empty m ⌝ }
-    ensures { λ r. ⌜ AskEnd (now (text .entry)) (names.declaredOf (now (text .entry)) d) m (askRest (drop at (now (text .entry)))) r ⌝ }
+    ensures { λ r. ⌜ AskEnd (names.declaredOf (now (text .entry)) d) m (askRest (drop at (now (text .entry)))) r ⌝ }
 {
     let b = body::read_stage(text, d, at);
     let e = b.end;

@@ -1,17 +1,16 @@
 -- The variables of a stage, entered one after the other.
-use mathlib.Core.Path.{_≡_, refl, sym, ap, _∙_, subst}
+use mathlib.Core.Path.{_≡_, refl, ap, _∙_}
 use mathlib.Core.Logic.{⊎-elim}
 use mathlib.Core.Bool.{true, false}
 use mathlib.Core.List.{List, [], _∷_, _++_, map, map-append, append-nil, append-assoc}
-use Prim.Native.Nat.{ℕ, suc, _+_, _≤_, _<_}
+use Prim.Native.Nat.{ℕ, _+_, _≤_, _<_}
 use native.Mathlib.Numerals.{add-one}
 use native.Mathlib.Omega.{arith}
 use lib.Dec.{ltb, eqb}
 use lib.ListN.{length, take, getD, set, length-set}
-use lib.Seq.{slice, take-suc-set}
-use borrow.Author.Tests.{lt-ltb, le-ltb, ltb-true, ltb-false}
+use lib.Seq.{take-suc-set}
 use Rattle.grammar.specs.Bytes.{Word}
-use Rattle.grammar.specs.Declarations.{member, extend, place}
+use Rattle.grammar.specs.Declarations.{extend, place}
 use Rattle.grammar.proofs.Tests.{either}
 use Rattle.grammar.proofs.Words.{member-right, extend-append, extend-new, place-le, place-own}
 use Rattle.grammar.proofs.Bodies.{numbers-stable}
@@ -19,9 +18,8 @@ use Rattle.names.specs.Rows.{listOf}
 use Rattle.names.proofs.Laws.{length-listOf}
 use Rattle.scope.specs.Scopes as scopes
 use Rattle.scope.specs.declared.Scope.{Scope}
-use Rattle.asking.specs.Asking.{knownOf, Valid, again, met, Holds, Numbers}
+use Rattle.asking.specs.Asking.{knownOf, Valid, met, Holds, Numbers}
 use Rattle.asking.specs.declared.Table.{Table}
-use Rattle.asking.specs.declared.Numbering.{Numbering}
 use Rattle.asking.proofs.Laws.{counted, met-holds}
 
 met-count : (t : Table) (i a e : ℕ) → i ≤ t .count → met t i a e .count ≤ t .count + 1

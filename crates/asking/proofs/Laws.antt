@@ -1,22 +1,20 @@
 -- Laws of the table of the `ask` line's variables.
 use mathlib.Core.Path.{_≡_, refl, sym, ap, _∙_, subst}
 use mathlib.Core.Logic.{⊎-elim}
-use mathlib.Core.Bool.{Bool, true, false, cond, not, _&&_, _||_, and-true, and-false, and-assoc, false≢true}
-use mathlib.Core.List.{List, [], _∷_, _++_, map, append-nil}
-use Prim.Native.Nat.{ℕ, zero, suc, _+_, _-_, _≤_, _<_}
+use mathlib.Core.Bool.{Bool, true, false, cond, _&&_, and-true, and-false, and-assoc, false≢true}
+use mathlib.Core.List.{List, [], _∷_, _++_, append-nil}
+use Prim.Native.Nat.{ℕ, _+_, _-_, _≤_, _<_}
 use native.Mathlib.Numerals.{add-one}
 use native.Mathlib.Omega.{arith}
-use lib.Dec.{eqb, ltb}
-use lib.ListN.{length, take, drop, getD, set, length-set}
+use lib.Dec.{eqb}
+use lib.ListN.{length, take, drop, getD, length-set}
 use lib.Seq.{slice, getD-set-same, getD-set-other}
 use borrow.Author.Tests.{eqb-true, eqb-false, eq-eqb, ne-eqb, lt-ltb, le-ltb}
-use Rattle.semantics.proofs.Tools.{or-true-cases, or-right}
 use Rattle.grammar.specs.Bytes.{Word, same}
 use Rattle.grammar.specs.Forms.{all}
 use Rattle.grammar.specs.Declarations.{member, extend, place}
-use Rattle.grammar.proofs.Tests.{either, clash}
+use Rattle.grammar.proofs.Tests.{either}
 use Rattle.grammar.proofs.Words.{same-refl, same-eq, same-sym, place-hit, place-none, place-below, extend-append, extend-old}
-use Rattle.acceptance.proofs.Words.{member-cases}
 use Rattle.acceptance.proofs.Questions.{number-same}
 use Rattle.acceptance.proofs.Stages.{firstNumber}
 use Rattle.scan.proofs.Laws.{slice-part}

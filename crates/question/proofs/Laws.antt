@@ -1,19 +1,19 @@
 -- One stage more is stored, and those before it stay.
-use mathlib.Core.Path.{_≡_, refl, sym, ap, _∙_, subst}
+use mathlib.Core.Path.{_≡_, refl, sym, ap, _∙_}
 use mathlib.Core.Logic.{⊎-elim}
 use mathlib.Core.Bool.{true, false}
 use mathlib.Core.List.{List, [], _∷_, _++_, map, map-append, append-nil, append-assoc}
-use Prim.Native.Nat.{ℕ, suc, _+_, _*_, _≤_, _<_}
+use Prim.Native.Nat.{ℕ, _+_, _≤_, _<_}
 use native.Mathlib.Numerals.{add-one}
 use native.Mathlib.Omega.{arith}
 use lib.Dec.{eqb}
-use lib.ListN.{length, take, drop, getD, set, length-set, length-append}
-use lib.Seq.{paste, length-paste, take-set-le, getD-set-same, take-take}
+use lib.ListN.{length, take, length-set, length-append}
+use lib.Seq.{length-paste, take-set-le, getD-set-same, take-take}
 use borrow.Author.Tests.{eqb-true, eqb-false}
 use Rattle.semantics.specs.Models as meaning
 use Rattle.model.specs.Literals.{literalOf}
 use Rattle.model.specs.Records as model
-use Rattle.model.specs.Records.{stageBody, stageOf, stageAt}
+use Rattle.model.specs.Records.{stageBody, stageAt}
 use Rattle.model.specs.declared.Model.{Model}
 use Rattle.grammar.specs.Bytes.{Word}
 use Rattle.grammar.specs.Forms as forms
@@ -22,7 +22,7 @@ use Rattle.grammar.specs.Rows.{lower, bodyFault, scopeFault, stagesFault}
 use Rattle.grammar.specs.Models.{bodyOf, questionOf}
 use Rattle.grammar.proofs.Tests.{either}
 use Rattle.grammar.proofs.Words.{member-left, member-right, extend-append, extend-new}
-use Rattle.grammar.proofs.Lower.{lower-first, lower-second, lower-assoc, lower-none}
+use Rattle.grammar.proofs.Lower.{lower-first, lower-second, lower-assoc}
 use Rattle.grammar.proofs.Bodies.{body-stable}
 use Rattle.acceptance.specs.Represents.{HoldsStage}
 use Rattle.acceptance.proofs.Questions.{askWords, Within}

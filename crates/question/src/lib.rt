@@ -1,8 +1,6 @@
 // The `ask` line of the bracket text: its stages are read and stored in the model record.
 ghost use mathlib.Core.Path.{_≡_};
-ghost use mathlib.Core.List.{List};
 ghost use Prim.Native.Nat.{_+_, _≤_, _<_};
-ghost use lib.ListN.{length};
 ghost use Rattle.question.specs.Questions.{withStage, Addable, Added};
 use asking::Table;
 use body::Body;

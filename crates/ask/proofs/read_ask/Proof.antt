@@ -1,4 +1,4 @@
-use mathlib.Core.List.{List, [], _∷_}
+use mathlib.Core.List.{[], _∷_}
 use native.Mathlib.Omega.{arith}
 use denote.Ref.{now}
 use Rattle.ask.proofs.Ending.{no-words, none-held, no-ask, ask-unopened, ask-unended, ask-ended}

@@ -1,7 +1,6 @@
 use mathlib.Core.List.{List}
-use Prim.Native.Nat.{ℕ, _+_, _≤_, _<_}
+use Prim.Native.Nat.{_+_, _≤_, _<_}
 use native.Mathlib.Omega.{arith}
-use denote.Ref.{now}
 use lib.ListN.{length}
 use Rattle.grammar.specs.Forms as forms
 use Rattle.grammar.proofs.Reading.{reading-full, reading-ends, reading-fails}
