@@ -1,0 +1,160 @@
+-- Laws of lines.
+use mathlib.Core.Path.{_≡_, refl, sym, ap, _∙_, subst}
+use mathlib.Core.Logic.{⊎-elim}
+use mathlib.Core.Bool.{Bool, true, false, cond}
+use mathlib.Core.List.{List, [], _∷_, _++_, append-nil}
+use mathlib.Core.Option.{Option, none, some}
+use Prim.Native.Nat.{ℕ, _+_, _≤_, _<_}
+use native.Mathlib.Omega.{arith}
+use lib.Dec.{leb}
+use lib.ListN.{length, drop}
+use borrow.Author.Tests.{leb-false}
+use Rattle.semantics.specs.Models as meaning
+use Rattle.semantics.specs.Models.{Program}
+use Rattle.model.specs.Records.{lineOf}
+use Rattle.model.specs.declared.Model.{Model}
+use Rattle.grammar.specs.Bytes.{bytes, Word}
+use Rattle.grammar.specs.Forms.{Form, stateForm, relForm, ruleForm, newForm, nextForm, askForm}
+use Rattle.grammar.specs.Shapes.{Read, _>>=_, after, name, arity, whole, line, stateRest, relRest, ruleRest, newRest, nextRest, askRest}
+use Rattle.grammar.specs.Rows.{lower, row, manyClauses, fault}
+use Rattle.grammar.specs.Declarations as grammar
+use Rattle.grammar.specs.Models.{declare, clause}
+use Rattle.grammar.proofs.Tests.{either}
+use Rattle.grammar.proofs.Lower.{lower-none}
+use Rattle.names.specs.Names.{Valid, declaredOf}
+use Rattle.names.specs.declared.Declared.{Declared}
+use Rattle.declare.specs.Declares.{Limited, DeclarationEnd}
+use Rattle.declare.specs.declared.Declaration.{Declaration}
+use Rattle.clause.specs.Clauses.{ClauseEnd, bodyIn}
+use Rattle.clause.specs.declared.Reading.{Reading}
+use Rattle.store.specs.Stored as stored
+use Rattle.store.specs.Stored.{withClause}
+use Rattle.store.proofs.Laws.{stored-room, stored as stored-law}
+use Rattle.line.specs.Lines.{Stepped, LineEnd}
+use Rattle.line.specs.declared.Step.{Step}
+
+-- A FORM THAT ADDS A CLAUSE leaves the declarations, and there was room for it
+none-some : {A B : Type 0} {x : A} {xs : List A} → _≡_ {A = List A} [] (x ∷ xs) → B
+none-some e = absurd (let z : _≡_ {A = ℕ} 0 1 = cc in omega arith)
+
+row-four : (k : ℕ) → row 4 (manyClauses k) ≡ 0 → k < 64
+row-four k e = ⊎-elim (λ (q : leb 64 k ≡ true). absurd (let g = rw q at e in omega arith)) (λ (q : leb 64 k ≡ false). leb-false 64 k q) (either (leb 64 k))
+
+clause-form : (D : grammar.Declared) (k n : ℕ) (l : meaning.Line) (f : Form) → fault D k f ≡ 0 → clause D n f ≡ (n, l) ∷ [] → (k < 64) × (declare D f ≡ D)
+unfolding fault clause declare
+clause-form D k n l (stateForm w) e c = none-some c
+clause-form D k n l (relForm w a) e c = none-some c
+clause-form D k n l (ruleForm h b) e c = (row-four k (lower-none (row 4 (manyClauses k)) _ e .0), refl)
+clause-form D k n l (newForm w b) e c = (row-four k (lower-none (row 4 (manyClauses k)) _ e .0), refl)
+clause-form D k n l (nextForm x p q b) e c = (row-four k (lower-none (row 4 (manyClauses k)) _ e .0), refl)
+clause-form D k n l (askForm qs) e c = none-some c
+
+module _ {text : List ℕ} {d : Declared} {m : Model} {P : Program} (n : ℕ) {read : Read Form} {r : Reading} (so : stored.Holds m P) (v : Valid text d) (li : Limited d)
+    (c : ClauseEnd text (declaredOf text d) (m .clausecount) read r) where
+  pub clause-refused : (r .number ≡ 0 → ⊥) → Stepped text d P n read (record { number = r .number; declared = d; model = m })
+  clause-refused z = record {
+    missing = λ y. c .missing y;
+    found = λ y. let w = c .found y in (w .0, w .1, w .2 ∙ ap (λ (k : ℕ). fault (declaredOf text d) k (w .0)) (so .count), λ x. absurd (z x))
+  }
+
+  module _ (z : r .number ≡ 0) where
+    abbrev fine : r .number ≡ 3 → ⊥
+    fine y = absurd (omega arith)
+
+    pub clause-room : (m .clausecount < 64) × (m .literalcount + r .frame .size ≤ 544) × (r .frame .size ≤ 8) × (r .frame .scope .count ≤ 3)
+    clause-room =
+        let w = c .found fine in
+        let g = w .3 z in
+        let q = clause-form (declaredOf text d) (m .clausecount) n (lineOf (r .action) (bodyIn (r .frame))) (w .0) (sym (w .2) ∙ z) (g .3 n) in
+        (q .0, stored-room m P n (r .action) (r .frame) so (q .0) (g .0) (g .1), g .0, g .2)
+
+    pub clause-accepted : Stepped text d P n read (record { number = r .number; declared = d; model = withClause m n (r .action) (r .frame) })
+    clause-accepted =
+        let w = c .found fine in
+        let g = w .3 z in
+        let q = clause-form (declaredOf text d) (m .clausecount) n (lineOf (r .action) (bodyIn (r .frame))) (w .0) (sym (w .2) ∙ z) (g .3 n) in
+        record {
+          missing = λ y. absurd (fine y);
+          found = λ y. (w .0, w .1, w .2 ∙ ap (λ (k : ℕ). fault (declaredOf text d) k (w .0)) (so .count), λ x. (v, li, sym (q .1), rw (g .3 n) (stored-law m P n (r .action) (r .frame) so (q .0) (g .0) (g .1))))
+        }
+
+-- A DECLARATION leaves the program
+pub declaration-step : {text : List ℕ} {d : Declared} {m : Model} {P : Program} {n : ℕ} {read : Read Form} {r : Declaration} → stored.Holds m P → DeclarationEnd text d read r
+    → ((f : Form) → whole read ≡ some f → clause (declaredOf text d) n f ≡ []) → Stepped text d P n read (record { number = r .number; declared = r .declared; model = m })
+declaration-step {P = P} so e h = record {
+  missing = λ y. e .missing y;
+  found = λ y. let w = e .found y in (w .0, w .1, w .2 (length P), λ x. let g = w .3 x in (g .0, g .1, g .2, rw (h (w .0) (w .1), append-nil P) so))
+}
+
+-- what a `state` or `rel` line reads is no clause
+some-form : {f g : Form} → _≡_ {A = Option Form} (some f) (some g) → f ≡ g
+some-form e = cc
+
+no-form : {A : Type 0} {f : Form} → _≡_ {A = Option Form} none (some f) → A
+no-form e = absurd (let z : _≡_ {A = ℕ} 0 1 = cc in omega arith)
+
+module _ (D : grammar.Declared) (n : ℕ) where
+  no-clause : (g : Form) → clause D n g ≡ [] → (o : Option (List ℕ)) (f : Form) → whole (o >>= λ u. some (g, u)) ≡ some f → clause D n f ≡ []
+  no-clause g h none f e = no-form e
+  no-clause g h (some []) f e = subst (λ (k : Form). clause D n k ≡ []) (some-form e) h
+  no-clause g h (some (b ∷ u)) f e = no-form e
+
+  pub state-only : (s : List ℕ) (f : Form) → whole (stateRest s) ≡ some f → clause D n f ≡ []
+  unfolding stateRest clause
+  state-only s f e = go (name s) e
+    where
+      go : (o : Read Word) → whole (o >>= λ p. after (bytes ")") (p .1) >>= λ u. some (stateForm (p .0), u)) ≡ some f → clause D n f ≡ []
+      go none e = no-form e
+      go (some p) e = no-clause (stateForm (p .0)) refl (after (bytes ")") (p .1)) f e
+
+  pub rel-only : (s : List ℕ) (f : Form) → whole (relRest s) ≡ some f → clause D n f ≡ []
+  unfolding relRest clause
+  rel-only s f e = go (name s) e
+    where
+      last : (w : Word) (o : Read ℕ) → whole (o >>= λ p. after (bytes ")") (p .1) >>= λ u. some (relForm w (p .0), u)) ≡ some f → clause D n f ≡ []
+      last w none e = no-form e
+      last w (some p) e = no-clause (relForm w (p .0)) refl (after (bytes ")") (p .1)) f e
+      mid : (w : Word) (o : Option (List ℕ)) → whole (o >>= λ t. arity t >>= λ p. after (bytes ")") (p .1) >>= λ u. some (relForm w (p .0), u)) ≡ some f → clause D n f ≡ []
+      mid w none e = no-form e
+      mid w (some t) e = last w (arity t) e
+      go : (o : Read Word) → whole (o >>= λ q. after (bytes " ") (q .1) >>= λ t. arity t >>= λ p. after (bytes ")") (p .1) >>= λ u. some (relForm (q .0) (p .0), u)) ≡ some f → clause D n f ≡ []
+      go none e = no-form e
+      go (some q) e = mid (q .0) (after (bytes " ") (q .1)) e
+
+-- BY THE FIRST WORD
+module _ (s : List ℕ) {t : List ℕ} where
+  pub line-state : after (bytes "(state ") s ≡ some t → line s ≡ stateRest t
+  unfolding line
+  line-state h = rw h
+
+  module _ (a : after (bytes "(state ") s ≡ none) where
+    pub line-rel : after (bytes "(rel ") s ≡ some t → line s ≡ relRest t
+    unfolding line
+    line-rel h = rw (a, h)
+
+    module _ (b : after (bytes "(rel ") s ≡ none) where
+      pub line-rule : after (bytes "(rule ") s ≡ some t → line s ≡ ruleRest t
+      unfolding line
+      line-rule h = rw (a, b, h)
+
+      module _ (c : after (bytes "(rule ") s ≡ none) where
+        pub line-new : after (bytes "(new ") s ≡ some t → line s ≡ newRest t
+        unfolding line
+        line-new h = rw (a, b, c, h)
+
+        pub line-next : after (bytes "(new ") s ≡ none → after (bytes "(next ") s ≡ some t → line s ≡ nextRest t
+        unfolding line
+        line-next e h = rw (a, b, c, e, h)
+
+pub line-none : (s : List ℕ) → after (bytes "(state ") s ≡ none → after (bytes "(rel ") s ≡ none → after (bytes "(rule ") s ≡ none → after (bytes "(new ") s ≡ none → after (bytes "(next ") s ≡ none
+    → after (bytes "(ask ") s ≡ none → line s ≡ none
+unfolding line
+line-none s a b c d e f = rw (a, b, c, d, e, f)
+
+-- the line with another word is judged by what follows the word
+pub line-steps : {text : List ℕ} {at : ℕ} {d : Declared} {m : Model} {n : ℕ} {r : Step} (read : Read Form) → line (drop at text) ≡ read
+    → ((P : Program) → stored.Holds m P → Stepped text d P n read r) → LineEnd text at d m n r
+line-steps read h k = record { steps = λ P so _. rw h (k P so) }
+
+pub no-line : {text : List ℕ} {at : ℕ} {d : Declared} {m : Model} {n : ℕ} {r : Step} → r .number ≡ 3 → (after (bytes "(ask ") (drop at text) ≡ none → line (drop at text) ≡ none) → LineEnd text at d m n r
+no-line z h = record { steps = λ P so a. record { missing = λ y. rw (h a); found = λ y. absurd (y z) } }

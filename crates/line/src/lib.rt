@@ -1,0 +1,89 @@
+// One line of the bracket text that is no `ask` line.
+ghost use mathlib.Core.Path.{_≡_};
+ghost use mathlib.Core.List.{List};
+ghost use mathlib.Core.Option.{none};
+ghost use Prim.Native.Nat.{ℕ, _+_, _≤_, _<_};
+ghost use lib.ListN.{length, drop};
+ghost use Rattle.semantics.specs.Models.{Program};
+ghost use Rattle.grammar.specs.Bytes.{bytes};
+ghost use Rattle.grammar.specs.Shapes.{Read};
+ghost use Rattle.grammar.specs.Forms.{Form};
+ghost use Rattle.names.specs.Names as names;
+ghost use Rattle.clause.specs.Clauses.{ClauseEnd};
+ghost use Rattle.declare.specs.Declares.{Limited};
+ghost use Rattle.store.specs.Stored as stored;
+ghost use Rattle.line.specs.Lines.{Stepped, LineEnd};
+
+use clause::Reading;
+use model::Model;
+use names::Declared;
+
+// The line's row number, 3 if it has no shape and 0 if it is accepted, and the declarations and the model with it.
+pub struct Step {
+    pub number: u32,
+    pub declared: Declared,
+    pub model: Model,
+}
+
+// A clause that was read is stored, if it is accepted.
+fn store_clause(text: &[u8], d: Declared, m: Model, line: u32, r: Reading) -> Step
+    requires { ⌜ ((P : Program) × (read : Read Form) × stored.Holds m P × names.Valid (now text) d × Limited d × ClauseEnd (now text) (names.declaredOf (now text) d) (m .clausecount) read r) ⌝ }
+    ensures { λ s. ⌜ ((P : Program) (read : Read Form) → stored.Holds m P → names.Valid (now (text .entry)) d → Limited d
+        → ClauseEnd (now (text .entry)) (names.declaredOf (now (text .entry)) d) (m .clausecount) read r → Stepped (now (text .entry)) d P line read s) ⌝ }
+{
+    let number = r.number;
+    if number != 0 {
+        return Step {
+            number,
+            declared: d,
+            model: m,
+        };
+    }
+    let action = r.action;
+    let f = r.frame;
+    let n = store::add_clause(m, line, action, f);
+    Step {
+        number,
+        declared: d,
+        model: n,
+    }
+}
+
+// The line that is next, up to the end of the text.
+pub fn read_line(text: &[u8], at: usize, d: Declared, m: Model, line: u32) -> Step
+    requires { ⌜ (at ≤ length (now text)) × (length (now text) < 4294967296) × names.Valid (now text) d × Limited d × ((P : Program) × stored.Holds m P) ⌝ }
+    ensures { λ r. ⌜ LineEnd (now (text .entry)) at d m line r ⌝ }
+{
+    if scan::at_bytes(text, at, b"(state ") {
+        let r = declare::read_state(text, d, at + 7);
+        let e = r.declared;
+        return Step {
+            number: r.number,
+            declared: e,
+            model: m,
+        };
+    }
+    if scan::at_bytes(text, at, b"(rel ") {
+        let r = declare::read_rel(text, d, at + 5);
+        let e = r.declared;
+        return Step {
+            number: r.number,
+            declared: e,
+            model: m,
+        };
+    }
+    if scan::at_bytes(text, at, b"(rule ") {
+        return store_clause(text, d, m, line, clause::read_rule(text, d, at + 6, m.clausecount));
+    }
+    if scan::at_bytes(text, at, b"(new ") {
+        return store_clause(text, d, m, line, clause::read_new(text, d, at + 5, m.clausecount));
+    }
+    if scan::at_bytes(text, at, b"(next ") {
+        return store_clause(text, d, m, line, clause::read_next(text, d, at + 6, m.clausecount));
+    }
+    Step {
+        number: 3,
+        declared: d,
+        model: m,
+    }
+}
