@@ -3,22 +3,22 @@ use mathlib.Core.Path.{_≡_, refl, sym, ap, _∙_, subst}
 use mathlib.Core.Logic.{_⊎_, inl, inr, ⊎-elim, _≢_}
 use mathlib.Core.Bool.{true, false, true≢false}
 use mathlib.Core.List.{List, [], _∷_, _++_, append-nil, append-assoc}
-use mathlib.Core.Option.{Option, none, some}
+use mathlib.Core.Option.{Option, none}
 use Prim.Native.Nat.{ℕ, zero, suc, _+_, _≤_, _<_}
 use native.Mathlib.Omega.{arith}
 use native.Mathlib.Numerals.{add-one}
 use lib.ListN.{length, getD, length-append, List·getD-append}
-use Rattle.semantics.specs.Models.{elem, vars, Program, line, Question}
-use Rattle.semantics.specs.Facts.{Database, state, Meets}
+use Rattle.semantics.specs.Models.{elem, Program, line, Question}
+use Rattle.semantics.specs.Facts.{Database}
 use Rattle.semantics.specs.Tables.{Rows, entry, Entry, Moves, Hands}
 use Rattle.semantics.proofs.Tools.{same?, clash, seat, seat-ok}
 use Rattle.states.proofs.Seats.{seat-in, seat-out}
 use Rattle.entries.specs.declared.Levels.{Levels}
-use Rattle.entries.specs.Entries.{entryOf, count, numbers, rowsOf, arrivalOf, Brings, Listed, Proper, spare, added, appended}
+use Rattle.entries.specs.Entries.{entryOf, count, numbers, rowsOf, arrivalOf, Brings, Proper, spare, added, appended}
 use Rattle.entries.proofs.Blocks.{length-numbers, length-rows, room, rows-here, rows-there}
 use Rattle.entries.proofs.Laws.{added-fresh, proper-added, founded-added, spare-appended, entry-at}
 use Rattle.carry.specs.declared.Carried.{Carried}
-use Rattle.carry.specs.Carry.{Real, Has, left, Goes, FindsEntry, MovesAt, MovesTo, StandsFor, HandsOn}
+use Rattle.carry.specs.Carry.{Has, Goes, FindsEntry, MovesAt, MovesTo, StandsFor, HandsOn}
 
 -- an entry stays
 entry-longer : (rows rows′ : Rows) → ((k : ℕ) → (more : List (Option ℕ)) × (rows′ k ≡ rows k ++ more)) → (k : ℕ) (c : Option ℕ) → Entry rows k c → Entry rows′ k c

@@ -1,23 +1,22 @@
 -- The levels' blocks of numbers, and what adding an entry does to them.
-use mathlib.Core.Path.{_≡_, refl, sym, ap, _∙_, subst}
+use mathlib.Core.Path.{_≡_, refl, ap, _∙_, subst}
 use mathlib.Core.Logic.{_⊎_, inl, inr, ⊎-elim, _≢_}
-use mathlib.Core.Bool.{Bool, true, false, false≢true}
+use mathlib.Core.Bool.{true, false, false≢true}
 use mathlib.Core.List.{List, [], _∷_, _++_, map}
-use mathlib.Core.Option.{Option, none, some}
-use Prim.Native.Nat.{ℕ, zero, suc, _+_, _-_, _*_, _≤_, _<_}
+use mathlib.Core.Option.{Option}
+use Prim.Native.Nat.{ℕ, suc, _+_, _-_, _*_, _≤_, _<_}
 use native.Mathlib.Omega.{arith}
 use native.Mathlib.Decide.{decLe}
 use native.Mathlib.Numerals.{add-one}
-use native.Mathlib.Nat.{not-suc-le-zero}
 use borrow.Author.Tests.{eqb-true}
 use lib.Dec.{eqb}
-use lib.ListN.{length, take, drop, getD, set, length-set, length-drop, length-map, List·getD-eq-default}
+use lib.ListN.{length, take, drop, set, length-set, length-drop, length-map, List·getD-eq-default}
 use lib.Seq.{length-take-le, take-suc-set, take-set-le, drop-set-add, drop-set-lt, getD-set-same, getD-set-other}
 use Rattle.semantics.specs.Models.{elem, Distinct}
-use Rattle.semantics.proofs.Tools.{either, same?, clash, or-true-cases, or-right, elem-here, elem-right, elem-cases, distinct-length}
+use Rattle.semantics.proofs.Tools.{either, same?, clash, or-true-cases, or-right, elem-here, elem-cases}
 use Rattle.states.proofs.Laws.{only-one, distinct-snoc, few}
 use Rattle.entries.specs.declared.Levels.{Levels}
-use Rattle.entries.specs.Entries.{entryOf, count, numbers, rowsOf, begun, appended, added, Proper, spare}
+use Rattle.entries.specs.Entries.{entryOf, count, numbers, rowsOf, appended, Proper}
 
 map-snoc : (xs : List ℕ) (x : ℕ) → map entryOf (xs ++ (x ∷ [])) ≡ map entryOf xs ++ (entryOf x ∷ [])
 map-snoc [] x = refl

@@ -1,27 +1,27 @@
 -- Founded rows stay founded when an entry or a state is added.
 use mathlib.Core.Path.{_≡_, refl, sym, ap, _∙_, subst}
 use mathlib.Core.Logic.{_⊎_, inl, inr, ⊎-elim, _≢_}
-use mathlib.Core.Bool.{Bool, true, false, false≢true}
+use mathlib.Core.Bool.{true, false, false≢true}
 use mathlib.Core.List.{List, [], _∷_, _++_, map, append-nil}
-use mathlib.Core.Option.{Option, none, some}
+use mathlib.Core.Option.{Option, none}
 use Prim.Native.Nat.{ℕ, zero, suc, _+_, _-_, _*_, _≤_, _<_}
 use native.Mathlib.Omega.{arith}
 use native.Mathlib.Nat.{not-suc-le-zero}
 use borrow.Author.Tests.{eqb-true}
 use lib.Dec.{eqb}
-use lib.ListN.{length, take, drop, getD, set, length-append, length-map, List·getD-append, List·getD-map}
+use lib.ListN.{length, getD, set, length-append, length-map, List·getD-append, List·getD-map}
 use lib.Seq.{getD-set-same, getD-set-other, getD-append-seam}
-use Rattle.semantics.specs.Models.{elem, Line, Program, line, Question, Safe, Distinct}
-use Rattle.semantics.specs.Facts.{Database, Meets}
-use Rattle.semantics.specs.Tables.{Within, Rows, entry, Entry, Arrival, first, moved, met, Moves, Hands, Came, held, FoundedRows}
-use Rattle.semantics.proofs.Tools.{either, same?, clash, or-true-cases, or-false, or-right, elem-here, elem-cases, seat, seat-ok}
+use Rattle.semantics.specs.Models.{elem, Program, Question, Safe, Distinct}
+use Rattle.semantics.specs.Facts.{Database}
+use Rattle.semantics.specs.Tables.{Within, Rows, entry, Entry, Arrival, first, moved, met, Hands, Came, held, FoundedRows}
+use Rattle.semantics.proofs.Tools.{either, same?, clash, or-true-cases, or-right, elem-here, elem-cases, seat, seat-ok}
 use Rattle.semantics.proofs.Similar.{Under}
 use Rattle.semantics.proofs.Growth.{came-grows, came-longer}
 use Rattle.states.proofs.Laws.{only-one}
 use Rattle.states.proofs.Seats.{elem-getD}
 use Rattle.entries.specs.declared.Levels.{Levels}
 use Rattle.entries.specs.Entries.{entryOf, count, numbers, rowsOf, arrivalOf, cameOf, Brings, Listed, begun, appended, added, Proper, spare}
-use Rattle.entries.proofs.Blocks.{length-rows, room, count-here, count-there, rows-here, rows-there, numbers-here, numbers-there, proper-appended}
+use Rattle.entries.proofs.Blocks.{length-rows, room, rows-here, rows-there, numbers-here, proper-appended}
 
 -- by what the test of adding says
 pub added-same : (l : Levels) (k x ℓ p : ℕ) → elem x (numbers l k) ≡ true → l ≡ added l k x ℓ p

@@ -1,9 +1,9 @@
 -- Meeting a stage from the entries of a level.
 use mathlib.Core.Path.{_≡_, refl, sym, ap, _∙_, subst}
-use mathlib.Core.Logic.{_⊎_, inl, inr, ⊎-elim, _≢_}
+use mathlib.Core.Logic.{_⊎_, inr, ⊎-elim, _≢_}
 use mathlib.Core.Bool.{true, false}
 use mathlib.Core.List.{List, [], map}
-use mathlib.Core.Option.{Option, none, some}
+use mathlib.Core.Option.{none}
 use Prim.Native.Nat.{ℕ, zero, suc, _+_, _*_, _≤_, _<_}
 use native.Mathlib.Omega.{arith}
 use native.Mathlib.Numerals.{add-one}
@@ -12,7 +12,7 @@ use lib.Seq.{getD-take, getD-drop, length-take-le}
 use Rattle.semantics.specs.Models.{elem, Body, vars, names, Program, Question}
 use Rattle.semantics.specs.Facts.{Database, state, In, Meets}
 use Rattle.semantics.specs.Runs.{named}
-use Rattle.semantics.specs.Tables.{Shows, SoundFacts, Rows, entry, Hands}
+use Rattle.semantics.specs.Tables.{Shows, entry, Hands}
 use Rattle.semantics.proofs.Tools.{either, same?, clash, named-own, seat, seat-ok}
 use Rattle.semantics.proofs.Bodies.{holds-agree}
 use Rattle.semantics.proofs.Growth.{shows-meets}

@@ -3,8 +3,7 @@ use mathlib.Core.Path.{_≡_, refl, sym, ap, _∙_, subst}
 use mathlib.Core.Logic.{⊎-elim, _≢_}
 use mathlib.Core.Bool.{true, false}
 use mathlib.Core.List.{List}
-use mathlib.Core.Option.{Option, some}
-use Prim.Native.Nat.{ℕ, suc, _+_, _≤_, _<_}
+use Prim.Native.Nat.{ℕ, _+_, _≤_, _<_}
 use native.Mathlib.Omega.{arith}
 use native.Mathlib.Numerals.{add-one}
 use lib.ListN.{length, take, getD}
@@ -20,7 +19,7 @@ use Rattle.states.proofs.Seats.{elem-getD}
 use Rattle.entries.specs.Entries.{Proper}
 use Rattle.shows.specs.Shows.{At, Tells}
 use Rattle.carry.specs.declared.Carried.{Carried}
-use Rattle.carry.specs.Carry.{Has, MovesTo}
+use Rattle.carry.specs.Carry.{MovesTo}
 use Rattle.carry.proofs.Laws.{goes-on, goes-then}
 use Rattle.moves.specs.Moves.{Over, Keeps, KeepsAt, Takes}
 

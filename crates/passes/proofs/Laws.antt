@@ -1,18 +1,17 @@
 -- Taking every clause and every stage over the levels.
-use mathlib.Core.Path.{_≡_, refl, sym, ap, _∙_, subst}
+use mathlib.Core.Path.{_≡_, sym, ap, _∙_, subst}
 use mathlib.Core.Logic.{_⊎_, ⊎-elim, _≢_}
 use mathlib.Core.Bool.{Bool, true, false, false≢true}
 use mathlib.Core.List.{List}
-use Prim.Native.Nat.{ℕ, _+_, _≤_, _<_}
+use Prim.Native.Nat.{ℕ, _+_, _<_}
 use native.Mathlib.Omega.{arith}
-use lib.ListN.{length}
 use Rattle.semantics.specs.Models.{elem, Body, vars, supported, Supported}
 use Rattle.semantics.specs.Facts.{Database}
 use Rattle.semantics.specs.Tables.{SoundFacts}
 use Rattle.semantics.proofs.Tools.{same?}
 use Rattle.semantics.proofs.Bodies.{supported-vars}
 use Rattle.model.specs.declared.Model.{Model}
-use Rattle.model.specs.Records.{clauseLine, programOf, renamed, stageBody, stageOf, numberIn, questionOf, clauseAt, stageAt}
+use Rattle.model.specs.Records.{clauseLine, programOf, renamed, stageBody, numberIn, questionOf, clauseAt, stageAt}
 use Rattle.model.specs.WellFormed.{WellFormed}
 use Rattle.model.proofs.Accepted.{on-line, stages, stage-here, stage-vars, stage-body, stage-different}
 use Rattle.model.proofs.Renaming.{elem-map, elem-of-map, vars-renamed, supported-renamed, Injective}
@@ -28,7 +27,7 @@ use Rattle.carry.specs.Carry.{Real, left}
 use Rattle.carry.proofs.Laws.{goes-on, goes-then}
 use Rattle.moves.specs.Moves.{Over, Keeps, Takes}
 use Rattle.meetings.specs.Meetings.{Meetable, Meeting}
-use Rattle.passes.specs.Passes.{AllListed, TakesClauses, Onward, MeetsStages, Fills}
+use Rattle.passes.specs.Passes.{TakesClauses, Onward, MeetsStages, Fills}
 
 -- a body is safe if it is with other names
 local-supported : (f : ℕ → ℕ) (b : Body) → Injective f (vars b) → Supported (vars (renamed f b)) (renamed f b) → Supported (vars b) b

@@ -1,18 +1,18 @@
 -- What is found when no clause and no stage adds anything is all, and gives the verdict.
-use mathlib.Core.Path.{_≡_, refl, sym, ap, _∙_, subst}
-use mathlib.Core.Logic.{_⊎_, inl, inr, ⊎-elim, _↔_, _≢_}
+use mathlib.Core.Path.{_≡_, sym, ap, _∙_, subst}
+use mathlib.Core.Logic.{_⊎_, inl, inr, ⊎-elim, _↔_}
 use mathlib.Core.Bool.{Bool, true, false}
-use mathlib.Core.List.{List, [], _∷_, map}
-use mathlib.Core.Option.{Option, none, some}
-use Prim.Native.Nat.{ℕ, suc, pred, _≤_, _<_}
+use mathlib.Core.List.{List, [], map}
+use mathlib.Core.Option.{some}
+use Prim.Native.Nat.{ℕ, suc, pred, _<_}
 use native.Mathlib.Omega.{arith}
 use lib.Dec.{ltb}
 use lib.ListN.{length, getD}
 use Rattle.semantics.specs.Models.{elem, Body, vars, Line, rule, new, next, other, line}
-use Rattle.semantics.specs.Facts.{Database, state, In, Obeys, Derived}
+use Rattle.semantics.specs.Facts.{In, Obeys, Derived}
 use Rattle.semantics.specs.Steps.{Reachable}
 use Rattle.semantics.specs.Questions.{Verdict}
-use Rattle.semantics.specs.Tables.{Shows, Rows, Entry, Steady, Passed, Saturated}
+use Rattle.semantics.specs.Tables.{Shows, Entry, Steady, Passed, Saturated}
 use Rattle.semantics.proofs.Tools.{either}
 use Rattle.semantics.proofs.Bodies.{more-facts}
 use Rattle.semantics.proofs.Derived.{derived-obeys}
@@ -28,7 +28,7 @@ use Rattle.states.specs.States.{row, by, from}
 use Rattle.reach.specs.Reach.{Lists}
 use Rattle.reachable.specs.Reachable.{Reaches}
 use Rattle.entries.specs.declared.Levels.{Levels}
-use Rattle.entries.specs.Entries.{entryOf, count, rowsOf, cameOf}
+use Rattle.entries.specs.Entries.{count, rowsOf, cameOf}
 use Rattle.entries.proofs.Blocks.{length-rows}
 use Rattle.entries.proofs.Laws.{entry-of, of-entry}
 use Rattle.carry.specs.declared.Carried.{Carried}

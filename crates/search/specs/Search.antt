@@ -2,9 +2,7 @@
 use mathlib.Core.Path.{_≡_}
 use mathlib.Core.Logic.{_↔_}
 use mathlib.Core.Bool.{true}
-use mathlib.Core.List.{List}
 use Prim.Native.Nat.{ℕ}
-use lib.ListN.{take}
 use Rattle.semantics.specs.Models.{elem}
 use Rattle.semantics.specs.Facts.{Table}
 use Rattle.semantics.specs.Steps.{Reachable}

@@ -1,19 +1,18 @@
 -- What adding a state does to the row.
-use mathlib.Core.Path.{_≡_, refl, sym, ap, _∙_, subst}
+use mathlib.Core.Path.{_≡_, refl, sym, ap, _∙_}
 use mathlib.Core.Logic.{_⊎_, inl, inr, ⊎-elim, _≢_}
-use mathlib.Core.Bool.{Bool, true, false, cond, _||_, false≢true}
-use mathlib.Core.List.{List, [], _∷_, _++_, append-nil}
+use mathlib.Core.Bool.{true, false, _||_, false≢true}
+use mathlib.Core.List.{List, [], _∷_, _++_}
 use Prim.Native.Nat.{ℕ, zero, suc, _+_, _≤_, _<_}
 use native.Mathlib.Omega.{arith}
 use native.Mathlib.Numerals.{add-one}
 use borrow.Author.Tests.{eqb-true, eqb-false, eq-eqb}
 use lib.Dec.{eqb}
-use lib.ListN.{length, take, getD, set, length-set, length-append}
+use lib.ListN.{length, length-set}
 use lib.Seq.{take-suc-set, length-take-le, getD-set-same, getD-set-other}
 use Rattle.semantics.specs.Models.{elem, Program, line, Distinct}
-use Rattle.semantics.specs.Facts.{Database}
-use Rattle.semantics.specs.Tables.{Within, From, Founded}
-use Rattle.semantics.proofs.Tools.{either, same?, clash, or-true-cases, or-false, or-right, elem-here, elem-left, elem-right, elem-cases, distinct-length}
+use Rattle.semantics.specs.Tables.{Within, From}
+use Rattle.semantics.proofs.Tools.{either, same?, clash, or-true-cases, or-false, or-right, elem-here, elem-right, elem-cases, distinct-length}
 use Rattle.semantics.proofs.Growth.{founded-more}
 use Rattle.states.specs.declared.States.{States}
 use Rattle.states.specs.States.{row, by, from, nothing, appended, added, Proper, Discovered}

@@ -1,9 +1,9 @@
 -- The states of a row, taken by rising number.
 use mathlib.Core.Path.{_≡_, refl, sym, _∙_, subst}
-use mathlib.Core.Logic.{⊎-elim, _↔_, _≢_}
+use mathlib.Core.Logic.{⊎-elim, _≢_}
 use mathlib.Core.Bool.{true, false, false≢true}
 use mathlib.Core.List.{List, [], _∷_, _++_}
-use Prim.Native.Nat.{ℕ, zero, suc, _+_, _≤_, _<_}
+use Prim.Native.Nat.{ℕ, _+_, _≤_, _<_}
 use native.Mathlib.Omega.{arith}
 use native.Mathlib.Numerals.{add-one}
 use lib.ListN.{length, take, getD, set, length-set, replicate}
@@ -11,7 +11,6 @@ use lib.Seq.{take-suc-set, getD-set-same, getD-set-other}
 use Rattle.semantics.specs.Models.{elem}
 use Rattle.semantics.proofs.Tools.{same?, clash, elem-here, elem-left, elem-right, elem-cases}
 use Rattle.states.specs.declared.States.{States}
-use Rattle.states.specs.declared.Listing.{Listing}
 use Rattle.states.specs.States.{row, Proper}
 use Rattle.states.specs.Rising.{Rising, Lists}
 use Rattle.states.proofs.Laws.{only-one}

@@ -1,7 +1,6 @@
 -- THE ROW OF STATES that a search has found, in order of discovery, each with the line that it came by and the earlier state that it came from.
 use mathlib.Core.Path.{_≡_}
 use mathlib.Core.Bool.{true, cond, _||_}
-use mathlib.Core.List.{List}
 use Prim.Native.Nat.{ℕ, _+_, _≤_, _<_}
 use lib.Dec.{eqb}
 use lib.ListN.{length, take, getD, set, replicate}

@@ -1,9 +1,7 @@
-use mathlib.Core.Path.{_≡_, subst}
-use mathlib.Core.Bool.{false}
+use mathlib.Core.Path.{subst}
 use Prim.Native.Nat.{ℕ, _<_, _≤_}
 use native.Mathlib.Omega.{arith}
-use Rattle.semantics.specs.Models.{elem}
-use Rattle.entries.specs.Entries.{count, numbers}
+use Rattle.entries.specs.Entries.{count}
 use Rattle.carry.proofs.Laws.{finds-there, finds-more, seated, unseated}
 use borrow.Author.Needs.{needs}
 use Rattle.carry.proofs.find_entry.Statement.{statement}

@@ -1,4 +1,4 @@
-use mathlib.Core.Path.{_≡_, sym, subst, _∙_}
+use mathlib.Core.Path.{_≡_, subst, _∙_}
 use mathlib.Core.Bool.{false}
 use native.Mathlib.Omega.{arith}
 use Prim.Native.Nat.{ℕ, _<_, _≤_}

@@ -1,5 +1,4 @@
 use mathlib.Core.Path.{subst}
-use native.Mathlib.Omega.{arith}
 use lib.ListN.{take}
 use Rattle.model.specs.Records.{stageBody}
 use Rattle.shows.specs.Shows.{Anyhow, Tells}

@@ -7,7 +7,6 @@ use Rattle.model.specs.Records.{bodyAt}
 use Rattle.entries.specs.Entries.{Proper}
 use Rattle.moves.specs.Moves.{Over}
 use Rattle.meetings.proofs.Laws.{MeetsTo, meets-start, meets-next, meets-every}
-use borrow.Author.Needs.{needs}
 use Rattle.meetings.proofs.meet_carried.Statement.{statement}
 use Rattle.meetings.proofs.meet_carried.Tie as tie
 

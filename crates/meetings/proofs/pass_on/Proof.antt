@@ -1,8 +1,7 @@
 use mathlib.Core.Path.{_≡_, refl}
-use Prim.Native.Nat.{_+_, _*_, _≤_, _-_}
+use Prim.Native.Nat.{_≤_, _-_}
 use native.Mathlib.Omega.{arith}
-use Rattle.entries.specs.declared.Levels.{Levels}
-use Rattle.entries.specs.Entries.{count, Proper}
+use Rattle.entries.specs.Entries.{count}
 use Rattle.meetings.proofs.Laws.{PassesTo, number-small, passes-start, passes-one, passes-all}
 use borrow.Author.Needs.{needs}
 use Rattle.meetings.proofs.pass_on.Statement.{statement}

@@ -4,7 +4,6 @@ use Rattle.model.specs.Records.{bodyAt}
 use Rattle.entries.specs.Entries.{Proper}
 use Rattle.moves.specs.Moves.{Over}
 use Rattle.moves.proofs.Laws.{TakesTo, takes-start, takes-one, takes-every}
-use borrow.Author.Needs.{needs}
 use Rattle.moves.proofs.take_next.Statement.{statement}
 use Rattle.moves.proofs.take_next.Tie as tie
 

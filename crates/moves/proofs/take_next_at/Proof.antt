@@ -1,8 +1,7 @@
-use mathlib.Core.Path.{_≡_, subst}
+use mathlib.Core.Path.{subst}
 use Prim.Native.Nat.{ℕ, _+_, _<_}
 use native.Mathlib.Omega.{arith}
 use lib.ListN.{take, getD}
-use Rattle.semantics.specs.Labels.{relabel}
 use Rattle.model.specs.Records.{bodyAt}
 use Rattle.shows.specs.Shows.{At, Tells}
 use Rattle.reach.proofs.Clauses.{relabel-small}

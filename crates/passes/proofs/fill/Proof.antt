@@ -1,4 +1,4 @@
-use mathlib.Core.Path.{_≡_, refl, sym, subst}
+use mathlib.Core.Path.{_≡_, refl, sym}
 use borrow.Author.Tests.{not-true, not-false}
 use Rattle.shows.specs.Shows.{Own}
 use Rattle.entries.specs.Entries.{spare}

@@ -4,7 +4,6 @@ use native.Mathlib.Omega.{arith}
 use lib.ListN.{take}
 use Rattle.passes.specs.Passes.{MeetsStages}
 use Rattle.passes.proofs.Laws.{stages-none, stages-one, meetable}
-use borrow.Author.Needs.{needs}
 use Rattle.passes.proofs.meet_stages.Statement.{statement}
 use Rattle.passes.proofs.meet_stages.Tie as tie
 

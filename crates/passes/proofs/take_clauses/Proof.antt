@@ -5,7 +5,6 @@ use lib.ListN.{take}
 use Rattle.reachable.proofs.Laws.{takable}
 use Rattle.passes.specs.Passes.{TakesClauses}
 use Rattle.passes.proofs.Laws.{clauses-none, clauses-one}
-use borrow.Author.Needs.{needs}
 use Rattle.passes.proofs.take_clauses.Statement.{statement}
 use Rattle.passes.proofs.take_clauses.Tie as tie
 
