@@ -1,0 +1,14 @@
+-- THE RUN TABLE while a run is found from its end: its places stand in the table the last first.
+use mathlib.Core.List.{List, map, reverse}
+use Prim.Native.Nat.{ℕ}
+use lib.Seq.{sets}
+use Rattle.semantics.specs.Runs.{Place}
+use Rattle.model.specs.Places.{numberOf}
+
+-- the numbers of the places
+abbrev pub numbers : List Place → List ℕ
+numbers ps = map numberOf ps
+
+-- the table with the places ps from index k on, the last first, and elsewhere as it was
+unfoldable pub backwards : List ℕ → ℕ → List Place → List ℕ
+backwards run k ps = sets run k (reverse (numbers ps))
