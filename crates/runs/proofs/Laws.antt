@@ -1,6 +1,6 @@
 -- Writing places the last first.
 use mathlib.Core.Path.{_≡_, refl, _∙_}
-use mathlib.Core.List.{List, [], _∷_, _++_, map, map-append, reverse, reverse-append, reverse-reverse}
+use mathlib.Core.List.{List, [], _∷_, _++_, map-append, reverse, reverse-append, reverse-reverse}
 use Prim.Native.Nat.{ℕ, suc, _+_, _≤_}
 use native.Mathlib.Omega.{arith}
 use native.Mathlib.Nat.{add-suc, suc-add, add-zero, zero-add}
