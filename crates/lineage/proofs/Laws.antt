@@ -21,7 +21,7 @@ use Rattle.lineage.specs.Lineage.{isNew}
 
 module _ (P : Program) (S : Database) (by from : ℕ → ℕ) (found : Founded P S by from) where
   -- a state that came by a `next` line came from an earlier one
-  earlier : (i : ℕ) → i < length S → (x plus minus : ℕ) (b : _) → From P (take i S) (getD S i 0) (from i) (next x plus minus b) → from i < i
+  pub earlier : (i : ℕ) → i < length S → (x plus minus : ℕ) (b : _) → From P (take i S) (getD S i 0) (from i) (next x plus minus b) → from i < i
   earlier i m x plus minus b f = rw (length-take-le i S (omega arith)) at (f .0)
 
   -- the lines that make a state are the same, however far back one may look

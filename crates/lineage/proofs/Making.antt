@@ -3,16 +3,16 @@ use mathlib.Core.Path.{_≡_, sym, ap, _∙_}
 use mathlib.Core.Logic.{⊎-elim}
 use mathlib.Core.Bool.{true, false}
 use mathlib.Core.List.{List, [], _∷_, _++_, append-assoc, append-nil, map-append}
-use Prim.Native.Nat.{ℕ, suc, _+_, _≤_, _<_}
+use Prim.Native.Nat.{ℕ, zero, suc, _+_, _≤_, _<_}
 use native.Mathlib.Omega.{arith}
-use lib.ListN.{length, set, length-append, length-map}
-use Rattle.semantics.specs.Models.{line}
+use lib.ListN.{length, take, getD, set, length-append, length-map}
+use Rattle.semantics.specs.Models.{Line, rule, new, next, other, line}
 use Rattle.semantics.specs.Steps.{Pair}
 use Rattle.semantics.specs.Runs.{step}
 use Rattle.semantics.specs.Tables.{From}
 use Rattle.semantics.proofs.Tools.{either}
 use Rattle.semantics.proofs.Leads.{places}
-use Rattle.semantics.proofs.Build.{with, build}
+use Rattle.semantics.proofs.Build.{grown, lineage, with, build}
 use Rattle.model.specs.declared.Model.{Model}
 use Rattle.model.specs.declared.Place.the-variants.{Step}
 use Rattle.model.specs.Records.{programOf}
@@ -21,10 +21,10 @@ use Rattle.model.specs.Places.{numberOf, numeral}
 use Rattle.states.specs.declared.States.{States}
 use Rattle.states.specs.States.{row, by, from, Proper, Discovered}
 use Rattle.states.proofs.Laws.{length-row}
-use Rattle.runs.specs.Runs.{backwards}
-use Rattle.runs.proofs.Laws.{length-backwards, backwards-none, backwards-on, backwards-more}
+use Rattle.runs.specs.Runs.{AllNumerable, backwards}
+use Rattle.runs.proofs.Laws.{length-backwards, backwards-none, backwards-on, backwards-more, numerable-append}
 use Rattle.lineage.specs.Lineage.{isNew, linesTo, making, building}
-use Rattle.lineage.proofs.Laws.{lineage-new, lineage-next, small-line}
+use Rattle.lineage.proofs.Laws.{earlier, lineage-new, lineage-next, small-line}
 
 pub length-steps : (ts : List Pair) → length (places ts) ≡ length ts
 length-steps ts = length-map ts _
@@ -141,3 +141,29 @@ module _ (m : Model) (s : States) (k : ℕ) (run₀ : List ℕ) where
     where
       whole : build (programOf m) (by s) (from s) (s .count) ≡ h .steps
       whole = h .rest ∙ ap (λ (j : ℕ). build (programOf m) (by s) (from s) j ++ h .steps) z
+
+-- the places that make states have numbers
+module _ (m : Model) (wf : WellFormed m) (s : States) (proper : Proper s) (found : Discovered (programOf m) s) where
+  numerable-lineage : (n i o : ℕ) → o < 255 → i < n → i < s .count → AllNumerable (places (with o (lineage (programOf m) (by s) (from s) n i)))
+  numerable-lineage zero i o b l h = tt
+  numerable-lineage (suc n) i o b l h = go (λ p a c. numerable-lineage n p o b a c) (line (programOf m) (by s i)) (found i (listed m wf s proper found h))
+    where
+      mine : AllNumerable (places (with o (by s i ∷ [])))
+      mine = let q = small-by m wf s proper found i h in ((omega arith, b), tt)
+
+      go : ((p : ℕ) → p < n → p < s .count → AllNumerable (places (with o (lineage (programOf m) (by s) (from s) n p))))
+          → (L : Line) → From (programOf m) (take i (row s)) (getD (row s) i 0) (from s i) L → AllNumerable (places (with o (grown L (lineage (programOf m) (by s) (from s) n (from s i)) (by s i))))
+      go ih (rule r xs b) f = tt
+      go ih (new t b) f = mine
+      go ih (next x plus minus b) f =
+          let e : from s i < i = earlier (programOf m) (row s) (by s) (from s) found i (listed m wf s proper found h) x plus minus b f in
+          rw (map-append, map-append) (numerable-append (places (with o (lineage (programOf m) (by s) (from s) n (from s i)))) (places (with o (by s i ∷ []))) (ih (from s i) (omega arith) (omega arith)) mine)
+      go ih other f = tt
+
+  pub numerable-making : (i o : ℕ) → o < 255 → i < s .count → AllNumerable (making m s o i)
+  numerable-making i o b h = numerable-lineage (suc i) i o b (omega arith) h
+
+  pub numerable-building : (n : ℕ) → n ≤ s .count → AllNumerable (building m s n)
+  numerable-building zero h = tt
+  numerable-building (suc n) h =
+      rw map-append (numerable-append (building m s n) (making m s n n) (numerable-building n (omega arith)) (numerable-making n n (let c = proper .count in omega arith) (omega arith)))

@@ -1,14 +1,16 @@
 -- Writing places the last first.
 use mathlib.Core.Path.{_≡_, refl, _∙_}
-use mathlib.Core.List.{List, [], _∷_, _++_, map-append, reverse, reverse-append, reverse-reverse}
+use mathlib.Core.List.{List, [], _∷_, _++_, map, map-append, reverse, reverse-append, reverse-reverse}
+use mathlib.Core.Option.{some}
 use Prim.Native.Nat.{ℕ, suc, _+_, _≤_}
 use native.Mathlib.Omega.{arith}
 use native.Mathlib.Nat.{add-suc, suc-add, add-zero, zero-add}
 use lib.ListN.{length, take, drop, set, length-map, length-reverse}
 use lib.Seq.{sets, length-sets, sets-eq, take-at, drop-at}
 use Rattle.semantics.specs.Runs.{Place}
-use Rattle.model.specs.Places.{numberOf}
-use Rattle.runs.specs.Runs.{numbers, backwards}
+use Rattle.model.specs.Places.{numberOf, placeOf}
+use Rattle.model.proofs.Places.{place-of-number}
+use Rattle.runs.specs.Runs.{numbers, AllNumerable, backwards}
 
 sets-append : (l : List ℕ) (k : ℕ) (xs ys : List ℕ) → sets (sets l k xs) (k + length xs) ys ≡ sets l k (xs ++ ys)
 sets-append l k [] ys = rw add-zero
@@ -31,7 +33,7 @@ unfolding backwards
 backwards-on run k ps qs =
     rw (map-append, reverse-append, ← length-numbers ps) (sets-append run k (reverse (numbers ps)) (reverse (numbers qs)))
 
-set-backwards : (l : List ℕ) (i : ℕ) (p : Place) → set l i (numberOf p) ≡ backwards l i (p ∷ [])
+pub set-backwards : (l : List ℕ) (i : ℕ) (p : Place) → set l i (numberOf p) ≡ backwards l i (p ∷ [])
 unfolding backwards
 set-backwards l i p = refl
 
@@ -52,3 +54,12 @@ turned run ps h =
       drop-at (reverse (numbers ps)) (drop (length ps) run) (length ps) (length-numbers ps),
       reverse-reverse,
     )
+
+pub numerable-append : (ps qs : List Place) → AllNumerable ps → AllNumerable qs → AllNumerable (ps ++ qs)
+numerable-append [] qs h k = k
+numerable-append (p ∷ ps) qs h k = (h .0, numerable-append ps qs (h .1) k)
+
+-- the numbers stand for the places
+pub decoded-numbers : (ps : List Place) → AllNumerable ps → map placeOf (numbers ps) ≡ map some ps
+decoded-numbers [] h = refl
+decoded-numbers (p ∷ ps) h = rw (place-of-number p (h .0), decoded-numbers ps (h .1))

@@ -7,7 +7,6 @@ use Rattle.lineage.proofs.Making.{Built, built-none, built-room, built-
 use borrow.Author.Needs.{needs}
 use Rattle.lineage.proofs.build.Statement.{statement}
 use Rattle.lineage.proofs.build.Tie as tie
-use Rattle.lineage.proofs.make.Reads as make-reads
 
 abbrev Inv-loop : tie.InvT-loop
 Inv-loop run₀ m s k n₀ at₀ run n at = Built m s k run₀ run n at × (length run ≡ length run₀) × (n ≤ s .count)

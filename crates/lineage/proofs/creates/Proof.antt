@@ -9,7 +9,6 @@ use Rattle.model.proofs.Lines.{line-other}
 use borrow.Author.Needs.{needs}
 use Rattle.lineage.proofs.creates.Statement.{statement}
 use Rattle.lineage.proofs.creates.Tie as tie
-use Rattle.lineage.proofs.creating.Reads as creating-reads
 
 abbrev Inv-loop : tie.InvT-loop
 Inv-loop number m i₀ i = (i ≤ m .clausecount) × ((k : ℕ) → k < i → clauseAt m k .line ≡ number → ⊥)

@@ -1,7 +1,6 @@
 use borrow.Author.Needs.{needs}
 use Rattle.lineage.proofs.creating.Statement.{statement}
 use Rattle.lineage.proofs.creating.Tie as tie
-use Rattle.lineage.proofs.creating.Reads as reads
 use Rattle.lineage.proofs.creating.Lts as lts
 
 -- src/lib.rt:18:14

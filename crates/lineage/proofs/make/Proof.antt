@@ -7,8 +7,6 @@ use Rattle.lineage.proofs.Making.{Made, made-none, made-all, made-more,
 use borrow.Author.Needs.{needs}
 use Rattle.lineage.proofs.make.Statement.{statement}
 use Rattle.lineage.proofs.make.Tie as tie
-use Rattle.lineage.proofs.creates.Reads as creates-reads
-use Rattle.model.proofs.number_of.Reads as number-of-reads
 
 abbrev Inv-loop : tie.InvT-loop
 Inv-loop run₀ m state object k s i₀ at₀ run i at = Made m s state object k run₀ run i at × (length run ≡ length run₀) × (at < length run₀) × (i < s .count)
