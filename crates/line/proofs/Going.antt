@@ -30,7 +30,7 @@ module _ (text : List ℕ) (d : Declared) (a b : ℕ) (h : a ≤ b) (k : b ≤ l
     names = v .names;
     lengths = v .lengths;
     within = λ i l. let w = v .within i l in omega (arith, length-take-le a text (omega arith), length-take-le b text k);
-    coded = v .coded
+    coded = v .coded;
   }
 
   pub declared-longer : declaredOf (take b text) d ≡ declaredOf (take a text) d

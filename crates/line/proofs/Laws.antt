@@ -54,7 +54,7 @@ module _ {text : List ℕ} {d : Declared} {m : Model} {P : Program} (n : ℕ) {r
   pub clause-refused : (r .number ≡ 0 → ⊥) → Stepped text d P n read (record { number = r .number; declared = d; model = m })
   clause-refused z = record {
     missing = λ y. c .missing y;
-    found = λ y. let w = c .found y in (w .0, w .1, w .2 ∙ ap (λ (k : ℕ). fault (declaredOf text d) k (w .0)) (so .count), λ x. absurd (z x))
+    found = λ y. let w = c .found y in (w .0, w .1, w .2 ∙ ap (λ (k : ℕ). fault (declaredOf text d) k (w .0)) (so .count), λ x. absurd (z x));
   }
 
   module _ (z : r .number ≡ 0) where
@@ -75,7 +75,7 @@ module _ {text : List ℕ} {d : Declared} {m : Model} {P : Program} (n : ℕ) {r
         let q = clause-form (declaredOf text d) (m .clausecount) n (lineOf (r .action) (bodyIn (r .frame))) (w .0) (sym (w .2) ∙ z) (g .3 n) in
         record {
           missing = λ y. absurd (fine y);
-          found = λ y. (w .0, w .1, w .2 ∙ ap (λ (k : ℕ). fault (declaredOf text d) k (w .0)) (so .count), λ x. (v, li, sym (q .1), rw (g .3 n) (stored-law m P n (r .action) (r .frame) so (q .0) (g .0) (g .1))))
+          found = λ y. (w .0, w .1, w .2 ∙ ap (λ (k : ℕ). fault (declaredOf text d) k (w .0)) (so .count), λ x. (v, li, sym (q .1), rw (g .3 n) (stored-law m P n (r .action) (r .frame) so (q .0) (g .0) (g .1))));
         }
 
 -- A DECLARATION leaves the program
@@ -83,7 +83,7 @@ pub declaration-step : {text : List ℕ} {d : Declared} {m : Model} {P : Program
     → ((f : Form) → whole read ≡ some f → clause (declaredOf text d) n f ≡ []) → Stepped text d P n read (record { number = r .number; declared = r .declared; model = m })
 declaration-step {P = P} so e h = record {
   missing = λ y. e .missing y;
-  found = λ y. let w = e .found y in (w .0, w .1, w .2 (length P), λ x. let g = w .3 x in (g .0, g .1, g .2, rw (h (w .0) (w .1), append-nil P) so))
+  found = λ y. let w = e .found y in (w .0, w .1, w .2 (length P), λ x. let g = w .3 x in (g .0, g .1, g .2, rw (h (w .0) (w .1), append-nil P) so));
 }
 
 -- what a `state` or `rel` line reads is no clause
@@ -114,9 +114,11 @@ module _ (D : grammar.Declared) (n : ℕ) where
       last : (w : Word) (o : Read ℕ) → whole (o >>= λ p. after (bytes ")") (p .1) >>= λ u. some (relForm w (p .0), u)) ≡ some f → clause D n f ≡ []
       last w none e = no-form e
       last w (some p) e = no-clause (relForm w (p .0)) refl (after (bytes ")") (p .1)) f e
+
       mid : (w : Word) (o : Option (List ℕ)) → whole (o >>= λ t. arity t >>= λ p. after (bytes ")") (p .1) >>= λ u. some (relForm w (p .0), u)) ≡ some f → clause D n f ≡ []
       mid w none e = no-form e
       mid w (some t) e = last w (arity t) e
+
       go : (o : Read Word) → whole (o >>= λ q. after (bytes " ") (q .1) >>= λ t. arity t >>= λ p. after (bytes ")") (p .1) >>= λ u. some (relForm (q .0) (p .0), u)) ≡ some f → clause D n f ≡ []
       go none e = no-form e
       go (some q) e = mid (q .0) (after (bytes " ") (q .1)) e

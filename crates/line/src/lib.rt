@@ -13,7 +13,6 @@ ghost use Rattle.clause.specs.Clauses.{ClauseEnd};
 ghost use Rattle.declare.specs.Declares.{Limited};
 ghost use Rattle.store.specs.Stored as stored;
 ghost use Rattle.line.specs.Lines.{Stepped, LineEnd};
-
 use clause::Reading;
 use model::Model;
 use names::Declared;
@@ -73,13 +72,31 @@ pub fn read_line(text: &[u8], at: usize, d: Declared, m: Model, line: u32) -> St
         };
     }
     if scan::at_bytes(text, at, b"(rule ") {
-        return store_clause(text, d, m, line, clause::read_rule(text, d, at + 6, m.clausecount));
+        return store_clause(
+            text,
+            d,
+            m,
+            line,
+            clause::read_rule(text, d, at + 6, m.clausecount),
+        );
     }
     if scan::at_bytes(text, at, b"(new ") {
-        return store_clause(text, d, m, line, clause::read_new(text, d, at + 5, m.clausecount));
+        return store_clause(
+            text,
+            d,
+            m,
+            line,
+            clause::read_new(text, d, at + 5, m.clausecount),
+        );
     }
     if scan::at_bytes(text, at, b"(next ") {
-        return store_clause(text, d, m, line, clause::read_next(text, d, at + 6, m.clausecount));
+        return store_clause(
+            text,
+            d,
+            m,
+            line,
+            clause::read_next(text, d, at + 6, m.clausecount),
+        );
     }
     Step {
         number: 3,
