@@ -7,7 +7,8 @@ ghost use mathlib.Core.Logic.{_≢_};
 ghost use Prim.Native.Nat.{_≤_};
 ghost use lib.ListN.{length};
 ghost use Rattle.model.specs.WellFormed.{WellFormed};
-ghost use Rattle.replay.specs.Replies.{PlaceReply, wiped};
+ghost use Rattle.wipe.specs.Wiping.{wiped};
+ghost use Rattle.replay.specs.Replies.{PlaceReply};
 
 // Puts one place to the lent state over a model: the thin entry over the place by value.
 pub fn put(m: Model, s: &mut Session, n: u32, work: &mut [u8]) -> Answer

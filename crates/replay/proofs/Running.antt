@@ -2,7 +2,7 @@
 use mathlib.Core.Path.{_≡_, refl, sym, ap, _∙_, subst, fun-ext}
 use mathlib.Core.Logic.{inl, inr, _≢_}
 use mathlib.Core.Bool.{Bool, true, false, cond}
-use mathlib.Core.List.{List, [], _++_}
+use mathlib.Core.List.{List, []}
 use mathlib.Core.Option.{Option, none}
 use Prim.Native.Nat.{ℕ, suc, _+_, _≤_, _<_}
 use native.Mathlib.Omega.{arith}
@@ -10,7 +10,7 @@ use native.Mathlib.Numerals.{add-one}
 use native.Mathlib.Nat.{not-suc-le-zero}
 use lib.Dec.{eqb}
 use lib.ListN.{length, drop, getD, replicate, length-set, length-replicate, drop-of-length-le}
-use lib.Seq.{drop-cons, drop-append-seam}
+use lib.Seq.{drop-cons}
 use Rattle.semantics.specs.Models.{Line, rule, new, next, other, line}
 use Rattle.semantics.specs.Facts.{Database}
 use Rattle.semantics.specs.Steps.{Enabled}
@@ -29,12 +29,7 @@ use Rattle.session.specs.Sessions.{sessionOf, Fits, stepped, taken}
 use Rattle.session.specs.Replays.{Replays}
 use Rattle.session.proofs.Effects.{taken-after, taken-fits}
 use Rattle.play.specs.Tries.{TriedAt}
-use Rattle.replay.specs.Replies.{fresh, wiped}
-
--- what was written to the first bytes is wiped
-pub wiped-over : (w part : List ℕ) → length part ≡ 32768 → wiped (part ++ drop 32768 w) ≡ wiped w
-unfolding wiped
-wiped-over w part e = ap (λ (r : List ℕ). replicate 32768 0 ++ r) (subst (λ (n : ℕ). drop n (part ++ drop 32768 w) ≡ drop 32768 w) e (drop-append-seam part (drop 32768 w)))
+use Rattle.replay.specs.Replies.{fresh}
 
 -- THE START
 pub fresh-session : (m : Model) → sessionOf m fresh ≡ start []

@@ -1,10 +1,9 @@
 -- WHAT THE REPLAY REPLIES over an accepted model.
 use mathlib.Core.Path.{_≡_}
 use mathlib.Core.Logic.{_⊎_}
-use mathlib.Core.List.{List, _++_}
 use mathlib.Core.Option.{some}
 use Prim.Native.Nat.{ℕ}
-use lib.ListN.{drop, replicate}
+use lib.ListN.{replicate}
 use Rattle.semantics.specs.Runs as runs
 use Rattle.semantics.specs.Runs.{Allowed}
 use Rattle.model.specs.declared.Model.{Model}
@@ -41,7 +40,3 @@ pub record BrokenPlace (m : Model) (s : Session) (n : ℕ) (a : Answer) (t : Ses
 
 abbrev pub PlaceReply : Model → Session → ℕ → Answer → Session → Type 0
 PlaceReply m s n a t = Misfit m s a t ⊎ (Fits m s × (KeptPlace m s n a t ⊎ BrokenPlace m s n a t))
-
--- "the first 32,768 work bytes are zero and the rest untouched"
-unfoldable pub wiped : List ℕ → List ℕ
-wiped w = replicate 32768 0 ++ drop 32768 w

@@ -3,6 +3,7 @@ use model::Model;
 use play::Outcome;
 use session::Answer;
 use session::Session;
+use wipe::WORK;
 ghost use mathlib.Core.Path.{_≡_};
 ghost use mathlib.Core.Logic.{_≢_};
 ghost use mathlib.Core.List.{[]};
@@ -12,10 +13,8 @@ ghost use Rattle.semantics.specs.Runs.{start as beginning};
 ghost use Rattle.model.specs.Records.{programOf, questionOf};
 ghost use Rattle.model.specs.WellFormed.{WellFormed};
 ghost use Rattle.session.specs.Replays.{Replays};
-ghost use Rattle.replay.specs.Replies.{fresh, PlaceReply, wiped};
-
-// The work bytes that the replay uses.
-pub const WORK: usize = 32_768;
+ghost use Rattle.wipe.specs.Wiping.{wiped};
+ghost use Rattle.replay.specs.Replies.{fresh, PlaceReply};
 
 // The answer to one place, and the state after it.
 pub struct Reply {
@@ -33,18 +32,6 @@ fn start() -> Session
         met: 0,
         carried: 255,
         kept: 0,
-    }
-}
-
-// Sets the work bytes to zero.
-fn wipe(work: &mut [u8])
-    requires { ⌜ 32768 ≤ length (now work) ⌝ }
-    ensures { λ _. ⌜ now (work .exit) ≡ wiped (now (work .entry)) ⌝ }
-{
-    let mut i = 0;
-    while i < WORK {
-        work[i] = 0;
-        i += 1;
     }
 }
 
@@ -78,7 +65,7 @@ pub fn replay_model(m: Model, run: &[u32], work: &mut [u8]) -> Answer
     ensures { λ r. ⌜ Replays (programOf m) (questionOf m) (beginning []) (now (run .entry)) 0 r × (now (work .exit) ≡ wiped (now (work .entry))) ⌝ }
 {
     let answer = play_run(m, run, &mut work[..WORK]);
-    wipe(work);
+    wipe::wipe(work);
     answer
 }
 
@@ -114,7 +101,7 @@ pub fn place_model(m: Model, s: Session, n: u32, work: &mut [u8]) -> Reply
     ensures { λ r. ⌜ PlaceReply m s n (r .answer) (r .session) × (now (work .exit) ≡ wiped (now (work .entry))) ⌝ }
 {
     let reply = play_place(m, s, n, &mut work[..WORK]);
-    wipe(work);
+    wipe::wipe(work);
     reply
 }
 

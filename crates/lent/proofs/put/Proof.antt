@@ -53,7 +53,8 @@ use Rattle.session.proofs.Answer.Laws as TA′
 use Rattle.session.proofs.Session as T
 use Rattle.session.proofs.Session.Laws as T′
 use Rattle.replay.specs.declared.Reply.{Reply}
-use Rattle.replay.specs.Replies.{PlaceReply, wiped}
+use Rattle.wipe.specs.Wiping.{wiped}
+use Rattle.replay.specs.Replies.{PlaceReply}
 use Rattle.replay.proofs.Reply as TR
 use Rattle.replay.proofs.Reply.Laws as TR′
 use Rattle.replay.proofs.place_model as pm

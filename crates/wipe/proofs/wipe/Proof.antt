@@ -6,9 +6,9 @@ use borrow.Author.Fill.{fill-more}
 use borrow.Author.Needs.{needs}
 use denote.Ref.{now}
 use lib.ListN.{length, set, drop, replicate, length-set}
-use Rattle.replay.specs.Replies.{wiped}
-use Rattle.replay.proofs.wipe.Statement.{statement}
-use Rattle.replay.proofs.wipe.Tie as tie
+use Rattle.wipe.specs.Wiping.{wiped}
+use Rattle.wipe.proofs.wipe.Statement.{statement}
+use Rattle.wipe.proofs.wipe.Tie as tie
 
 abbrev Inv-loop : tie.InvT-loop
 Inv-loop work₀ i₀ work i = (i ≤ 32768) × (length work ≡ length work₀) × (work ≡ replicate i 0 ++ drop i work₀)

@@ -1,0 +1,8 @@
+-- THE WORK AREA after an answer that is no refusal.
+use mathlib.Core.List.{List, _++_}
+use Prim.Native.Nat.{ℕ}
+use lib.ListN.{drop, replicate}
+
+-- "the first 32,768 work bytes are zero and the rest untouched"
+unfoldable pub wiped : List ℕ → List ℕ
+wiped w = replicate 32768 0 ++ drop 32768 w
