@@ -1,25 +1,28 @@
 -- GOING FROM LINE TO LINE: what the spec-level reader does with a line, and what was declared stays as more of the text is looked at.
 use mathlib.Core.Path.{_≡_, refl, sym, ap, _∙_}
 use mathlib.Core.List.{List, [], _∷_, _++_, append-nil}
-use mathlib.Core.Bool.{true}
+use mathlib.Core.Logic.{⊎-elim}
+use mathlib.Core.Bool.{true, false}
 use mathlib.Core.Option.{none, some}
-use Prim.Native.Nat.{ℕ, suc, _+_, _≤_, _<_}
+use Prim.Native.Nat.{ℕ, suc, _+_, _≤_}
 use native.Mathlib.Omega.{arith}
+use lib.Dec.{eqb}
 use lib.ListN.{length, take, getD}
-use lib.Seq.{slice, length-take-le, take-take}
-use borrow.Author.Tests.{eq-eqb, ne-eqb}
+use lib.Seq.{length-take-le}
+use borrow.Author.Tests.{eqb-true, eq-eqb, ne-eqb}
 use Rattle.semantics.specs.Models.{Program}
-use Rattle.grammar.specs.Bytes.{every, allowed, Line, ended, unended}
+use Rattle.grammar.specs.Bytes.{bytes, every, allowed, Line, ended}
 use Rattle.grammar.specs.Forms.{Literal, Form, stateForm, relForm, ruleForm, newForm, nextForm, askForm}
-use Rattle.grammar.specs.Shapes.{formOf}
+use Rattle.grammar.specs.Shapes.{after, whole, line, formOf, stateRest, relRest, ruleRest, newRest, nextRest, askRest}
 use Rattle.grammar.specs.Declarations as grammar
 use Rattle.grammar.specs.Rows.{fault}
 use Rattle.grammar.specs.Models.{declare, clause, questionOf}
 use Rattle.grammar.specs.Texts.{Outcome, accepted, refused, bad, judge, Step, wrong, adds, asks, effect, step, finish, readLines}
-use Rattle.names.specs.Rows.{listOf}
+use Rattle.grammar.proofs.Tests.{either}
 use Rattle.names.specs.Names.{entry, declaredOf, Valid}
 use Rattle.names.specs.declared.Declared.{Declared}
 use Rattle.names.proofs.Laws.{listOf-same, slice-prefix}
+use Rattle.line.proofs.Forms.{no-option, Only, only-none, only-either, state-only, rel-only, rule-only, new-only, next-only}
 
 -- LONGER PARTS OF THE TEXT
 module _ (text : List ℕ) (d : Declared) (a b : ℕ) (h : a ≤ b) (k : b ≤ length text) (v : Valid (take a text) d) where
@@ -105,3 +108,38 @@ module _ (n : ℕ) (D : grammar.Declared) (P : Program) (ls : List Line) where
     pub reads-ask : (qs : List (List Literal)) → formOf s ≡ some (askForm qs) → fault D (length P) (askForm qs) ≡ 0 → readLines n D P (ended s ∷ ls) ≡ finish n (accepted D P (questionOf D qs)) ls
     unfolding effect
     reads-ask qs h z = reads-fine n D P ls s ok (askForm qs) h z
+
+-- LINES BY THEIR FIRST WORD. A line that does not begin with `(ask ` has no `ask` form
+no-ask : (s : List ℕ) → after (bytes "(ask ") s ≡ none → Only NoAsk (line s)
+unfolding line
+no-ask s h =
+    only-either NoAsk (after (bytes "(state ") s) stateRest _ (state-only NoAsk (λ w. tt))
+    (only-either NoAsk (after (bytes "(rel ") s) relRest _ (rel-only NoAsk (λ w n. tt))
+    (only-either NoAsk (after (bytes "(rule ") s) ruleRest _ (rule-only NoAsk (λ g b. tt))
+    (only-either NoAsk (after (bytes "(new ") s) newRest _ (new-only NoAsk (λ l b. tt))
+    (only-either NoAsk (after (bytes "(next ") s) nextRest _ (next-only NoAsk (λ x p m b. tt)) (rw h (only-none NoAsk))))))
+
+pub other-form : (s : List ℕ) (f : Form) → after (bytes "(ask ") s ≡ none → formOf s ≡ some f → NoAsk f
+unfolding formOf
+other-form s f h e = no-ask s h f e
+
+-- one that begins with it begins with no other word
+other-word : (a b c : ℕ) (v w s : List ℕ) {r : List ℕ} → (c ≡ b → ⊥) → after (a ∷ b ∷ v) s ≡ some r → after (a ∷ c ∷ w) s ≡ none
+other-word a b c v w [] d e = refl
+other-word a b c v w (x ∷ []) d e = ⊎-elim (λ (q : eqb a x ≡ true). rw q) (λ (q : eqb a x ≡ false). rw q) (either (eqb a x))
+other-word a b c v w (x ∷ y ∷ s) d e = ⊎-elim
+    (λ (q : eqb a x ≡ true). rw q (⊎-elim
+    (λ (p : eqb b y ≡ true). rw (ne-eqb c y (λ z. d (z ∙ sym (eqb-true b y p)))))
+    (λ (p : eqb b y ≡ false). no-option (rw (q, p) at e)) (either (eqb b y))))
+    (λ (q : eqb a x ≡ false). rw q) (either (eqb a x))
+
+pub ask-line : (s : List ℕ) {r : List ℕ} → after (bytes "(ask ") s ≡ some r → formOf s ≡ whole (askRest r)
+unfolding formOf line
+ask-line s h = rw (
+  other-word 40 97 115 (bytes "sk ") (bytes "tate ") s (λ z. absurd (omega arith)) h,
+  other-word 40 97 114 (bytes "sk ") (bytes "el ") s (λ z. absurd (omega arith)) h,
+  other-word 40 97 114 (bytes "sk ") (bytes "ule ") s (λ z. absurd (omega arith)) h,
+  other-word 40 97 110 (bytes "sk ") (bytes "ew ") s (λ z. absurd (omega arith)) h,
+  other-word 40 97 110 (bytes "sk ") (bytes "ext ") s (λ z. absurd (omega arith)) h,
+  h,
+)

@@ -1,9 +1,9 @@
 -- Laws of lines.
-use mathlib.Core.Path.{_≡_, refl, sym, ap, _∙_, subst}
+use mathlib.Core.Path.{_≡_, refl, sym, ap, _∙_}
 use mathlib.Core.Logic.{⊎-elim}
-use mathlib.Core.Bool.{Bool, true, false, cond}
-use mathlib.Core.List.{List, [], _∷_, _++_, append-nil}
-use mathlib.Core.Option.{Option, none, some}
+use mathlib.Core.Bool.{true, false}
+use mathlib.Core.List.{List, [], _∷_, append-nil}
+use mathlib.Core.Option.{none, some}
 use Prim.Native.Nat.{ℕ, _+_, _≤_, _<_}
 use native.Mathlib.Omega.{arith}
 use lib.Dec.{leb}
@@ -13,10 +13,10 @@ use Rattle.semantics.specs.Models as meaning
 use Rattle.semantics.specs.Models.{Program}
 use Rattle.model.specs.Records.{lineOf}
 use Rattle.model.specs.declared.Model.{Model}
-use Rattle.grammar.specs.Bytes.{bytes, Word}
+use Rattle.grammar.specs.Bytes.{bytes}
 use Rattle.grammar.specs.Forms.{Form, stateForm, relForm, ruleForm, newForm, nextForm, askForm}
-use Rattle.grammar.specs.Shapes.{Read, _>>=_, after, name, arity, whole, line, stateRest, relRest, ruleRest, newRest, nextRest, askRest}
-use Rattle.grammar.specs.Rows.{lower, row, manyClauses, fault}
+use Rattle.grammar.specs.Shapes.{Read, after, line, stateRest, relRest, ruleRest, newRest, nextRest}
+use Rattle.grammar.specs.Rows.{row, manyClauses, fault}
 use Rattle.grammar.specs.Declarations as grammar
 use Rattle.grammar.specs.Models.{declare, clause}
 use Rattle.grammar.proofs.Tests.{either}
@@ -32,6 +32,7 @@ use Rattle.store.specs.Stored.{withClause}
 use Rattle.store.proofs.Laws.{stored-room, stored as stored-law}
 use Rattle.line.specs.Lines.{Stepped, LineEnd}
 use Rattle.line.specs.declared.Step.{Step}
+use Rattle.line.proofs.Forms.{Only, state-only, rel-only}
 
 -- A FORM THAT ADDS A CLAUSE leaves the declarations, and there was room for it
 none-some : {A B : Type 0} {x : A} {xs : List A} → _≡_ {A = List A} [] (x ∷ xs) → B
@@ -80,48 +81,21 @@ module _ {text : List ℕ} {d : Declared} {m : Model} {P : Program} (n : ℕ) {r
 
 -- A DECLARATION leaves the program
 pub declaration-step : {text : List ℕ} {d : Declared} {m : Model} {P : Program} {n : ℕ} {read : Read Form} {r : Declaration} → stored.Holds m P → DeclarationEnd text d read r
-    → ((f : Form) → whole read ≡ some f → clause (declaredOf text d) n f ≡ []) → Stepped text d P n read (record { number = r .number; declared = r .declared; model = m })
+    → Only (λ f. clause (declaredOf text d) n f ≡ []) read → Stepped text d P n read (record { number = r .number; declared = r .declared; model = m })
 declaration-step {P = P} so e h = record {
   missing = λ y. e .missing y;
   found = λ y. let w = e .found y in (w .0, w .1, w .2 (length P), λ x. let g = w .3 x in (g .0, g .1, g .2, rw (h (w .0) (w .1), append-nil P) so));
 }
 
 -- what a `state` or `rel` line reads is no clause
-some-form : {f g : Form} → _≡_ {A = Option Form} (some f) (some g) → f ≡ g
-some-form e = cc
-
-no-form : {A : Type 0} {f : Form} → _≡_ {A = Option Form} none (some f) → A
-no-form e = absurd (let z : _≡_ {A = ℕ} 0 1 = cc in omega arith)
-
 module _ (D : grammar.Declared) (n : ℕ) where
-  no-clause : (g : Form) → clause D n g ≡ [] → (o : Option (List ℕ)) (f : Form) → whole (o >>= λ u. some (g, u)) ≡ some f → clause D n f ≡ []
-  no-clause g h none f e = no-form e
-  no-clause g h (some []) f e = subst (λ (k : Form). clause D n k ≡ []) (some-form e) h
-  no-clause g h (some (b ∷ u)) f e = no-form e
+  pub state-none : (s : List ℕ) → Only (λ f. clause D n f ≡ []) (stateRest s)
+  unfolding clause
+  state-none = state-only (λ f. clause D n f ≡ []) (λ w. refl)
 
-  pub state-only : (s : List ℕ) (f : Form) → whole (stateRest s) ≡ some f → clause D n f ≡ []
-  unfolding stateRest clause
-  state-only s f e = go (name s) e
-    where
-      go : (o : Read Word) → whole (o >>= λ p. after (bytes ")") (p .1) >>= λ u. some (stateForm (p .0), u)) ≡ some f → clause D n f ≡ []
-      go none e = no-form e
-      go (some p) e = no-clause (stateForm (p .0)) refl (after (bytes ")") (p .1)) f e
-
-  pub rel-only : (s : List ℕ) (f : Form) → whole (relRest s) ≡ some f → clause D n f ≡ []
-  unfolding relRest clause
-  rel-only s f e = go (name s) e
-    where
-      last : (w : Word) (o : Read ℕ) → whole (o >>= λ p. after (bytes ")") (p .1) >>= λ u. some (relForm w (p .0), u)) ≡ some f → clause D n f ≡ []
-      last w none e = no-form e
-      last w (some p) e = no-clause (relForm w (p .0)) refl (after (bytes ")") (p .1)) f e
-
-      mid : (w : Word) (o : Option (List ℕ)) → whole (o >>= λ t. arity t >>= λ p. after (bytes ")") (p .1) >>= λ u. some (relForm w (p .0), u)) ≡ some f → clause D n f ≡ []
-      mid w none e = no-form e
-      mid w (some t) e = last w (arity t) e
-
-      go : (o : Read Word) → whole (o >>= λ q. after (bytes " ") (q .1) >>= λ t. arity t >>= λ p. after (bytes ")") (p .1) >>= λ u. some (relForm (q .0) (p .0), u)) ≡ some f → clause D n f ≡ []
-      go none e = no-form e
-      go (some q) e = mid (q .0) (after (bytes " ") (q .1)) e
+  pub rel-none : (s : List ℕ) → Only (λ f. clause D n f ≡ []) (relRest s)
+  unfolding clause
+  rel-none = rel-only (λ f. clause D n f ≡ []) (λ w k. refl)
 
 -- BY THE FIRST WORD
 module _ (s : List ℕ) {t : List ℕ} where

@@ -5,7 +5,7 @@ use denote.Ref.{now}
 use lib.ListN.{drop}
 use Rattle.grammar.specs.Shapes.{stateRest, relRest, ruleRest, newRest, nextRest}
 use Rattle.names.specs.Names.{declaredOf}
-use Rattle.line.proofs.Laws.{declaration-step, state-only, rel-only, line-state, line-rel, line-rule, line-new, line-next, line-none, line-steps, no-line}
+use Rattle.line.proofs.Laws.{declaration-step, state-none, rel-none, line-state, line-rel, line-rule, line-new, line-next, line-none, line-steps, no-line}
 use borrow.Author.Needs.{needs}
 use Rattle.line.proofs.read_line.Statement.{statement}
 use Rattle.line.proofs.read_line.Tie as tie
@@ -23,7 +23,7 @@ read-state-requires : tie.Need-read-state-requires
 read-state-requires c κs = let f = c .before .at-bytes .ensures .found (c .if1 .taken) .0 in (f, c .before .before .before .before .pre .1, c .before .before .before .before .pre .2, c .before .before .before .before .pre .3)
 
 returns : tie.Need-returns
-returns c = let t = now (c .before .before .before .before .before .before .args .text) in line-steps (stateRest (drop (c .before .before .before .before .before .before .args .at + 7) t)) (line-state (drop (c .before .before .before .before .before .before .args .at) (now (c .before .before .before .before .before .before .args .text))) (c .before .before .before .at-bytes .ensures .found (c .before .before .if1 .taken) .1)) (λ P so. declaration-step so (c .before .read-state .ensures) (state-only (declaredOf t (c .before .before .before .before .before .before .args .d)) (c .before .before .before .before .before .before .args .line) (drop (c .before .before .before .before .before .before .args .at + 7) t)))
+returns c = let t = now (c .before .before .before .before .before .before .args .text) in line-steps (stateRest (drop (c .before .before .before .before .before .before .args .at + 7) t)) (line-state (drop (c .before .before .before .before .before .before .args .at) (now (c .before .before .before .before .before .before .args .text))) (c .before .before .before .at-bytes .ensures .found (c .before .before .if1 .taken) .1)) (λ P so. declaration-step so (c .before .read-state .ensures) (state-none (declaredOf t (c .before .before .before .before .before .before .args .d)) (c .before .before .before .before .before .before .args .line) (drop (c .before .before .before .before .before .before .args .at + 7) t)))
 
 slice-aggregate-at-bytes-2 : tie.Need-slice-aggregate-at-bytes-2
 slice-aggregate-at-bytes-2 c = search needs
@@ -38,7 +38,7 @@ read-rel-requires : tie.Need-read-rel-requires
 read-rel-requires c κs = let f = c .before .at-bytes2 .ensures .found (c .if2 .taken) .0 in (f, c .before .before .before .before .before .before .before .pre .1, c .before .before .before .before .before .before .before .pre .2, c .before .before .before .before .before .before .before .pre .3)
 
 returns-2 : tie.Need-returns-2
-returns-2 c = let t = now (c .before .before .before .before .before .before .before .before .before .args .text) in line-steps (relRest (drop (c .before .before .before .before .before .before .before .before .before .args .at + 5) t)) (line-rel (drop (c .before .before .before .before .before .before .before .before .before .args .at) (now (c .before .before .before .before .before .before .before .before .before .args .text))) (c .before .before .before .before .before .before .at-bytes .ensures .missing (c .before .before .before .before .before .if1 .left)) (c .before .before .before .at-bytes2 .ensures .found (c .before .before .if2 .taken) .1)) (λ P so. declaration-step so (c .before .read-rel .ensures) (rel-only (declaredOf t (c .before .before .before .before .before .before .before .before .before .args .d)) (c .before .before .before .before .before .before .before .before .before .args .line) (drop (c .before .before .before .before .before .before .before .before .before .args .at + 5) t)))
+returns-2 c = let t = now (c .before .before .before .before .before .before .before .before .before .args .text) in line-steps (relRest (drop (c .before .before .before .before .before .before .before .before .before .args .at + 5) t)) (line-rel (drop (c .before .before .before .before .before .before .before .before .before .args .at) (now (c .before .before .before .before .before .before .before .before .before .args .text))) (c .before .before .before .before .before .before .at-bytes .ensures .missing (c .before .before .before .before .before .if1 .left)) (c .before .before .before .at-bytes2 .ensures .found (c .before .before .if2 .taken) .1)) (λ P so. declaration-step so (c .before .read-rel .ensures) (rel-none (declaredOf t (c .before .before .before .before .before .before .before .before .before .args .d)) (c .before .before .before .before .before .before .before .before .before .args .line) (drop (c .before .before .before .before .before .before .before .before .before .args .at + 5) t)))
 
 slice-aggregate-at-bytes-3 : tie.Need-slice-aggregate-at-bytes-3
 slice-aggregate-at-bytes-3 c = search needs
