@@ -23,7 +23,8 @@ use Rattle.model.proofs.Renaming.{elem-map, elem-of-map, vars-renamed, supporte
 use Rattle.model.proofs.Accepted.{stages, stage-here, stage-vars, stage-different, stage-count}
 use Rattle.levels.specs.Choices.{chosen}
 use Rattle.session.specs.declared.Session.{Session}
-use Rattle.session.specs.Sessions.{sessionOf, carriedBy, met}
+use Rattle.session.specs.Sessions.{met}
+use Rattle.session.specs.Records.{sessionOf, carriedBy}
 use Rattle.view.specs.declared.View.{View}
 use Rattle.play.specs.Tries.{Ready, Holding, Tried}
 use Rattle.meeting.specs.Carried.{Named, Agrees, carriedOn}

@@ -16,7 +16,7 @@ use Rattle.model.specs.WellFormed.{WellFormed}
 use Rattle.levels.specs.declared.Choice.{Choice}
 use Rattle.bodies.specs.Bodies.{Fixed}
 use Rattle.session.specs.declared.Session.{Session}
-use Rattle.session.specs.Sessions.{sessionOf, Fits, taken}
+use Rattle.session.specs.Records.{sessionOf, Fits, taken}
 use Rattle.session.specs.Replays.{Allows}
 use Rattle.view.specs.declared.View.{View}
 use Rattle.view.specs.Views.{rowOf, Views, Known}

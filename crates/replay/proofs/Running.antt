@@ -25,7 +25,8 @@ use Rattle.model.proofs.Accepted.{stages}
 use Rattle.session.specs.declared.Answer.{Answer}
 use Rattle.session.specs.declared.Answer.the-variants.{Kept, Broken}
 use Rattle.session.specs.declared.Session.{Session}
-use Rattle.session.specs.Sessions.{sessionOf, Fits, stepped, taken}
+use Rattle.session.specs.Sessions.{stepped}
+use Rattle.session.specs.Records.{sessionOf, Fits, taken}
 use Rattle.session.specs.Replays.{Replays}
 use Rattle.session.proofs.Effects.{taken-after, taken-fits}
 use Rattle.play.specs.Tries.{TriedAt}

@@ -11,7 +11,7 @@ ghost use Prim.Native.Nat.{_≤_};
 ghost use lib.ListN.{length};
 ghost use Rattle.semantics.specs.Runs.{start as beginning};
 ghost use Rattle.model.specs.Records.{programOf, questionOf};
-ghost use Rattle.model.specs.WellFormed.{WellFormed};
+ghost use Rattle.model.specs.WellFormed.{declaredIn, WellFormed};
 ghost use Rattle.session.specs.Replays.{Replays};
 ghost use Rattle.wipe.specs.Wiping.{wiped};
 ghost use Rattle.replay.specs.Replies.{fresh, PlaceReply};
@@ -72,7 +72,7 @@ pub fn replay_model(m: Model, run: &[u32], work: &mut [u8]) -> Answer
 // Puts one place to a lent state.
 fn play_place(m: Model, s: Session, n: u32, work: &mut [u8]) -> Reply
     requires { ⌜ WellFormed m × (s .kept ≢ 8640) × (26624 ≤ length (now work)) ⌝ }
-    ensures { λ r. ⌜ PlaceReply m s n (r .answer) (r .session) × (length (now (work .exit)) ≡ length (now (work .entry))) ⌝ }
+    ensures { λ r. ⌜ PlaceReply (declaredIn m 0) (programOf m) (questionOf m) (m .carried) s n (r .answer) (r .session) × (length (now (work .exit)) ≡ length (now (work .entry))) ⌝ }
 {
     if !session::fits(m, s) {
         return Reply {
@@ -98,7 +98,7 @@ fn play_place(m: Model, s: Session, n: u32, work: &mut [u8]) -> Reply
 // Puts one place to a lent state over a model, and leaves the work bytes zero.
 pub fn place_model(m: Model, s: Session, n: u32, work: &mut [u8]) -> Reply
     requires { ⌜ WellFormed m × (s .kept ≢ 8640) × (32768 ≤ length (now work)) ⌝ }
-    ensures { λ r. ⌜ PlaceReply m s n (r .answer) (r .session) × (now (work .exit) ≡ wiped (now (work .entry))) ⌝ }
+    ensures { λ r. ⌜ PlaceReply (declaredIn m 0) (programOf m) (questionOf m) (m .carried) s n (r .answer) (r .session) × (now (work .exit) ≡ wiped (now (work .entry))) ⌝ }
 {
     let reply = play_place(m, s, n, &mut work[..WORK]);
     wipe::wipe(work);

@@ -6,14 +6,11 @@ use mathlib.Core.List.{List, []}
 use mathlib.Core.Option.{Option, none, some}
 use Prim.Native.Nat.{ℕ, _+_, _≤_, _<_}
 use lib.Dec.{eqb}
-use lib.ListN.{take, set, getD}
+use lib.ListN.{length, take, set, getD}
 use Rattle.semantics.specs.Labels.{has, relabel}
-use Rattle.semantics.specs.Models.{elem, Body, Line, rule, new, next, other, line, vars}
+use Rattle.semantics.specs.Models.{elem, Body, Line, rule, new, next, other, Program, Question, line, vars}
 use Rattle.semantics.specs.Runs as runs
 use Rattle.semantics.specs.Runs.{step, meet, named}
-use Rattle.model.specs.declared.Model.{Model}
-use Rattle.model.specs.Records.{programOf, questionOf}
-use Rattle.model.specs.WellFormed.{declaredIn}
 use Rattle.session.specs.declared.Session.{Session}
 
 -- the test says whether the fact holds
@@ -25,19 +22,19 @@ Says A false = A → ⊥
 abbrev pub optional : ℕ → Option ℕ
 optional o = cond (eqb o 255) none (some o)
 
--- WHERE A RUN STANDS, as the semantics have it
-abbrev pub sessionOf : Model → Session → runs.Session
-sessionOf m s = record { db = take (s .objects) (s .states); met = s .met; carried = λ x. cond (eqb x (m .carried)) (optional (s .carried)) none }
+-- WHERE A RUN STANDS, as the semantics have it; c is the text's carried variable
+abbrev pub sessionOf : ℕ → Session → runs.Session
+sessionOf c s = record { db = take (s .objects) (s .states); met = s .met; carried = λ x. cond (eqb x c) (optional (s .carried)) none }
 
 -- the state of an object
 abbrev pub stateIn : Session → ℕ → ℕ
 stateIn s o = getD (s .states) o 0
 
--- THE STATE FITS THE TEXT: not "over 255 objects, an undeclared relation, too many stages, a carried object not created, or over 8,640 places"
-pub record Fits (m : Model) (s : Session) : Type 0 where
+-- THE STATE FITS THE TEXT, which declares so many state relations and asks Q: not "over 255 objects, an undeclared relation, too many stages, a carried object not created, or over 8,640 places"
+pub record Fits (declared : ℕ) (Q : Question) (s : Session) : Type 0 where
   pub objects : s .objects ≤ 255
-  pub relations : (o a : ℕ) → o < s .objects → has (stateIn s o) a ≡ true → a < declaredIn m 0
-  pub stages : s .met ≤ m .stagecount
+  pub relations : (o a : ℕ) → o < s .objects → has (stateIn s o) a ≡ true → a < declared
+  pub stages : s .met ≤ length Q
   pub carried : (s .carried ≡ 255) ⊎ (s .carried < s .objects)
   pub places : s .kept ≤ 8640
 
@@ -69,9 +66,9 @@ stepped s o (next x plus minus b) = relabeled s o plus minus
 stepped s o other = s
 
 -- the carried object after the meeting of a stage with the objects os: "where it has none the next meeting with the carried variable sets it"
-abbrev pub carriedBy : Model → Session → Body → List ℕ → ℕ
-carriedBy m s b os = cond (elem (m .carried) (vars b)) (named b os (m .carried)) (s .carried)
+abbrev pub carriedBy : ℕ → Session → Body → List ℕ → ℕ
+carriedBy c s b os = cond (elem c (vars b)) (named b os c) (s .carried)
 
-abbrev pub taken : Model → Session → runs.Place → Session
-taken m s (step ℓ o) = stepped s o (line (programOf m) ℓ)
-taken m s (meet i os) = met s (carriedBy m s (getD (questionOf m) (s .met) []) os)
+abbrev pub taken : Program → Question → ℕ → Session → runs.Place → Session
+taken P Q c s (step ℓ o) = stepped s o (line P ℓ)
+taken P Q c s (meet i os) = met s (carriedBy c s (getD Q (s .met) []) os)

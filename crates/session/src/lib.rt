@@ -7,7 +7,8 @@ ghost use Prim.Native.Nat.{ℕ, _≤_, _<_};
 ghost use lib.ListN.{take};
 ghost use Rattle.semantics.specs.Labels.{has};
 ghost use Rattle.model.specs.WellFormed.{inClass, WellFormed};
-ghost use Rattle.session.specs.Sessions.{Says, stateIn, Fits, created, relabeled, met as stageMet};
+ghost use Rattle.session.specs.Sessions.{Says, stateIn, created, relabeled, met as stageMet};
+ghost use Rattle.session.specs.Records.{Fits};
 
 // The replay's answer: kept, broken at a place, or a refusal with its number and line.
 pub enum Answer {

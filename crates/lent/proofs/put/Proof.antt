@@ -43,7 +43,8 @@ use denote.Triple.Clauses.{ensured, lasts}
 use denote.Triple.Walked.{says, needs, Stays, stay-ref, stay-none, gave-slice, walkOf, AllGo, goes-none, goes-ref, goes-gave-slice, Walks, ends-at, walked, walk-meets}
 use denote.Exit.{yes}
 use Rattle.model.specs.declared.Model.{Model}
-use Rattle.model.specs.WellFormed.{WellFormed}
+use Rattle.model.specs.Records.{programOf, questionOf}
+use Rattle.model.specs.WellFormed.{declaredIn, WellFormed}
 use Rattle.model.proofs.Model as TM
 use Rattle.model.proofs.Model.Laws as TM′
 use Rattle.session.specs.declared.Answer.{Answer}
@@ -122,7 +123,7 @@ module _ {M : Type 1} (𝓤 : URA M) (H : Heap 𝓤) (A : Atoms 𝓤) (W : Given
   Post = walkOf 𝓤 H A put.ended stayed (put.clauses 𝓤 H A at-mem run) .post (((κ₀, (κ₁, tt)), (q₀, (q₁, tt)), tt, x, at), tt)
 
   module _ (isM : Is TM.the-row m (machM ∷ [])) (fits : n < 2 ^ 32) where
-    exits : (v : Val) (a : Answer) (t : Session) (zs : List ℕ) → PlaceReply m h n a t × (zs ≡ wiped ys) → length zs ≡ length ys
+    exits : (v : Val) (a : Answer) (t : Session) (zs : List ℕ) → PlaceReply (declaredIn m 0) (programOf m) (questionOf m) (m .carried) h n a t × (zs ≡ wiped ys) → length zs ≡ length ys
         → ent 𝓤 (sep 𝓤 (A .obs γ (T.the-row .coded .code t)) (sep 𝓤 (A .bor κ₀ (Body (mem T.the-row) b o γ)) (sep 𝓤 (A .lft κ₀ q₀) (sep 𝓤 (sem 𝓤 H A (TA.the-row .own a (v ∷ []))) (sep 𝓤 (sep 𝓤 (A .lft κ₁ q₁) (sem 𝓤 H A ftrue)) (sem 𝓤 H A (finally u8 δ zs))))))) (Post v)
     exits v a t zs e l =
         qed W (‵ (fobs γ (T.the-row .coded .code t)) ∷ ‵ (fbor κ₀ (Body (mem T.the-row) b o γ)) ∷ ‵ (flft κ₀ q₀) ∷ ‵ (TA.the-row .own a (v ∷ [])) ∷ (‵ (flft κ₁ q₁) ⊛ ‵ ftrue) ∷ ‵ (finally u8 δ zs) ∷ []) ∵
@@ -154,7 +155,7 @@ module _ {M : Type 1} (𝓤 : URA M) (H : Heap 𝓤) (A : Atoms 𝓤) (W : Given
       goes-ao : ent 𝓤 (sem 𝓤 H A (TR.the-row .own r (v ∷ []))) (AO 𝓤 H A at-mem run .pre to-ao)
       goes-ao = qed W (‵ (TR.the-row .own r (v ∷ [])) ∷ []) ∵ nothing ! $ move ! (1 ∷ 0 ∷ []) $ join ! $ nothing ! $ join ! $ frame ! $ done !
 
-    told : (r : Reply) (a : Answer) (t : Session) → PlaceReply m h n (r .answer) (r .session) → t ≡ r .session → a ≡ r .answer → PlaceReply m h n a t
+    told : (r : Reply) (a : Answer) (t : Session) → PlaceReply (declaredIn m 0) (programOf m) (questionOf m) (m .carried) h n (r .answer) (r .session) → t ≡ r .session → a ≡ r .answer → PlaceReply (declaredIn m 0) (programOf m) (questionOf m) (m .carried) h n a t
     told r a t e et ea = rw (et, ea) e
 
     module _ (C : Calls 𝓤 H) (Λ : Loops 𝓤 H) (fm : FmC 𝓤 H (W .laws) C) (known-pm : Triple 𝓤 (C #replay·place-model) (PM 𝓤 H A at-mem run)) (known-so : Triple 𝓤 (C #replay·session-of) (SO 𝓤 H A at-mem run))
@@ -179,8 +180,8 @@ module _ {M : Type 1} (𝓤 : URA M) (H : Heap 𝓤) (A : Atoms 𝓤) (W : Given
           calls-at ! fm (PM 𝓤 H A at-mem run) known-pm to-pm (and-then ! (load ! (from ! (stop !)) (look ! 20 refl)) (and-then ! (load ! (from ! (stop !)) (look ! 10 refl)) (and-then ! (load ! (from ! (stop !)) (look ! 16 refl)) (and-then ! (load ! (from ! (stop !)) (look ! 6 refl)) (no-more !))))) (λ v.
           use1 W (later (some (λ (r : Reply). ((‵ (flft κ₁ q₁) ⊛ ‵ ftrue) ⊛ ‵ (TR.the-row .own r (v ∷ []))) ⊛ raw (ensured 𝓤 H A pm.ended (pm.clauses 𝓤 H A at-mem run) (κ₁, tt) (m, (h, (n, (work, tt)))) tt r)))) (id⊢ 𝓤 _) $ await ! tt $ pick ! (λ r.
           -- what `place_model` ensures, at some last list of the work area
-          split ! $ move ! (1 ∷ []) $ use1 W (some (λ (zs : Unit {0} × (Unit {0} × (Unit {0} × (List ℕ × Unit {0})))). ‵ (lasts pm.ended (κ₁, tt) (m, (h, (n, (work, tt)))) zs) ⊛ raw (fact 𝓤 (PlaceReply m h n (r .answer) (r .session) × (zs .1 .1 .1 .0 ≡ wiped ys))))) (id⊢ 𝓤 _) $ pick ! (λ zs.
-          split ! $ move ! (1 ∷ []) $ heard ! (PlaceReply m h n (r .answer) (r .session) × (zs .1 .1 .1 .0 ≡ wiped ys)) (λ e. fsplit ! $ drop ! $ fsplit ! $ drop ! $ fsplit ! $ drop ! $ fsplit ! $ fsplit ! $ move ! (1 ∷ []) $ feqL ! (λ l.
+          split ! $ move ! (1 ∷ []) $ use1 W (some (λ (zs : Unit {0} × (Unit {0} × (Unit {0} × (List ℕ × Unit {0})))). ‵ (lasts pm.ended (κ₁, tt) (m, (h, (n, (work, tt)))) zs) ⊛ raw (fact 𝓤 (PlaceReply (declaredIn m 0) (programOf m) (questionOf m) (m .carried) h n (r .answer) (r .session) × (zs .1 .1 .1 .0 ≡ wiped ys))))) (id⊢ 𝓤 _) $ pick ! (λ zs.
+          split ! $ move ! (1 ∷ []) $ heard ! (PlaceReply (declaredIn m 0) (programOf m) (questionOf m) (m .carried) h n (r .answer) (r .session) × (zs .1 .1 .1 .0 ≡ wiped ys)) (λ e. fsplit ! $ drop ! $ fsplit ! $ drop ! $ fsplit ! $ drop ! $ fsplit ! $ fsplit ! $ move ! (1 ∷ []) $ feqL ! (λ l.
           move ! (2 ∷ []) $ split ! $ move ! (1 ∷ []) $ peeks ! TR.the-row (Is TR.the-row) (shows 𝓤 H A TR.the-row) r (v ∷ []) (λ isR.
           -- [what the reply owns; the token; the last list; true; the state's cell; ..]
           land ! (from ! (stop !)) (init ! 15 refl (LL.lawful TR.the-type TR′.the-laws 𝓤 H A W .typed r _ isR .0)) $

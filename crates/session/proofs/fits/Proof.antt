@@ -6,6 +6,7 @@ use native.Mathlib.Omega.{arith}
 use borrow.Author.Needs.{needs}
 use Rattle.semantics.specs.Labels.{has}
 use Rattle.model.specs.WellFormed.{declaredIn}
+use Rattle.model.proofs.Accepted.{stages}
 use Rattle.session.specs.Sessions.{Says, stateIn}
 use Rattle.session.proofs.Fitting.{fits-says}
 use Rattle.session.proofs.fits.Statement.{statement}
@@ -15,7 +16,7 @@ returns : tie.Need-returns
 returns c = search needs
 
 returns-2 : tie.Need-returns-2
-returns-2 c = search needs
+returns-2 c = λ f. let s = c .before .before .before .before .before in let q = stages (s .args .m) (s .pre) in omega (arith, f .stages, c .if2 .taken)
 
 returns-3 : tie.Need-returns-3
 returns-3 c = search needs
@@ -40,7 +41,7 @@ unfolding declaredIn
 returns-5 c =
     let s = c .before .before .before .before .before .before .before .before .before .before .before .before in
     let k = c .before .before .before .before .before in
-    fits-says (s .args .m) (s .args .s) (c .relations-declared .result) (k .before .before .before .before .before .if1 .left) (k .before .before .if2 .left) (k .if3 .left)
+    fits-says (s .args .m) (s .args .s) (c .relations-declared .result) (k .before .before .before .before .before .if1 .left) (let q = stages (s .args .m) (s .pre) in omega (arith, k .before .before .if2 .left)) (k .if3 .left)
     (⊎-elim (λ w. inr (w .3 .left)) (λ w. inl (w .left)) (c .before .before .before .if4 .came))
     (subst (λ (n : ℕ). Says ((o a : ℕ) → o < s .args .s .objects → has (stateIn (s .args .s) o) a ≡ true → a < n) (c .relations-declared .result)) (c .before .declared-states .ensures) (c .relations-declared .ensures))
 
