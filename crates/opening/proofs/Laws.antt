@@ -1,0 +1,74 @@
+-- What the blank record holds, and the record with the declared names.
+use mathlib.Core.Path.{_≡_, refl, sym, _∙_}
+use mathlib.Core.List.{List, [], _∷_, _++_, map, map-append}
+use Prim.Native.Nat.{ℕ, zero, suc, _≤_, _<_}
+use native.Mathlib.Omega.{arith}
+use lib.ListN.{length, take, getD}
+use lib.Seq.{take-suc}
+use Rattle.semantics.specs.Models.{Program}
+use Rattle.model.specs.Records.{programOf, clauseAt}
+use Rattle.model.specs.declared.Model.{Model}
+use Rattle.acceptance.specs.Represents.{codesOf, HoldsClause}
+use Rattle.names.specs.Rows.{listOf}
+use Rattle.names.specs.Names.{entry, declaredOf, Valid}
+use Rattle.names.specs.declared.Declared.{Declared}
+use Rattle.names.proofs.Laws.{length-listOf}
+use Rattle.store.specs.Stored as stored
+use Rattle.question.specs.Questions as questions
+use Rattle.ask.proofs.Represented.{Before}
+use Rattle.opening.specs.Openings.{Blank, fitted}
+
+-- the blank record holds no clause
+pub blank-program : {m : Model} → Blank m → programOf m ≡ []
+unfolding programOf
+blank-program b = rw (b .clausecount)
+
+pub blank-holds : {m : Model} → Blank m → stored.Holds m []
+blank-holds b = record {
+  program = blank-program b;
+  count = b .clausecount;
+  few = let z = b .clausecount in omega arith;
+  room = let z = b .literalcount in omega arith;
+  within = rw (b .clausecount) tt;
+  clauses = b .clauses;
+  literals = b .literals;
+}
+
+-- THE DECLARED NAMES in the record
+pub length-declared : (text : List ℕ) (d : Declared) → length (declaredOf text d) ≡ d .count
+unfolding declaredOf
+length-declared text d = length-listOf (d .count) (entry text d)
+
+pub declared-codes : (text : List ℕ) (d : Declared) → Valid text d → codesOf (declaredOf text d) ≡ take (d .count) (d .codes)
+unfolding declaredOf
+declared-codes text d v = go (d .count) (let c = v .count in omega (arith, v .codes))
+  where
+    go : (n : ℕ) → n ≤ length (d .codes) → codesOf (listOf n (entry text d)) ≡ take n (d .codes)
+    go zero h = refl
+    go (suc n) h = map-append (λ e. e .1) (listOf n (entry text d)) (entry text d n ∷ []) ∙ rw (go n (omega arith), take-suc (d .codes) n 0 (omega arith))
+
+-- AT THE `ask` LINE, in a text of n lines
+module _ {m : Model} {P : Program} (d : Declared) (n : ℕ) (so : stored.Holds m P) where
+  pub fitted-empty : m .stagecount ≡ 0 → length (m .stages) ≡ 4 → questions.Empty (fitted m d n)
+  fitted-empty z k = record {
+    stagecount = z;
+    literalcount = let r = so .room in let f = so .few in omega arith;
+    literals = so .literals;
+    stages = k;
+  }
+
+  pub fitted-program : programOf (fitted m d n) ≡ P
+  unfolding programOf
+  fitted-program = so .program
+
+  pub before : {text : List ℕ} → Valid text d → ((i : ℕ) → i < m .clausecount → HoldsClause m (clauseAt m i)) → Before n (declaredOf text d) P (fitted m d n)
+  before {text} v held = record {
+    declared = sym (length-declared text d);
+    relations = sym (declared-codes text d v);
+    clauses = so .count;
+    program = fitted-program;
+    clause = λ i h. let c = held i h in record { within = c .within; numbered = c .numbered };
+    lines = refl;
+    codes = v .codes;
+    row = so .clauses;
+  }
