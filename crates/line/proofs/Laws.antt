@@ -12,6 +12,7 @@ use borrow.Author.Tests.{leb-false}
 use Rattle.semantics.specs.Models as meaning
 use Rattle.semantics.specs.Models.{Program}
 use Rattle.model.specs.Records.{lineOf}
+use Rattle.model.specs.declared.Action.{Action}
 use Rattle.model.specs.declared.Model.{Model}
 use Rattle.grammar.specs.Bytes.{bytes}
 use Rattle.grammar.specs.Forms.{Form, stateForm, relForm, ruleForm, newForm, nextForm, askForm}
@@ -25,12 +26,13 @@ use Rattle.names.specs.Names.{Valid, declaredOf}
 use Rattle.names.specs.declared.Declared.{Declared}
 use Rattle.declare.specs.Declares.{Limited, DeclarationEnd}
 use Rattle.declare.specs.declared.Declaration.{Declaration}
+use Rattle.frame.specs.declared.Frame.{Frame}
 use Rattle.clause.specs.Clauses.{ClauseEnd, bodyIn}
 use Rattle.clause.specs.declared.Reading.{Reading}
 use Rattle.store.specs.Stored as stored
 use Rattle.store.specs.Stored.{withClause}
 use Rattle.store.proofs.Laws.{stored-room, stored as stored-law}
-use Rattle.line.specs.Lines.{Stepped, LineEnd}
+use Rattle.line.specs.Lines.{Stepped, Aside, LineEnd}
 use Rattle.line.specs.declared.Step.{Step}
 use Rattle.line.proofs.Forms.{Only, state-only, rel-only}
 
@@ -76,8 +78,15 @@ module _ {text : List ℕ} {d : Declared} {m : Model} {P : Program} (n : ℕ) {r
         let q = clause-form (declaredOf text d) (m .clausecount) n (lineOf (r .action) (bodyIn (r .frame))) (w .0) (sym (w .2) ∙ z) (g .3 n) in
         record {
           missing = λ y. absurd (fine y);
-          found = λ y. (w .0, w .1, w .2 ∙ ap (λ (k : ℕ). fault (declaredOf text d) k (w .0)) (so .count), λ x. (v, li, sym (q .1), rw (g .3 n) (stored-law m P n (r .action) (r .frame) so (q .0) (g .0) (g .1))));
+          found = λ y. (w .0, w .1, w .2 ∙ ap (λ (k : ℕ). fault (declaredOf text d) k (w .0)) (so .count), λ x. (v, li, sym (q .1), rw (g .3 n) (stored-law m P n (r .action) (r .frame) so (q .0) (g .0) (g .1) (g .4))));
         }
+
+-- A RECORD with one clause more, or none, keeps the rest
+pub none-aside : {m : Model} → Aside m m
+none-aside = record { relations = refl; names = refl; lengths = refl; stages = refl; stagecount = refl; carried = refl; lines = refl }
+
+pub clause-aside : {m : Model} (n : ℕ) (action : Action) (f : Frame) → Aside m (withClause m n action f)
+clause-aside n action f = record { relations = refl; names = refl; lengths = refl; stages = refl; stagecount = refl; carried = refl; lines = refl }
 
 -- A DECLARATION leaves the program
 pub declaration-step : {text : List ℕ} {d : Declared} {m : Model} {P : Program} {n : ℕ} {read : Read Form} {r : Declaration} → stored.Holds m P → DeclarationEnd text d read r
@@ -129,8 +138,9 @@ line-none s a b c d e f = rw (a, b, c, d, e, f)
 
 -- the line with another word is judged by what follows the word
 pub line-steps : {text : List ℕ} {at : ℕ} {d : Declared} {m : Model} {n : ℕ} {r : Step} (read : Read Form) → line (drop at text) ≡ read
-    → ((P : Program) → stored.Holds m P → Stepped text d P n read r) → LineEnd text at d m n r
-line-steps read h k = record { steps = λ P so _. rw h (k P so) }
+    → ((P : Program) → stored.Holds m P → Stepped text d P n read r) → Aside m (r .model) → LineEnd text at d m n r
+line-steps read h k a = record { steps = λ P so _. rw h (k P so); aside = a }
 
-pub no-line : {text : List ℕ} {at : ℕ} {d : Declared} {m : Model} {n : ℕ} {r : Step} → r .number ≡ 3 → (after (bytes "(ask ") (drop at text) ≡ none → line (drop at text) ≡ none) → LineEnd text at d m n r
-no-line z h = record { steps = λ P so a. record { missing = λ y. rw (h a); found = λ y. absurd (y z) } }
+pub no-line : {text : List ℕ} {at : ℕ} {d : Declared} {m : Model} {n : ℕ} {r : Step} → r .number ≡ 3 → (after (bytes "(ask ") (drop at text) ≡ none → line (drop at text) ≡ none) → Aside m (r .model)
+    → LineEnd text at d m n r
+no-line z h a = record { steps = λ P so b. record { missing = λ y. rw (h b); found = λ y. absurd (y z) }; aside = a }

@@ -24,5 +24,17 @@ pub record Stepped (text : List ℕ) (d : Declared) (P : Program) (n : ℕ) (rea
       × (s .number ≡ 0 → Valid text (s .declared) × Limited (s .declared) × (declaredOf text (s .declared) ≡ declare (declaredOf text d) f)
       × stored.Holds (s .model) (P ++ clause (declaredOf text d) n f))
 
+-- the record m′ has of m what no clause touches
+pub record Aside (m m′ : Model) : Type 0 where
+  pub relations : m′ .relations ≡ m .relations
+  pub names : m′ .names ≡ m .names
+  pub lengths : m′ .lengths ≡ m .lengths
+  pub stages : m′ .stages ≡ m .stages
+  pub stagecount : m′ .stagecount ≡ m .stagecount
+  pub carried : m′ .carried ≡ m .carried
+  pub lines : m′ .lines ≡ m .lines
+
+-- the line from place `at` on, unless it is an `ask` line
 pub record LineEnd (text : List ℕ) (at : ℕ) (d : Declared) (m : Model) (n : ℕ) (s : Step) : Type 0 where
   pub steps : (P : Program) → stored.Holds m P → after (bytes "(ask ") (drop at text) ≡ none → Stepped text d P n (line (drop at text)) s
+  pub aside : Aside m (s .model)

@@ -12,7 +12,7 @@ ghost use Rattle.names.specs.Names as names;
 ghost use Rattle.clause.specs.Clauses.{ClauseEnd};
 ghost use Rattle.declare.specs.Declares.{Limited};
 ghost use Rattle.store.specs.Stored as stored;
-ghost use Rattle.line.specs.Lines.{Stepped, LineEnd};
+ghost use Rattle.line.specs.Lines.{Stepped, Aside, LineEnd};
 use clause::Reading;
 use model::Model;
 use names::Declared;
@@ -28,7 +28,7 @@ pub struct Step {
 fn store_clause(text: &[u8], d: Declared, m: Model, line: u32, r: Reading) -> Step
     requires { ⌜ ((P : Program) × (read : Read Form) × stored.Holds m P × names.Valid (now text) d × Limited d × ClauseEnd (now text) (names.declaredOf (now text) d) (m .clausecount) read r) ⌝ }
     ensures { λ s. ⌜ ((P : Program) (read : Read Form) → stored.Holds m P → names.Valid (now (text .entry)) d → Limited d
-        → ClauseEnd (now (text .entry)) (names.declaredOf (now (text .entry)) d) (m .clausecount) read r → Stepped (now (text .entry)) d P line read s) ⌝ }
+        → ClauseEnd (now (text .entry)) (names.declaredOf (now (text .entry)) d) (m .clausecount) read r → Stepped (now (text .entry)) d P line read s) × Aside m (s .model) ⌝ }
 {
     let number = r.number;
     if number != 0 {

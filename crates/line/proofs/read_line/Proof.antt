@@ -5,7 +5,7 @@ use denote.Ref.{now}
 use lib.ListN.{drop}
 use Rattle.grammar.specs.Shapes.{stateRest, relRest, ruleRest, newRest, nextRest}
 use Rattle.names.specs.Names.{declaredOf}
-use Rattle.line.proofs.Laws.{declaration-step, state-none, rel-none, line-state, line-rel, line-rule, line-new, line-next, line-none, line-steps, no-line}
+use Rattle.line.proofs.Laws.{declaration-step, state-none, rel-none, line-state, line-rel, line-rule, line-new, line-next, line-none, line-steps, no-line, none-aside}
 use borrow.Author.Needs.{needs}
 use Rattle.line.proofs.read_line.Statement.{statement}
 use Rattle.line.proofs.read_line.Tie as tie
@@ -23,7 +23,7 @@ read-state-requires : tie.Need-read-state-requires
 read-state-requires c κs = let f = c .before .at-bytes .ensures .found (c .if1 .taken) .0 in (f, c .before .before .before .before .pre .1, c .before .before .before .before .pre .2, c .before .before .before .before .pre .3)
 
 returns : tie.Need-returns
-returns c = let t = now (c .before .before .before .before .before .before .args .text) in line-steps (stateRest (drop (c .before .before .before .before .before .before .args .at + 7) t)) (line-state (drop (c .before .before .before .before .before .before .args .at) (now (c .before .before .before .before .before .before .args .text))) (c .before .before .before .at-bytes .ensures .found (c .before .before .if1 .taken) .1)) (λ P so. declaration-step so (c .before .read-state .ensures) (state-none (declaredOf t (c .before .before .before .before .before .before .args .d)) (c .before .before .before .before .before .before .args .line) (drop (c .before .before .before .before .before .before .args .at + 7) t)))
+returns c = let t = now (c .before .before .before .before .before .before .args .text) in line-steps (stateRest (drop (c .before .before .before .before .before .before .args .at + 7) t)) (line-state (drop (c .before .before .before .before .before .before .args .at) (now (c .before .before .before .before .before .before .args .text))) (c .before .before .before .at-bytes .ensures .found (c .before .before .if1 .taken) .1)) (λ P so. declaration-step so (c .before .read-state .ensures) (state-none (declaredOf t (c .before .before .before .before .before .before .args .d)) (c .before .before .before .before .before .before .args .line) (drop (c .before .before .before .before .before .before .args .at + 7) t))) none-aside
 
 slice-aggregate-at-bytes-2 : tie.Need-slice-aggregate-at-bytes-2
 slice-aggregate-at-bytes-2 c = search needs
@@ -38,7 +38,7 @@ read-rel-requires : tie.Need-read-rel-requires
 read-rel-requires c κs = let f = c .before .at-bytes2 .ensures .found (c .if2 .taken) .0 in (f, c .before .before .before .before .before .before .before .pre .1, c .before .before .before .before .before .before .before .pre .2, c .before .before .before .before .before .before .before .pre .3)
 
 returns-2 : tie.Need-returns-2
-returns-2 c = let t = now (c .before .before .before .before .before .before .before .before .before .args .text) in line-steps (relRest (drop (c .before .before .before .before .before .before .before .before .before .args .at + 5) t)) (line-rel (drop (c .before .before .before .before .before .before .before .before .before .args .at) (now (c .before .before .before .before .before .before .before .before .before .args .text))) (c .before .before .before .before .before .before .at-bytes .ensures .missing (c .before .before .before .before .before .if1 .left)) (c .before .before .before .at-bytes2 .ensures .found (c .before .before .if2 .taken) .1)) (λ P so. declaration-step so (c .before .read-rel .ensures) (rel-none (declaredOf t (c .before .before .before .before .before .before .before .before .before .args .d)) (c .before .before .before .before .before .before .before .before .before .args .line) (drop (c .before .before .before .before .before .before .before .before .before .args .at + 5) t)))
+returns-2 c = let t = now (c .before .before .before .before .before .before .before .before .before .args .text) in line-steps (relRest (drop (c .before .before .before .before .before .before .before .before .before .args .at + 5) t)) (line-rel (drop (c .before .before .before .before .before .before .before .before .before .args .at) (now (c .before .before .before .before .before .before .before .before .before .args .text))) (c .before .before .before .before .before .before .at-bytes .ensures .missing (c .before .before .before .before .before .if1 .left)) (c .before .before .before .at-bytes2 .ensures .found (c .before .before .if2 .taken) .1)) (λ P so. declaration-step so (c .before .read-rel .ensures) (rel-none (declaredOf t (c .before .before .before .before .before .before .before .before .before .args .d)) (c .before .before .before .before .before .before .before .before .before .args .line) (drop (c .before .before .before .before .before .before .before .before .before .args .at + 5) t))) none-aside
 
 slice-aggregate-at-bytes-3 : tie.Need-slice-aggregate-at-bytes-3
 slice-aggregate-at-bytes-3 c = search needs
@@ -56,7 +56,7 @@ store-clause-requires : tie.Need-store-clause-requires
 store-clause-requires c κs = (c .before .before .before .before .before .before .before .before .before .before .before .pre .4 .0, ruleRest (drop (c .before .before .before .before .before .before .before .before .before .before .before .args .at + 6) (now (c .before .before .before .before .before .before .before .before .before .before .before .args .text))), c .before .before .before .before .before .before .before .before .before .before .before .pre .4 .1, c .before .before .before .before .before .before .before .before .before .before .before .pre .2, c .before .before .before .before .before .before .before .before .before .before .before .pre .3, c .read-rule .ensures)
 
 returns-3 : tie.Need-returns-3
-returns-3 c = let t = now (c .before .before .before .before .before .before .before .before .before .before .before .before .args .text) in line-steps (ruleRest (drop (c .before .before .before .before .before .before .before .before .before .before .before .before .args .at + 6) t)) (line-rule (drop (c .before .before .before .before .before .before .before .before .before .before .before .before .args .at) (now (c .before .before .before .before .before .before .before .before .before .before .before .before .args .text))) (c .before .before .before .before .before .before .before .before .before .at-bytes .ensures .missing (c .before .before .before .before .before .before .before .before .if1 .left)) (c .before .before .before .before .before .before .at-bytes2 .ensures .missing (c .before .before .before .before .before .if2 .left)) (c .before .before .before .at-bytes3 .ensures .found (c .before .before .if3 .taken) .1)) (λ P so. c .store-clause .ensures P (ruleRest (drop (c .before .before .before .before .before .before .before .before .before .before .before .before .args .at + 6) t)) so (c .before .before .before .before .before .before .before .before .before .before .before .before .pre .2) (c .before .before .before .before .before .before .before .before .before .before .before .before .pre .3) (c .before .read-rule .ensures))
+returns-3 c = let t = now (c .before .before .before .before .before .before .before .before .before .before .before .before .args .text) in line-steps (ruleRest (drop (c .before .before .before .before .before .before .before .before .before .before .before .before .args .at + 6) t)) (line-rule (drop (c .before .before .before .before .before .before .before .before .before .before .before .before .args .at) (now (c .before .before .before .before .before .before .before .before .before .before .before .before .args .text))) (c .before .before .before .before .before .before .before .before .before .at-bytes .ensures .missing (c .before .before .before .before .before .before .before .before .if1 .left)) (c .before .before .before .before .before .before .at-bytes2 .ensures .missing (c .before .before .before .before .before .if2 .left)) (c .before .before .before .at-bytes3 .ensures .found (c .before .before .if3 .taken) .1)) (λ P so. c .store-clause .ensures .0 P (ruleRest (drop (c .before .before .before .before .before .before .before .before .before .before .before .before .args .at + 6) t)) so (c .before .before .before .before .before .before .before .before .before .before .before .before .pre .2) (c .before .before .before .before .before .before .before .before .before .before .before .before .pre .3) (c .before .read-rule .ensures)) (c .store-clause .ensures .1)
 
 slice-aggregate-at-bytes-4 : tie.Need-slice-aggregate-at-bytes-4
 slice-aggregate-at-bytes-4 c = search needs
@@ -74,7 +74,7 @@ store-clause-requires-2 : tie.Need-store-clause-requires-2
 store-clause-requires-2 c κs = (c .before .before .before .before .before .before .before .before .before .before .before .before .before .before .pre .4 .0, newRest (drop (c .before .before .before .before .before .before .before .before .before .before .before .before .before .before .args .at + 5) (now (c .before .before .before .before .before .before .before .before .before .before .before .before .before .before .args .text))), c .before .before .before .before .before .before .before .before .before .before .before .before .before .before .pre .4 .1, c .before .before .before .before .before .before .before .before .before .before .before .before .before .before .pre .2, c .before .before .before .before .before .before .before .before .before .before .before .before .before .before .pre .3, c .read-new .ensures)
 
 returns-4 : tie.Need-returns-4
-returns-4 c = let t = now (c .before .before .before .before .before .before .before .before .before .before .before .before .before .before .before .args .text) in line-steps (newRest (drop (c .before .before .before .before .before .before .before .before .before .before .before .before .before .before .before .args .at + 5) t)) (line-new (drop (c .before .before .before .before .before .before .before .before .before .before .before .before .before .before .before .args .at) (now (c .before .before .before .before .before .before .before .before .before .before .before .before .before .before .before .args .text))) (c .before .before .before .before .before .before .before .before .before .before .before .before .at-bytes .ensures .missing (c .before .before .before .before .before .before .before .before .before .before .before .if1 .left)) (c .before .before .before .before .before .before .before .before .before .at-bytes2 .ensures .missing (c .before .before .before .before .before .before .before .before .if2 .left)) (c .before .before .before .before .before .before .at-bytes3 .ensures .missing (c .before .before .before .before .before .if3 .left)) (c .before .before .before .at-bytes4 .ensures .found (c .before .before .if4 .taken) .1)) (λ P so. c .store-clause2 .ensures P (newRest (drop (c .before .before .before .before .before .before .before .before .before .before .before .before .before .before .before .args .at + 5) t)) so (c .before .before .before .before .before .before .before .before .before .before .before .before .before .before .before .pre .2) (c .before .before .before .before .before .before .before .before .before .before .before .before .before .before .before .pre .3) (c .before .read-new .ensures))
+returns-4 c = let t = now (c .before .before .before .before .before .before .before .before .before .before .before .before .before .before .before .args .text) in line-steps (newRest (drop (c .before .before .before .before .before .before .before .before .before .before .before .before .before .before .before .args .at + 5) t)) (line-new (drop (c .before .before .before .before .before .before .before .before .before .before .before .before .before .before .before .args .at) (now (c .before .before .before .before .before .before .before .before .before .before .before .before .before .before .before .args .text))) (c .before .before .before .before .before .before .before .before .before .before .before .before .at-bytes .ensures .missing (c .before .before .before .before .before .before .before .before .before .before .before .if1 .left)) (c .before .before .before .before .before .before .before .before .before .at-bytes2 .ensures .missing (c .before .before .before .before .before .before .before .before .if2 .left)) (c .before .before .before .before .before .before .at-bytes3 .ensures .missing (c .before .before .before .before .before .if3 .left)) (c .before .before .before .at-bytes4 .ensures .found (c .before .before .if4 .taken) .1)) (λ P so. c .store-clause2 .ensures .0 P (newRest (drop (c .before .before .before .before .before .before .before .before .before .before .before .before .before .before .before .args .at + 5) t)) so (c .before .before .before .before .before .before .before .before .before .before .before .before .before .before .before .pre .2) (c .before .before .before .before .before .before .before .before .before .before .before .before .before .before .before .pre .3) (c .before .read-new .ensures)) (c .store-clause2 .ensures .1)
 
 slice-aggregate-at-bytes-5 : tie.Need-slice-aggregate-at-bytes-5
 slice-aggregate-at-bytes-5 c = search needs
@@ -92,10 +92,10 @@ store-clause-requires-3 : tie.Need-store-clause-requires-3
 store-clause-requires-3 c κs = (c .before .before .before .before .before .before .before .before .before .before .before .before .before .before .before .before .before .pre .4 .0, nextRest (drop (c .before .before .before .before .before .before .before .before .before .before .before .before .before .before .before .before .before .args .at + 6) (now (c .before .before .before .before .before .before .before .before .before .before .before .before .before .before .before .before .before .args .text))), c .before .before .before .before .before .before .before .before .before .before .before .before .before .before .before .before .before .pre .4 .1, c .before .before .before .before .before .before .before .before .before .before .before .before .before .before .before .before .before .pre .2, c .before .before .before .before .before .before .before .before .before .before .before .before .before .before .before .before .before .pre .3, c .read-next .ensures)
 
 returns-5 : tie.Need-returns-5
-returns-5 c = let t = now (c .before .before .before .before .before .before .before .before .before .before .before .before .before .before .before .before .before .before .args .text) in line-steps (nextRest (drop (c .before .before .before .before .before .before .before .before .before .before .before .before .before .before .before .before .before .before .args .at + 6) t)) (line-next (drop (c .before .before .before .before .before .before .before .before .before .before .before .before .before .before .before .before .before .before .args .at) (now (c .before .before .before .before .before .before .before .before .before .before .before .before .before .before .before .before .before .before .args .text))) (c .before .before .before .before .before .before .before .before .before .before .before .before .before .before .before .at-bytes .ensures .missing (c .before .before .before .before .before .before .before .before .before .before .before .before .before .before .if1 .left)) (c .before .before .before .before .before .before .before .before .before .before .before .before .at-bytes2 .ensures .missing (c .before .before .before .before .before .before .before .before .before .before .before .if2 .left)) (c .before .before .before .before .before .before .before .before .before .at-bytes3 .ensures .missing (c .before .before .before .before .before .before .before .before .if3 .left)) (c .before .before .before .before .before .before .at-bytes4 .ensures .missing (c .before .before .before .before .before .if4 .left)) (c .before .before .before .at-bytes5 .ensures .found (c .before .before .if5 .taken) .1)) (λ P so. c .store-clause3 .ensures P (nextRest (drop (c .before .before .before .before .before .before .before .before .before .before .before .before .before .before .before .before .before .before .args .at + 6) t)) so (c .before .before .before .before .before .before .before .before .before .before .before .before .before .before .before .before .before .before .pre .2) (c .before .before .before .before .before .before .before .before .before .before .before .before .before .before .before .before .before .before .pre .3) (c .before .read-next .ensures))
+returns-5 c = let t = now (c .before .before .before .before .before .before .before .before .before .before .before .before .before .before .before .before .before .before .args .text) in line-steps (nextRest (drop (c .before .before .before .before .before .before .before .before .before .before .before .before .before .before .before .before .before .before .args .at + 6) t)) (line-next (drop (c .before .before .before .before .before .before .before .before .before .before .before .before .before .before .before .before .before .before .args .at) (now (c .before .before .before .before .before .before .before .before .before .before .before .before .before .before .before .before .before .before .args .text))) (c .before .before .before .before .before .before .before .before .before .before .before .before .before .before .before .at-bytes .ensures .missing (c .before .before .before .before .before .before .before .before .before .before .before .before .before .before .if1 .left)) (c .before .before .before .before .before .before .before .before .before .before .before .before .at-bytes2 .ensures .missing (c .before .before .before .before .before .before .before .before .before .before .before .if2 .left)) (c .before .before .before .before .before .before .before .before .before .at-bytes3 .ensures .missing (c .before .before .before .before .before .before .before .before .if3 .left)) (c .before .before .before .before .before .before .at-bytes4 .ensures .missing (c .before .before .before .before .before .if4 .left)) (c .before .before .before .at-bytes5 .ensures .found (c .before .before .if5 .taken) .1)) (λ P so. c .store-clause3 .ensures .0 P (nextRest (drop (c .before .before .before .before .before .before .before .before .before .before .before .before .before .before .before .before .before .before .args .at + 6) t)) so (c .before .before .before .before .before .before .before .before .before .before .before .before .before .before .before .before .before .before .pre .2) (c .before .before .before .before .before .before .before .before .before .before .before .before .before .before .before .before .before .before .pre .3) (c .before .read-next .ensures)) (c .store-clause3 .ensures .1)
 
 returns-6 : tie.Need-returns-6
-returns-6 c = no-line refl (line-none (drop (c .before .before .before .before .before .before .before .before .before .before .before .before .before .before .before .before .args .at) (now (c .before .before .before .before .before .before .before .before .before .before .before .before .before .before .before .before .args .text))) (c .before .before .before .before .before .before .before .before .before .before .before .before .before .at-bytes .ensures .missing (c .before .before .before .before .before .before .before .before .before .before .before .before .if1 .left)) (c .before .before .before .before .before .before .before .before .before .before .at-bytes2 .ensures .missing (c .before .before .before .before .before .before .before .before .before .if2 .left)) (c .before .before .before .before .before .before .before .at-bytes3 .ensures .missing (c .before .before .before .before .before .before .if3 .left)) (c .before .before .before .before .at-bytes4 .ensures .missing (c .before .before .before .if4 .left)) (c .before .at-bytes5 .ensures .missing (c .if5 .left)))
+returns-6 c = no-line refl (line-none (drop (c .before .before .before .before .before .before .before .before .before .before .before .before .before .before .before .before .args .at) (now (c .before .before .before .before .before .before .before .before .before .before .before .before .before .before .before .before .args .text))) (c .before .before .before .before .before .before .before .before .before .before .before .before .before .at-bytes .ensures .missing (c .before .before .before .before .before .before .before .before .before .before .before .before .if1 .left)) (c .before .before .before .before .before .before .before .before .before .before .at-bytes2 .ensures .missing (c .before .before .before .before .before .before .before .before .before .if2 .left)) (c .before .before .before .before .before .before .before .at-bytes3 .ensures .missing (c .before .before .before .before .before .before .if3 .left)) (c .before .before .before .before .at-bytes4 .ensures .missing (c .before .before .before .if4 .left)) (c .before .at-bytes5 .ensures .missing (c .if5 .left))) none-aside
 
 pub read-line-spec : {M : Type 1} → statement M
 read-line-spec =
