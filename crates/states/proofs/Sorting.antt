@@ -1,13 +1,13 @@
 -- The states of a row, taken by rising number.
-use mathlib.Core.Path.{_≡_, refl, sym, _∙_, subst}
+use mathlib.Core.Path.{_≡_, refl, sym, ap, _∙_, subst}
 use mathlib.Core.Logic.{⊎-elim, _≢_}
 use mathlib.Core.Bool.{true, false, false≢true}
 use mathlib.Core.List.{List, [], _∷_, _++_}
-use Prim.Native.Nat.{ℕ, _+_, _≤_, _<_}
+use Prim.Native.Nat.{ℕ, suc, _+_, _-_, _≤_, _<_}
 use native.Mathlib.Omega.{arith}
 use native.Mathlib.Numerals.{add-one}
-use lib.ListN.{length, take, getD, set, length-set, replicate}
-use lib.Seq.{take-suc-set, getD-set-same, getD-set-other}
+use lib.ListN.{length, take, drop, getD, set, length-set, replicate}
+use lib.Seq.{take-suc-set, drop-set-lt, drop-drop, getD-set-same, getD-set-other}
 use Rattle.semantics.specs.Models.{elem}
 use Rattle.semantics.proofs.Tools.{same?, clash, elem-here, elem-left, elem-right, elem-cases}
 use Rattle.states.specs.declared.States.{States}
@@ -15,7 +15,7 @@ use Rattle.states.specs.States.{row, Proper}
 use Rattle.states.specs.Rising.{Rising, Lists}
 use Rattle.states.proofs.Laws.{only-one}
 
--- the first n numbers of the row are those of S below t, rising
+-- the first n numbers of the row are those of S below t, rising, and the others are zero
 pub record ListsTo (S : List ℕ) (t : ℕ) (row : List ℕ) (n : ℕ) : Type 0 where
   pub long : length row ≡ 127
   pub first : n + 1 ≤ t
@@ -24,6 +24,7 @@ pub record ListsTo (S : List ℕ) (t : ℕ) (row : List ℕ) (n : ℕ) : Type 0 
   pub under : (i : ℕ) → i < n → getD row i 0 < t
   pub only : (x : ℕ) → elem x (take n row) ≡ true → (elem x S ≡ true) × (x < t)
   pub all : (x : ℕ) → x < t → elem x S ≡ true → elem x (take n row) ≡ true
+  pub rest : drop n row ≡ replicate (127 - n) 0
 
 pub lists-none : (s : States) → Proper s → ListsTo (row s) 1 (replicate 127 0) 0
 lists-none s p =
@@ -35,6 +36,7 @@ lists-none s p =
       under = λ i l. absurd (omega arith);
       only = λ x e. absurd (false≢true e);
       all = λ x l e. absurd (let q = p .atomic x e in omega arith);
+      rest = refl;
     }
 
 module _ (S : List ℕ) (t : ℕ) (row : List ℕ) (n : ℕ) (h : ListsTo S t row n) (more : t < 128) where
@@ -48,6 +50,7 @@ module _ (S : List ℕ) (t : ℕ) (row : List ℕ) (n : ℕ) (h : ListsTo S t ro
         under = λ i l. let a = h .under i l in omega arith;
         only = λ x q. let a = h .only x q in (a .0, omega arith);
         all = λ x l q. ⊎-elim (λ (r : x ≡ t). clash (subst (λ (y : ℕ). elem y S ≡ true) r q) e) (λ (r : x ≢ t). h .all x (omega arith) q) (same? x t);
+        rest = h .rest;
       }
 
   in-row : n < length row
@@ -81,6 +84,8 @@ module _ (S : List ℕ) (t : ℕ) (row : List ℕ) (n : ℕ) (h : ListsTo S t ro
             (λ (r : x ≡ t). elem-right x (take n row) (t ∷ []) (subst (λ (y : ℕ). elem y (t ∷ []) ≡ true) (sym r) (elem-here t [])))
             (λ (r : x ≢ t). elem-left x (take n row) (t ∷ []) (h .all x (omega arith) q))
             (same? x t));
+        rest = drop-set-lt (n + 1) row n t (omega arith) ∙ sym (drop-drop 1 n row) ∙ ap (drop 1) (h .rest)
+            ∙ ap (λ (k : ℕ). drop 1 (replicate k 0)) (let a = h .first in let k : 127 - n ≡ suc (127 - (n + 1)) = omega arith in k);
       }
     where
       rises : Rising (set row n t) (n + 1)
@@ -97,4 +102,5 @@ lists-all s p states count t l h =
       count = let a = h .first in let b = h .last in omega arith;
       rising = h .rising;
       same = λ x. ((λ e. h .only x e .0), λ e. h .all x (let q = p .atomic x e in omega arith) e);
+      rest = h .rest;
     }
