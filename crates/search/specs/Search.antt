@@ -2,31 +2,38 @@
 use mathlib.Core.Path.{_≡_}
 use mathlib.Core.Logic.{_↔_}
 use mathlib.Core.Bool.{true}
-use Prim.Native.Nat.{ℕ}
+use mathlib.Core.List.{List}
+use Prim.Native.Nat.{ℕ, _<_}
 use Rattle.semantics.specs.Models.{elem}
-use Rattle.semantics.specs.Facts.{Table}
 use Rattle.semantics.specs.Steps.{Reachable}
 use Rattle.semantics.specs.Questions.{Verdict}
-use Rattle.semantics.specs.Tables.{SoundFacts, Saturated, FoundedRows}
+use Rattle.semantics.specs.Tables.{Saturated, FoundedRows}
 use Rattle.model.specs.declared.Model.{Model}
 use Rattle.model.specs.Records.{programOf, questionOf}
+use Rattle.table.specs.Table.{tableOf, Consistent}
+use Rattle.facts.specs.Facts.{Exact}
 use Rattle.states.specs.States as states
 use Rattle.states.specs.States.{row, Discovered}
 use Rattle.states.specs.Rising.{Lists}
 use Rattle.entries.specs.Entries as entries
-use Rattle.entries.specs.Entries.{rowsOf, cameOf}
+use Rattle.entries.specs.Entries.{count, rowsOf, cameOf}
 use Rattle.search.specs.declared.Found.{Found}
 
-pub record Searched (m : Model) (r : Found) : Type 0 where
+-- w is the work area as the search leaves it
+pub record Searched (m : Model) (w : List ℕ) (r : Found) : Type 0 where
   -- the states, in order of discovery, are exactly the reachable ones; and so are those by rising number
   pub proper : states.Proper (r .states)
   pub reachable : (t : ℕ) → Reachable (programOf m) t ↔ elem t (row (r .states)) ≡ true
   pub listing : Lists (row (r .states)) (r .listing)
-  -- the verdict is right
+  -- the verdict is right, and where it is reached the last level has an entry
   pub verdict : Verdict (programOf m) (questionOf m) (r .reached)
+  pub entered : r .reached ≡ true → 0 < count (r .levels) (m .stagecount)
   -- each state and each entry came from those before it
   pub found : Discovered (programOf m) (r .states)
   pub levels : entries.Proper (r .levels)
   pub rows : FoundedRows (programOf m) (questionOf m) (m .carried) (row (r .states)) (rowsOf (r .levels)) (cameOf (r .levels))
-  -- and nothing is missing, with the facts T that are derived over the states
-  pub complete : (T : Table) × SoundFacts (programOf m) (row (r .states)) T × Saturated (programOf m) (questionOf m) (m .carried) (row (r .states)) T (rowsOf (r .levels))
+  -- the facts of the work area are those derived over the states
+  pub agree : Consistent w
+  pub exact : Exact m (row (r .states)) w
+  -- and nothing is missing
+  pub complete : Saturated (programOf m) (questionOf m) (m .carried) (row (r .states)) (tableOf w) (rowsOf (r .levels))

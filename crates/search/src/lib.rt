@@ -21,7 +21,7 @@ pub struct Found {
 // Searches a well-formed model; it always ends with a verdict.
 pub fn search(work: &mut [u8], m: Model) -> Found
     requires { ⌜ WellFormed m × (size ≤ length (now work)) ⌝ }
-    ensures { λ r. ⌜ Searched m r × (length (now (work .exit)) ≡ length (now (work .entry))) ⌝ }
+    ensures { λ r. ⌜ Searched m (now (work .exit)) r × (length (now (work .exit)) ≡ length (now (work .entry))) ⌝ }
 {
     let found = reachable::reachable(work, m);
     let listing = states::rising(found);

@@ -1,7 +1,8 @@
 use mathlib.Core.Path.{refl}
-use Rattle.table.specs.Table.{tableOf}
+use Rattle.entries.specs.Entries.{count}
 use Rattle.search.proofs.Laws.{saturated, reachable, verdict}
 use borrow.Author.Needs.{needs}
+use borrow.Author.Tests.{ltb-true}
 use Rattle.search.proofs.search.Statement.{statement}
 use Rattle.search.proofs.search.Tie as tie
 
@@ -36,7 +37,10 @@ returns c =
         found = q .ensures .0 .found;
         levels = f .ensures .proper;
         rows = f .ensures .rows;
-        complete = (tableOf (q .last .0), (λ r os e. q .ensures .0 .exact .facts r os .0 e), saturated (s .args .m) (s .pre .0) (q .last .0) (q .result) (f .result) (q .ensures .0) (f .ensures));
+        entered = λ e. ltb-true 0 (count (f .result) (s .args .m .stagecount)) e;
+        agree = q .ensures .0 .agree;
+        exact = q .ensures .0 .exact;
+        complete = saturated (s .args .m) (s .pre .0) (q .last .0) (q .result) (f .result) (q .ensures .0) (f .ensures);
       },
       q .ensures .1,
     )
