@@ -1,14 +1,14 @@
 -- What the blank record holds, and the record with the declared names.
 use mathlib.Core.Path.{_≡_, refl, sym, _∙_}
-use mathlib.Core.List.{List, [], _∷_, _++_, map, map-append}
-use Prim.Native.Nat.{ℕ, zero, suc, _≤_, _<_}
+use mathlib.Core.List.{List, [], _∷_, map-append}
+use Prim.Native.Nat.{ℕ, zero, suc, _≤_}
 use native.Mathlib.Omega.{arith}
-use lib.ListN.{length, take, getD}
+use lib.ListN.{length, take}
 use lib.Seq.{take-suc}
 use Rattle.semantics.specs.Models.{Program}
-use Rattle.model.specs.Records.{programOf, clauseAt}
+use Rattle.model.specs.Records.{programOf}
 use Rattle.model.specs.declared.Model.{Model}
-use Rattle.acceptance.specs.Represents.{codesOf, HoldsClause}
+use Rattle.acceptance.specs.Represents.{codesOf}
 use Rattle.names.specs.Rows.{listOf}
 use Rattle.names.specs.Names.{entry, declaredOf, Valid}
 use Rattle.names.specs.declared.Declared.{Declared}
@@ -29,7 +29,7 @@ blank-holds b = record {
   count = b .clausecount;
   few = let z = b .clausecount in omega arith;
   room = let z = b .literalcount in omega arith;
-  within = rw (b .clausecount) tt;
+  clause = λ i h. absurd (let z = b .clausecount in omega arith);
   clauses = b .clauses;
   literals = b .literals;
 }
@@ -61,13 +61,13 @@ module _ {m : Model} {P : Program} (d : Declared) (n : ℕ) (so : stored.Holds m
   unfolding programOf
   fitted-program = so .program
 
-  pub before : {text : List ℕ} → Valid text d → ((i : ℕ) → i < m .clausecount → HoldsClause m (clauseAt m i)) → Before n (declaredOf text d) P (fitted m d n)
-  before {text} v held = record {
+  pub before : {text : List ℕ} → Valid text d → Before n (declaredOf text d) P (fitted m d n)
+  before {text} v = record {
     declared = sym (length-declared text d);
     relations = sym (declared-codes text d v);
     clauses = so .count;
     program = fitted-program;
-    clause = λ i h. let c = held i h in record { within = c .within; numbered = c .numbered };
+    clause = λ i h. let c = so .clause i h in record { within = c .within; numbered = c .numbered };
     lines = refl;
     codes = v .codes;
     row = so .clauses;
