@@ -147,7 +147,7 @@ literals-renamed D f (l ∷ b) h = (one l (h .0), literals-renamed D f b (h .1))
 
 module _ (n : ℕ) (D : Declared) (P : Program) (Q : Question) (m : Model) (s : Sound n D P Q) (r : Represents n D P Q m) where
   -- THE RELATIONS
-  declared-in : (k : ℕ) → declaredIn m k ≡ count k D
+  pub declared-in : (k : ℕ) → declaredIn m k ≡ count k D
   unfolding declaredIn
   declared-in k = rw (r .relations) (in-class k D)
 
