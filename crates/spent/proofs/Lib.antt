@@ -1,0 +1,4 @@
+pub mod Quiet
+pub mod Universe
+pub mod Numbers
+pub mod Never

@@ -1,0 +1,60 @@
+-- NO TEXT IS REFUSED BY ROW 13: each pass before the last added something too, and there is less than 100,000 to add.
+use mathlib.Core.Path.{_≡_, refl, sym, ap, subst}
+use mathlib.Core.Logic.{_⊎_, inl, inr, ⊎-elim}
+use mathlib.Core.Bool.{true, false, false≢true}
+use mathlib.Core.List.{List, [], _∷_}
+use Prim.Native.Nat.{ℕ, zero, suc, _≤_, _<_}
+use native.Mathlib.Omega.{arith}
+use lib.ListN.{length}
+use Rattle.semantics.specs.Models.{elem, Program, Question, Distinct}
+use Rattle.semantics.proofs.Tools.{either, each-cons, distinct-length}
+use Rattle.model.specs.Records.{upFrom}
+use Rattle.model.proofs.Numbering.{length-upFrom, upFrom-elem}
+use Rattle.grammar.specs.Bytes.{lines}
+use Rattle.grammar.specs.Declarations.{Declared}
+use Rattle.grammar.specs.Texts.{accepted, outcome}
+use Rattle.acceptance.specs.Sound.{carriedOf, Sound}
+use Rattle.acceptance.proofs.Acceptance.{accepted-sound}
+use Rattle.spent.specs.Passes.{Item, Have, Has, Adding, Passes, Spent}
+use Rattle.spent.proofs.Quiet.{pass-under, quiet-next, adding?}
+use Rattle.spent.proofs.Universe.{search-within}
+use Rattle.spent.proofs.Numbers.{itemOf, numbered}
+
+-- distinct numbers below n are at most n
+below-length : (n : ℕ) (ns : List ℕ) → Distinct ns → ((i : ℕ) → elem i ns ≡ true → i < n) → length ns ≤ n
+below-length n ns d h = omega (arith, length-upFrom 0 n, distinct-length ns (upFrom 0 n) d (λ i e. upFrom-elem i 0 n (omega arith) (let l = h i e in omega arith)))
+
+module _ (n : ℕ) (D : Declared) (P : Program) (Q : Question) (sound : Sound n D P Q) (v k : ℕ) (p : Passes P Q v k) where
+  -- m numbers of different items that the search has after m passes
+  abbrev Different : ℕ → Type 0
+  Different m = (ns : List ℕ) × (length ns ≡ m) × Distinct ns × ((i : ℕ) → elem i ns ≡ true → (i < 98687) × Has (p .after m) (itemOf D i))
+
+  one-more : (m : ℕ) → m < k → Adding (p .after m) (p .after (suc m)) → Different m → Different (suc m)
+  one-more m l (x, h, fresh) (ns, size, distinct, had) =
+      let (i, small, e) = numbered D (sound .lines .declarations) x (search-within D n P Q sound v k p (suc m) (omega arith) x h) in
+      let new : elem i ns ≡ false = ⊎-elim (λ q. absurd (fresh (subst (Has (p .after m)) e (had i q .1)))) (λ q. q) (either (elem i ns)) in (
+        i ∷ ns,
+        ap suc size,
+        (new, distinct),
+        each-cons (λ (j : ℕ). (j < 98687) × Has (p .after (suc m)) (itemOf D j)) i ns (small, subst (Has (p .after (suc m))) (sym e) h)
+            (λ j q. (had j q .0, pass-under P Q v (p .after m) (p .after (suc m)) (p .pass m l) (itemOf D j) (had j q .1))),
+      )
+
+  -- where a pass adds, each before it did
+  different : (m : ℕ) → m < k → Adding (p .after m) (p .after (suc m)) → Different (suc m)
+  different zero l a = one-more zero l a ([], refl, tt, λ i e. absurd (false≢true e))
+  different (suc m) l a = one-more (suc m) l a (⊎-elim (λ b. different m (omega arith) b)
+      (λ q. absurd (a .2 (quiet-next P Q v (p .after m) (p .after (suc m)) (p .after (suc (suc m))) (p .pass m (omega arith)) q (p .pass (suc m) l) (a .0) (a .1))))
+      (adding? (p .after m) (p .after (suc m))))
+
+  -- THE LAST PASS THAT ADDS is at most the 98,687th
+  pub last-adding : (m : ℕ) → m < k → Adding (p .after m) (p .after (suc m)) → suc m ≤ 98687
+  last-adding m l a = let (ns, size, distinct, had) = different m l a in rw (← size) (below-length 98687 ns distinct (λ i e. had i e .0))
+
+-- THE THEOREM, for a sound model, whatever variable is followed
+pub never-spent : (n : ℕ) (D : Declared) (P : Program) (Q : Question) → Sound n D P Q → (v : ℕ) → Spent P Q v → ⊥
+never-spent n D P Q sound v (p, a) = absurd (let h = last-adding n D P Q sound v 100000 p 99999 (omega arith) a in omega arith)
+
+-- and so for an accepted text
+pub accepted-never-spent : (text : List ℕ) (D : Declared) (P : Program) (Q : Question) → outcome text ≡ accepted D P Q → Spent P Q (carriedOf Q) → ⊥
+accepted-never-spent text D P Q e s = never-spent (length (lines text)) D P Q (accepted-sound text D P Q e) (carriedOf Q) s

@@ -1,0 +1,96 @@
+-- WHAT THERE IS TO ADD for a sound model: fewer than 100,000 items.
+use mathlib.Core.Path.{_≡_, refl, sym, ap, ap₂, _∙_, subst}
+use mathlib.Core.Logic.{_⊎_, inl, inr, ⊎-elim, _≢_}
+use mathlib.Core.Bool.{true, false, cond}
+use mathlib.Core.List.{List, [], _∷_, _++_, map, List·Memᴰ·not-nil, List·Memᴰ·cases-cons}
+use mathlib.Core.Option.{Option, none, some}
+use Prim.Native.Nat.{ℕ, zero, suc, _+_, _*_, _-_, _/_, _%_, _^_, _≤_, _<_}
+use native.Mathlib.Omega.{arith}
+use native.Mathlib.Nat.{le-trans}
+use borrow.Author.Tests.{lt-ltb, le-ltb}
+use lib.Bits.{or-lt, and-lt, xor-lt}
+use lib.Pow.{pow-mono}
+use lib.Dec.{eqb, ltb}
+use lib.ListN.{length, getD, length-map}
+use Rattle.semantics.specs.Labels.{union, difference, relabel}
+use Rattle.semantics.specs.Models.{elem, Body, Line, rule, new, next, other, Program, line, Question, vars, supported, SafeLine}
+use Rattle.semantics.proofs.Tools.{either, no-none, each-head, each-tail}
+use Rattle.semantics.proofs.Bodies.{supported-vars}
+use Rattle.grammar.specs.Declarations.{class, Declared, count}
+use Rattle.acceptance.specs.Sound.{Each, DeclaredRelation, GoodDeclarations, GoodHead, GoodClause, GoodLines, GoodQuestion, Sound}
+use Rattle.spent.specs.Passes.{Item, derived, found, carried, Have, Has, Carries, Shows, Hands, ByLine, ByStage, Given, Adds, Pass, Passes}
+
+-- relabeling stays within the relations of both lists
+relabel-below : (k s plus minus : ℕ) → s < 2 ^ k → plus < 2 ^ k → minus < 2 ^ k → relabel s plus minus < 2 ^ k
+unfolding relabel difference union
+relabel-below k s plus minus a b c = let u = or-lt k s plus a b in xor-lt k _ _ u (and-lt k _ _ u c)
+
+each-map : (R : ℕ → Type 0) (σ : ℕ → ℕ) (xs : List ℕ) → ((x : ℕ) → elem x xs ≡ true → R (σ x)) → Each R (map σ xs)
+each-map R σ [] h = tt
+each-map R σ (x ∷ xs) h = (each-head (λ (y : ℕ). R (σ y)) x xs h, each-map R σ xs (each-tail (λ (y : ℕ). R (σ y)) x xs h))
+
+-- ITEMS over declared relations and not empty states; only a carried object may have the empty state
+module _ (D : Declared) where
+  abbrev Proper : ℕ → Type 0
+  Proper s = (s ≢ 0) × (s < 2 ^ count 0 D)
+
+  abbrev pub Within : Item → Type 0
+  Within (derived r ss) = DeclaredRelation D r (length ss) × Each Proper ss
+  Within (found s) = Proper s
+  Within (carried zero c) = ⊥
+  Within (carried (suc i) none) = i < 4
+  Within (carried (suc i) (some c)) = (i < 4) × (c < 2 ^ count 0 D)
+
+  -- with such items at hand only such items are given
+  module _ (P : Program) (Q : Question) (v : ℕ) (H : Have) (all : (x : Item) → Has H x → Within x) where
+    line-within : (L : Line) → GoodHead D L → SafeLine L → (x : Item) → ByLine P Q v H L x → Within x
+    line-within (rule r xs b) g s x (σ, m, e) = subst Within (sym e) (subst (DeclaredRelation D r) (sym (length-map xs σ)) (g .0), each-map Proper σ xs (λ y h. all _ (m .0 y (supported-vars y b (s .1 y h)))))
+    line-within (new t b) g s x (σ, m, n, e) = subst Within (sym e) (n, g)
+    line-within (next y plus minus b) g s x (σ, m, c) = go c
+      where
+        small : relabel (σ y) plus minus < 2 ^ count 0 D
+        small = relabel-below (count 0 D) (σ y) plus minus (all _ (m .0 y (supported-vars y b (s .0))) .1) (g .1) (g .2)
+
+        moved : (i : ℕ) → Carries H i (some (σ y)) → Within (carried i (some (relabel (σ y) plus minus)))
+        moved zero h = no-none (sym h)
+        moved (suc i) h = (all _ h .0, small)
+
+        go : ((relabel (σ y) plus minus ≢ 0) × (x ≡ found (relabel (σ y) plus minus))) ⊎ ((i : ℕ) × (i < length Q) × Carries H i (some (σ y)) × (x ≡ carried i (some (relabel (σ y) plus minus)))) → Within x
+        go (inl (n, e)) = subst Within (sym e) (n, small)
+        go (inr (i, l, h, e)) = subst Within (sym e) (moved i h)
+    line-within other g s x h = absurd h
+
+    program-within : (n : ℕ) (cs : Program) → Each (GoodClause n D) cs → (ℓ : ℕ) (x : Item) → ByLine P Q v H (line cs ℓ) x → Within x
+    program-within n [] h ℓ x = λ e. absurd e
+    program-within n (c ∷ cs) h ℓ x = ⊎-elim (λ (q : eqb ℓ (c .0) ≡ true). rw q (line-within (c .1) (h .0 .head) (h .0 .safe) x))
+        (λ (q : eqb ℓ (c .0) ≡ false). rw q (program-within n cs (h .1) ℓ x)) (either (eqb ℓ (c .0)))
+
+    stage-within : length Q ≤ 4 → (i : ℕ) (x : Item) → ByStage P Q v H i x → Within x
+    stage-within few i x (l, (σ, m, (c, d, h, k, e))) = subst Within (sym e) (go c d h k)
+      where
+        before : (j c : ℕ) → Carries H j (some c) → c < 2 ^ count 0 D
+        before zero c h = no-none (sym h)
+        before (suc j) c h = all _ h .1
+
+        go : (c d : Option ℕ) → Carries H i c → Hands v (getD Q i []) σ c d → Within (carried (suc i) d)
+        go none none h k = omega arith
+        go none (some d) h k = (omega arith, rw (k .1) (all _ (m .0 v (k .0)) .1))
+        go (some c) none h k = absurd k
+        go (some c) (some d) h k = (omega arith, rw (k .1) (before i c h))
+
+  -- THE ITEMS OF A SEARCH are all such
+  module _ (n : ℕ) (P : Program) (Q : Question) (sound : Sound n D P Q) (v : ℕ) where
+    given-within : (H : Have) → ((x : Item) → Has H x → Within x) → (x : Item) → Given P Q v H x → Within x
+    given-within H all x (inl (ℓ, g)) = program-within P Q v H all n P (sound .lines .clause) ℓ x g
+    given-within H all x (inr (i, g)) = stage-within P Q v H all (sound .question .stages) i x g
+
+    pass-within : (H H′ : Have) → Pass P Q v H H′ → ((x : Item) → Has H x → Within x) → (x : Item) → Has H′ x → Within x
+    pass-within H H′ p all x m = go (p .added) (p .adds) x (subst (λ (G : Have). Has G x) (p .keeps) m)
+      where
+        go : (xs : List Item) → Adds P Q v H xs → (x : Item) → Has (xs ++ H) x → Within x
+        go [] a x m = all x m
+        go (y ∷ xs) a x m = ⊎-elim (λ (e : x ≡ y). subst Within (sym e) (given-within (xs ++ H) (go xs (a .1)) y (a .0))) (λ k. go xs (a .1) x k) (List·Memᴰ·cases-cons m)
+
+    pub search-within : (k : ℕ) (p : Passes P Q v k) (i : ℕ) → i ≤ k → (x : Item) → Has (p .after i) x → Within x
+    search-within k p zero l x m = absurd (List·Memᴰ·not-nil (subst (λ (H : Have). Has H x) (p .nothing) m))
+    search-within k p (suc i) l x m = pass-within (p .after i) (p .after (suc i)) (p .pass i (omega arith)) (search-within k p i (omega arith)) x m
