@@ -27,17 +27,17 @@ below-length n ns d h = omega (arith, length-upFrom 0 n, distinct-length ns (upF
 module _ (n : ℕ) (D : Declared) (P : Program) (Q : Question) (sound : Sound n D P Q) (v k : ℕ) (p : Passes P Q v k) where
   -- m numbers of different items that the search has after m passes
   abbrev Different : ℕ → Type 0
-  Different m = (ns : List ℕ) × (length ns ≡ m) × Distinct ns × ((i : ℕ) → elem i ns ≡ true → (i < 98687) × Has (p .after m) (itemOf D i))
+  Different m = (ns : List ℕ) × (length ns ≡ m) × Distinct ns × ((i : ℕ) → elem i ns ≡ true → (i < 98684) × Has (p .after m) (itemOf D Q v i))
 
   one-more : (m : ℕ) → m < k → Adding (p .after m) (p .after (suc m)) → Different m → Different (suc m)
   one-more m l (x, h, fresh) (ns, size, distinct, had) =
-      let (i, small, e) = numbered D (sound .lines .declarations) x (search-within D n P Q sound v k p (suc m) (omega arith) x h) in
+      let (i, small, e) = numbered D Q v (sound .lines .declarations) x (search-within D Q v n P sound k p (suc m) (omega arith) x h) in
       let new : elem i ns ≡ false = ⊎-elim (λ q. absurd (fresh (subst (Has (p .after m)) e (had i q .1)))) (λ q. q) (either (elem i ns)) in (
         i ∷ ns,
         ap suc size,
         (new, distinct),
-        each-cons (λ (j : ℕ). (j < 98687) × Has (p .after (suc m)) (itemOf D j)) i ns (small, subst (Has (p .after (suc m))) (sym e) h)
-            (λ j q. (had j q .0, pass-under P Q v (p .after m) (p .after (suc m)) (p .pass m l) (itemOf D j) (had j q .1))),
+        each-cons (λ (j : ℕ). (j < 98684) × Has (p .after (suc m)) (itemOf D Q v j)) i ns (small, subst (Has (p .after (suc m))) (sym e) h)
+            (λ j q. (had j q .0, pass-under P Q v (p .after m) (p .after (suc m)) (p .pass m l) (itemOf D Q v j) (had j q .1))),
       )
 
   -- where a pass adds, each before it did
@@ -47,9 +47,9 @@ module _ (n : ℕ) (D : Declared) (P : Program) (Q : Question) (sound : Sound n 
       (λ q. absurd (a .2 (quiet-next P Q v (p .after m) (p .after (suc m)) (p .after (suc (suc m))) (p .pass m (omega arith)) q (p .pass (suc m) l) (a .0) (a .1))))
       (adding? (p .after m) (p .after (suc m))))
 
-  -- THE LAST PASS THAT ADDS is at most the 98,687th
-  pub last-adding : (m : ℕ) → m < k → Adding (p .after m) (p .after (suc m)) → suc m ≤ 98687
-  last-adding m l a = let (ns, size, distinct, had) = different m l a in rw (← size) (below-length 98687 ns distinct (λ i e. had i e .0))
+  -- THE LAST PASS THAT ADDS is at most the 98,684th
+  pub last-adding : (m : ℕ) → m < k → Adding (p .after m) (p .after (suc m)) → suc m ≤ 98684
+  last-adding m l a = let (ns, size, distinct, had) = different m l a in rw (← size) (below-length 98684 ns distinct (λ i e. had i e .0))
 
 -- THE THEOREM, for a sound model, whatever variable is followed
 pub never-spent : (n : ℕ) (D : Declared) (P : Program) (Q : Question) → Sound n D P Q → (v : ℕ) → Spent P Q v → ⊥

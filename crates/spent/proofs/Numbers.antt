@@ -1,7 +1,7 @@
 -- THE ITEMS THAT THERE ARE, NUMBERED: pairs, single facts, facts without objects, states, carried states.
 use mathlib.Core.Path.{_≡_, refl, sym, ap, ap₂, _∙_, subst}
 use mathlib.Core.Logic.{_≢_}
-use mathlib.Core.Bool.{cond}
+use mathlib.Core.Bool.{Bool, cond}
 use mathlib.Core.List.{List, [], _∷_}
 use mathlib.Core.Option.{none, some}
 use Prim.Native.Nat.{ℕ, zero, suc, _+_, _*_, _-_, _/_, _%_, _^_, _≤_, _<_}
@@ -11,9 +11,10 @@ use borrow.Author.Tests.{lt-ltb, le-ltb}
 use lib.Pow.{pow-mono}
 use lib.Dec.{ltb}
 use Rattle.grammar.specs.Declarations.{Declared, count}
+use Rattle.semantics.specs.Models.{Question}
 use Rattle.acceptance.specs.Sound.{GoodDeclarations}
 use Rattle.spent.specs.Passes.{Item, derived, found, carried}
-use Rattle.spent.proofs.Universe.{Within}
+use Rattle.spent.proofs.Universe.{chosen, Within}
 
 -- the first k numbers are for a, the others for f
 abbrev split : ℕ → ℕ → Item → (ℕ → Item) → Item
@@ -25,16 +26,13 @@ split-low k n a f h = rw (lt-ltb n k h)
 split-high : (k n : ℕ) (a : Item) (f : ℕ → Item) → split k (k + n) a f ≡ f n
 split-high k n a f = rw (le-ltb (k + n) k (omega arith)) (ap f (omega arith))
 
--- for so many pair relations, single relations and relations without objects
-module _ (p u z : ℕ) where
+-- for so many pair relations, single relations and relations without objects; t tells whether an object is carried after so many stages
+module _ (p u z : ℕ) (t : ℕ → Bool) where
   abbrev carriedFrom : ℕ → Item
-  carriedFrom n = carried (suc (n / 128)) (some (n % 128))
-
-  abbrev uncarriedFrom : ℕ → Item
-  uncarriedFrom n = split 4 n (carried (suc n) none) carriedFrom
+  carriedFrom n = carried (suc (n / 128)) (cond (t (suc (n / 128))) (some (n % 128)) none)
 
   abbrev foundFrom : ℕ → Item
-  foundFrom n = split 127 n (found (suc n)) uncarriedFrom
+  foundFrom n = split 128 n (found n) carriedFrom
 
   abbrev nullaryFrom : ℕ → Item
   nullaryFrom n = split z n (derived (32 + n) []) foundFrom
@@ -46,23 +44,20 @@ module _ (p u z : ℕ) where
   item n = split (p * 16129) n (derived (96 + n / 16129) (suc (n / 127 % 127) ∷ suc (n % 127) ∷ [])) singleFrom
 
   abbrev pub size : ℕ
-  size = p * 16129 + (u * 127 + (z + (127 + (4 + 512))))
+  size = p * 16129 + (u * 127 + (z + (128 + 512)))
 
   abbrev Numbered : Item → Type 0
   Numbered x = (n : ℕ) × (n < size) × (item n ≡ x)
 
-  past-facts : (x : Item) (n : ℕ) → n < 127 + (4 + 512) → foundFrom n ≡ x → Numbered x
+  past-facts : (x : Item) (n : ℕ) → n < 128 + 512 → foundFrom n ≡ x → Numbered x
   past-facts x n l e = (p * 16129 + (u * 127 + (z + n)), omega arith, split-high (p * 16129) _ _ singleFrom ∙ split-high (u * 127) _ _ nullaryFrom ∙ split-high z _ _ foundFrom ∙ e)
 
-  number-found : (s : ℕ) → s ≢ 0 → s < 128 → Numbered (found s)
-  number-found s n l = past-facts (found s) (s - 1) (omega arith) (split-low 127 (s - 1) _ uncarriedFrom (omega arith) ∙ ap found (omega arith))
+  number-found : (s : ℕ) → s < 128 → Numbered (found s)
+  number-found s l = past-facts (found s) s (omega arith) (split-low 128 s _ carriedFrom l)
 
-  number-uncarried : (i : ℕ) → i < 4 → Numbered (carried (suc i) none)
-  number-uncarried i l = past-facts (carried (suc i) none) (127 + i) (omega arith) (split-high 127 i _ uncarriedFrom ∙ split-low 4 i _ carriedFrom l)
-
-  number-carried : (i c : ℕ) → i < 4 → c < 128 → Numbered (carried (suc i) (some c))
-  number-carried i c l k = past-facts (carried (suc i) (some c)) (127 + (4 + (i * 128 + c))) (omega arith) (split-high 127 (4 + (i * 128 + c)) _ uncarriedFrom ∙ split-high 4 (i * 128 + c) _ carriedFrom
-      ∙ ap₂ (λ (j d : ℕ). carried (suc j) (some d)) (omega arith) (omega arith))
+  number-level : (i c : ℕ) → i < 4 → c < 128 → Numbered (carried (suc i) (cond (t (suc i)) (some c) none))
+  number-level i c l k = past-facts _ (128 + (i * 128 + c)) (omega arith) (split-high 128 (i * 128 + c) _ carriedFrom
+      ∙ ap₂ (λ (j d : ℕ). carried (suc j) (cond (t (suc j)) (some d) none)) (omega arith) (omega arith))
 
   number-nullary : (r : ℕ) → r / 32 ≡ 1 → r % 32 < z → Numbered (derived r [])
   number-nullary r c l = (
@@ -90,26 +85,28 @@ module _ (p u z : ℕ) where
       )
 
 -- EACH ITEM HAS A NUMBER
-abbrev pub itemOf : Declared → ℕ → Item
-itemOf D n = item (count 3 D) (count 2 D) (count 1 D) n
+module _ (D : Declared) (Q : Question) (v : ℕ) where
+  abbrev pub itemOf : ℕ → Item
+  itemOf n = item (count 3 D) (count 2 D) (count 1 D) (chosen Q v) n
 
-module _ (D : Declared) (good : GoodDeclarations D) where
-  at-most : size (count 3 D) (count 2 D) (count 1 D) ≤ 98687
-  at-most = let a = good .derived in let b = good .pairs in omega arith
+  module _ (good : GoodDeclarations D) where
+    -- "128 states, 6 × 16,129 pairs, 10 × 127 single facts and 4 × 128 carried states"
+    at-most : size (count 3 D) (count 2 D) (count 1 D) (chosen Q v) ≤ 98684
+    at-most = let a = good .derived in let b = good .pairs in omega arith
 
-  -- a state has at most 7 relations
-  small : (s : ℕ) → s < 2 ^ count 0 D → s < 128
-  small s h = le-trans h (pow-mono (good .states))
+    -- a state has at most 7 relations
+    small : (s : ℕ) → s < 2 ^ count 0 D → s < 128
+    small s h = le-trans h (pow-mono (good .states))
 
-  number : (x : Item) → Within D x → Numbered (count 3 D) (count 2 D) (count 1 D) x
-  number (derived r []) w = number-nullary (count 3 D) (count 2 D) (count 1 D) r (w .0 .1) (w .0 .2)
-  number (derived r (s ∷ [])) w = number-single (count 3 D) (count 2 D) (count 1 D) r s (w .0 .1) (w .0 .2) (w .1 .0 .0) (small s (w .1 .0 .1))
-  number (derived r (s ∷ t ∷ [])) w = number-pair (count 3 D) (count 2 D) (count 1 D) r s t (w .0 .1) (w .0 .2) (w .1 .0 .0) (small s (w .1 .0 .1)) (w .1 .1 .0 .0) (small t (w .1 .1 .0 .1))
-  number (derived r (s ∷ t ∷ q ∷ ss)) w = absurd (let l = w .0 .0 in omega arith)
-  number (found s) w = number-found (count 3 D) (count 2 D) (count 1 D) s (w .0) (small s (w .1))
-  number (carried zero c) w = absurd w
-  number (carried (suc i) none) w = number-uncarried (count 3 D) (count 2 D) (count 1 D) i w
-  number (carried (suc i) (some c)) w = number-carried (count 3 D) (count 2 D) (count 1 D) i c (w .0) (small c (w .1))
+    number : (x : Item) → Within D Q v x → Numbered (count 3 D) (count 2 D) (count 1 D) (chosen Q v) x
+    number (derived r []) w = number-nullary (count 3 D) (count 2 D) (count 1 D) (chosen Q v) r (w .0 .1) (w .0 .2)
+    number (derived r (s ∷ [])) w = number-single (count 3 D) (count 2 D) (count 1 D) (chosen Q v) r s (w .0 .1) (w .0 .2) (w .1 .0 .0) (small s (w .1 .0 .1))
+    number (derived r (s ∷ t ∷ [])) w = number-pair (count 3 D) (count 2 D) (count 1 D) (chosen Q v) r s t (w .0 .1) (w .0 .2) (w .1 .0 .0) (small s (w .1 .0 .1)) (w .1 .1 .0 .0) (small t (w .1 .1 .0 .1))
+    number (derived r (s ∷ t ∷ q ∷ ss)) w = absurd (let l = w .0 .0 in omega arith)
+    number (found s) w = number-found (count 3 D) (count 2 D) (count 1 D) (chosen Q v) s (small s w)
+    number (carried zero c) w = absurd w
+    number (carried (suc i) none) w = rw (w .1) at (number-level (count 3 D) (count 2 D) (count 1 D) (chosen Q v) i 0 (w .0) (omega arith))
+    number (carried (suc i) (some c)) w = rw (w .1) at (number-level (count 3 D) (count 2 D) (count 1 D) (chosen Q v) i c (w .0) (small c (w .2)))
 
-  pub numbered : (x : Item) → Within D x → (n : ℕ) × (n < 98687) × (itemOf D n ≡ x)
-  numbered x w = let (n, l, e) = number x w in (n, le-trans l at-most, e)
+    pub numbered : (x : Item) → Within D Q v x → (n : ℕ) × (n < 98684) × (itemOf n ≡ x)
+    numbered x w = let (n, l, e) = number x w in (n, le-trans l at-most, e)
