@@ -1,0 +1,78 @@
+//! Buffers of every interesting size: row 12, the order of rows 1, 12 and 14, and what the buffers hold after the call.
+
+use crate::calls::{Answer, RUN, WORK};
+use crate::cases::long_text;
+use crate::report::Report;
+use crate::subject::{fresh, Subject};
+
+const AREAS: [usize; 6] = [0, 1, WORK - 1, WORK, WORK + 1, 40_000];
+const TABLES: [usize; 6] = [0, 1, RUN - 1, RUN, RUN + 1, 9_000];
+
+/// A reached text, an unreached one, and texts of several rows.
+fn texts() -> Vec<Vec<u8>> {
+    let small: [&[u8]; 9] = [
+        b"(state A)\n(new (A))\n(ask ((A x)))\n",
+        b"(state A)\n(new (A) (A x))\n(ask ((A x)))\n",
+        b"(rel N 0)\n(rule (N))\n(ask ((N)))\n",
+        b"",
+        b"(state A!)\n",
+        b"(state A)\n(state A)\n",
+        b"(state A)\n",
+        b"(rel W 2)\n(ask ((W x y)) ((W x y)))\n",
+        b"(state A)\n(ask ((A x)))\n\n",
+    ];
+    let mut all: Vec<Vec<u8>> = small.iter().map(|t| t.to_vec()).collect();
+    all.push(long_text(16_384));
+    all.push(long_text(16_385));
+    all
+}
+
+/// The analysis with every pair of sizes.
+fn analyses(report: &mut Report, subject: &Subject) {
+    for work in AREAS {
+        for places in TABLES {
+            let a = subject.analyze_with(report, work, places);
+            let row_12 = a.answer == Answer::Refused(12, 0);
+            let expected = subject.read.as_ref().err() != Some(&(1, 0)) && (work < WORK || places < RUN);
+            report.check(row_12 == expected, || format!("{:?} with {work} bytes and {places} places", a.answer));
+        }
+    }
+}
+
+/// The replay with every size of the work area and of the run.
+fn replays(report: &mut Report, subject: &Subject) {
+    for work in AREAS {
+        for places in TABLES {
+            let answer = subject.replay_with(report, &vec![512; places], work);
+            let row_1 = subject.read.as_ref().err() == Some(&(1, 0));
+            let row = if row_1 {
+                1
+            } else if work < WORK {
+                12
+            } else if places > RUN {
+                14
+            } else {
+                0
+            };
+            let right = match answer {
+                Answer::Refused(number, 0) => number == row,
+                _ => row == 0,
+            };
+            report.check(right, || format!("{answer:?} with {work} bytes and {places} places"));
+        }
+        for kept in [0, 8_639, 8_640, 8_641] {
+            let mut lent = fresh();
+            lent[258] = kept;
+            subject.place_with(report, &mut lent, 512, work);
+        }
+    }
+}
+
+/// Runs all sizes.
+pub fn all(report: &mut Report) {
+    for text in texts() {
+        let subject = Subject::new(&text);
+        analyses(report, &subject);
+        replays(report, &subject);
+    }
+}

@@ -1,0 +1,163 @@
+//! Lent replay states: those that do not fit, those with a carried object, and those that no run gives.
+
+use crate::calls::{Answer, Lent, WORK};
+use crate::meaning::Place;
+use crate::random::{model, Random, Shape};
+use crate::report::Report;
+use crate::subject::Subject;
+
+/// Two state relations, three stages of which the first and the third carry x.
+const TEXT: &str = "(state A)\n(state B)\n(new (A))\n(next x (B) () (A x))\n(next x () (A B) (B x))\n(ask ((A x)) ((B y)) ((B z) (A x)))\n";
+const OBJECTS: usize = 255;
+const MET: usize = 256;
+const CARRIED: usize = 257;
+const KEPT: usize = 258;
+
+/// A state with these objects, and numbers in its unused cells that no object may have.
+fn lent(states: &[u32], met: u32, carried: u32, kept: u32) -> Lent {
+    let mut l: Lent = [0xFFFF_0000; 259];
+    l[..states.len()].copy_from_slice(states);
+    l[OBJECTS] = states.len() as u32;
+    l[MET] = met;
+    l[CARRIED] = carried;
+    l[KEPT] = kept;
+    l
+}
+
+/// Puts a place to a state, and holds the answer to the wanted one.
+fn put(report: &mut Report, before: Lent, place: Place, wanted: Answer) -> Lent {
+    let subject = Subject::new(TEXT.as_bytes());
+    let mut after = before;
+    let given = subject.place(report, &mut after, place.encode());
+    report.check(given == wanted, || format!("{given:?}, not {wanted:?} to {place:?} in {before:?}"));
+    report.check(given == Answer::Kept || after == before, || format!("{place:?} changed {before:?}"));
+    after
+}
+
+/// Each reason for which a state does not fit: broken at 0, and left.
+fn misfits(report: &mut Report) {
+    let new = Place::Step(3, 2);
+    let misfit = |report: &mut Report, change: &dyn Fn(&mut Lent)| {
+        let mut l = lent(&[1, 2], 0, 255, 7);
+        change(&mut l);
+        put(report, l, new, Answer::Broken(0));
+    };
+    put(report, lent(&[1, 2], 0, 255, 7), new, Answer::Kept);
+    for objects in [256, 257, 1_000, 65_536, u32::MAX] {
+        misfit(report, &|l| l[OBJECTS] = objects);
+    }
+    for state in [4, 5, 128, 1 << 31, u32::MAX] {
+        misfit(report, &|l| l[0] = state);
+        misfit(report, &|l| l[1] = state);
+    }
+    for met in [4, 5, 255, u32::MAX] {
+        misfit(report, &|l| l[MET] = met);
+    }
+    for carried in [2, 3, 254, 256, 257, 65_536, u32::MAX] {
+        misfit(report, &|l| l[CARRIED] = carried);
+    }
+    for kept in [8_641, 8_642, 1_000_000, u32::MAX] {
+        misfit(report, &|l| l[KEPT] = kept);
+    }
+}
+
+/// States that fit at the edge: an unused cell with anything, all stages met, the highest object carried.
+fn edges(report: &mut Report) {
+    put(report, lent(&[1, 2], 3, 0, 7), Place::Step(3, 2), Answer::Broken(7));
+    put(report, lent(&[1, 2], 3, 255, 0), Place::meeting(4, &[0]), Answer::Broken(0));
+    put(report, lent(&[3], 2, 0, 0), Place::Step(3, 1), Answer::Kept);
+    put(report, lent(&[0, 3], 0, 0, 8_638), Place::Step(4, 1), Answer::Kept);
+    put(report, lent(&[0, 3], 0, 0, 8_638), Place::Step(4, 0), Answer::Broken(8_638));
+    let full = [3; 255];
+    put(report, lent(&full, 0, 254, 0), Place::Step(4, 254), Answer::Kept);
+    put(report, lent(&full, 0, 254, 5), Place::Step(3, 254), Answer::Broken(5));
+    put(report, lent(&full, 0, 255, 5), Place::Step(3, 255), Answer::Broken(5));
+    put(report, lent(&full, 0, 254, 5), Place::meeting(1, &[254]), Answer::Kept);
+    put(report, lent(&full[..254], 0, 253, 5), Place::Step(3, 254), Answer::Kept);
+    put(report, lent(&[], 0, 255, 0), Place::Step(3, 0), Answer::Kept);
+    put(report, lent(&[], 2, 255, 0), Place::Step(3, 0), Answer::Kept);
+}
+
+/// 8,639, 8,640 and 8,641 places kept; refusal 14 comes after rows 1 and 12 and before the lines, the misfit after them.
+fn places_kept(report: &mut Report) {
+    let new = Place::Step(3, 1);
+    let after = put(report, lent(&[1], 0, 255, 8_639), new, Answer::Kept);
+    report.check(after[KEPT] == 8_640, || format!("{} places kept", after[KEPT]));
+    put(report, after, Place::Step(3, 2), Answer::Refused(14, 0));
+    put(report, lent(&[1, 99], 9, 77, 8_640), new, Answer::Refused(14, 0));
+    put(report, lent(&[1], 0, 255, 8_641), new, Answer::Broken(0));
+    let tries: [(&[u8], usize, u32, Answer); 8] = [
+        (b"", WORK, 8_640, Answer::Refused(1, 0)),
+        (b"", 0, 8_641, Answer::Refused(1, 0)),
+        (b"(state A)\n", WORK - 1, 8_640, Answer::Refused(12, 0)),
+        (b"(state A)\n", WORK, 8_640, Answer::Refused(14, 0)),
+        (b"(state A!)\n", WORK, 8_640, Answer::Refused(14, 0)),
+        (b"(state A)\n", WORK, 8_641, Answer::Refused(10, 2)),
+        (b"(state A)\n", WORK - 1, 8_641, Answer::Refused(12, 0)),
+        (TEXT.as_bytes(), WORK, 8_641, Answer::Broken(0)),
+    ];
+    for (text, work, kept, wanted) in tries {
+        let given = Subject::new(text).place_with(report, &mut lent(&[1], 0, 255, kept), new.encode(), work);
+        report.check(given == wanted, || format!("{given:?}, not {wanted:?} with {kept} kept and {work} bytes"));
+    }
+}
+
+/// A carried object is the one that a meeting must name; where there is none the next meeting with the carried variable sets it.
+fn carried(report: &mut Report) {
+    let states = [1, 3, 3];
+    put(report, lent(&states, 0, 1, 4), Place::meeting(1, &[0]), Answer::Broken(4));
+    put(report, lent(&states, 0, 1, 4), Place::meeting(1, &[1]), Answer::Kept);
+    let set = put(report, lent(&states, 0, 255, 4), Place::meeting(1, &[2]), Answer::Kept);
+    report.check(set[CARRIED] == 2 && set[MET] == 1, || format!("{set:?}"));
+    let kept = put(report, set, Place::meeting(2, &[1]), Answer::Kept);
+    report.check(kept[CARRIED] == 2 && kept[MET] == 2, || format!("{kept:?}"));
+    put(report, kept, Place::meeting(3, &[1, 1]), Answer::Broken(6));
+    put(report, kept, Place::meeting(3, &[1, 2]), Answer::Kept);
+    put(report, kept, Place::meeting(3, &[2, 1]), Answer::Broken(6));
+    let late = put(report, lent(&states, 2, 255, 0), Place::meeting(3, &[1, 0]), Answer::Kept);
+    report.check(late[CARRIED] == 0, || format!("{late:?}"));
+    let free = Subject::new(b"(state A)\n(new (A))\n(ask ((A x)) ((A y)))\n");
+    let mut l = lent(&[1, 1], 0, 1, 0);
+    let given = free.place(report, &mut l, Place::meeting(1, &[0]).encode());
+    report.check(given == Answer::Kept && l[CARRIED] == 1, || format!("a carried object that no variable needs: {given:?} {l:?}"));
+}
+
+/// A state that often fits, and a place that is often allowed.
+fn random_try(report: &mut Report, r: &mut Random, subject: &Subject, states: usize) {
+    let objects: Vec<u32> = (0..r.below(5)).map(|_| r.below(1 << states) as u32).collect();
+    let carried = if r.chance(50) { 255 } else { r.below(5) as u32 };
+    let mut l = lent(&objects, r.below(4) as u32, carried, r.below(8_640) as u32);
+    if r.chance(10) {
+        let cell = r.below(259);
+        l[cell] = r.word() >> r.below(32);
+    }
+    let meeting: Vec<usize> = (0..r.below(4)).map(|_| r.below(objects.len() + 1)).collect();
+    let place = match r.below(4) {
+        0 => Place::meeting(l[MET] as usize % 100 + 1, &meeting).encode(),
+        1 => r.word(),
+        _ => Place::Step(1 + r.below(20) as u32, r.below(objects.len() + 1)).encode(),
+    };
+    subject.place(report, &mut l, place);
+}
+
+/// Random states of random models, whether or not a run gives them.
+fn random_states(report: &mut Report) {
+    for seed in 1..=300 {
+        let mut r = Random::new(seed + 1_000_000);
+        let text = model(&mut r, Shape { states: 3, relations: 3, clauses: 8, stages: 4 });
+        let subject = Subject::new(text.as_bytes());
+        let states = subject.read.as_ref().map_or(1, |m| m.states);
+        for _ in 0..40 {
+            random_try(report, &mut r, &subject, states);
+        }
+    }
+}
+
+/// Runs all lent states.
+pub fn all(report: &mut Report) {
+    misfits(report);
+    edges(report);
+    places_kept(report);
+    carried(report);
+    random_states(report);
+}

@@ -1,0 +1,262 @@
+//! Models checked by hand: document 01's own, and those that a good reader of the paper gets wrong.
+
+use crate::calls::Answer;
+use crate::meaning::Place;
+use crate::report::Report;
+use crate::seeded::place_by_place;
+use crate::subject::{fresh, Subject};
+
+const OFFICE: &str =
+    "(state Admin)\n(state User)\n(rel Control 1)\n(new (Admin))\n(new (User))\n(next x (Admin) () (User x) (Admin y))\n(rule (Control x) (Admin x))\n";
+const AB: &str = "(state A)\n(state B)\n";
+/// With two lines of clauses; a question is line 5.
+const MOVING: &str = "(state A)\n(state B)\n(new (A))\n(next x (B) (A) (A x))\n";
+
+/// The verdict and the reachable states of a text; a shown run is replayed.
+fn verdict(report: &mut Report, text: &str, reached: bool, states: &[u32]) -> Vec<u32> {
+    let subject = Subject::new(text.as_bytes());
+    let a = subject.analyze(report);
+    let right = match a.answer {
+        Answer::Reached(_) => reached,
+        Answer::Unreached => !reached,
+        _ => false,
+    };
+    report.check(right, || format!("{:?}, reached should be {reached}:\n{text}", a.answer));
+    report.check(a.states == states, || format!("states {:?}, not {states:?}:\n{text}", a.states));
+    if reached {
+        let kept = subject.replay(report, &a.run);
+        report.check(kept == Answer::Kept, || format!("the shown run {:?} is {kept:?}:\n{text}", a.run));
+        place_by_place(report, &subject, &a.run);
+    }
+    a.run
+}
+
+/// The answer to a run, whole and place by place.
+fn answer(report: &mut Report, text: &str, run: &[Place], wanted: Answer) {
+    let subject = Subject::new(text.as_bytes());
+    let numbers: Vec<u32> = run.iter().map(Place::encode).collect();
+    let given = subject.replay(report, &numbers);
+    report.check(given == wanted, || format!("{given:?}, not {wanted:?} to {run:?}:\n{text}"));
+    let broken = place_by_place(report, &subject, &numbers);
+    let first = match wanted {
+        Answer::Broken(i) if i < run.len() => Some(i),
+        _ => None,
+    };
+    report.check(broken == first, || format!("place by place broken at {broken:?}, not {first:?} to {run:?}:\n{text}"));
+}
+
+fn step(line: u32, object: usize) -> Place {
+    Place::Step(line, object)
+}
+
+fn meet(stage: usize, objects: &[usize]) -> Place {
+    Place::meeting(stage, objects)
+}
+
+/// Both questions of the office, and its allowed run.
+fn office(report: &mut Report) {
+    let one = format!("{OFFICE}(ask ((User x) (not (Admin x)) (Control x)))\n");
+    let two = format!("{OFFICE}(ask ((User x) (not (Admin x))) ((Control x)))\n");
+    verdict(report, &one, false, &[1, 2, 3]);
+    verdict(report, &two, true, &[1, 2, 3]);
+    let run = [step(4, 0), step(5, 1), meet(1, &[1]), step(6, 1), meet(2, &[1])];
+    answer(report, &two, &run, Answer::Kept);
+    answer(report, &two, &run[..4], Answer::Broken(4));
+    answer(report, &two, &[&run[..], &[step(4, 2)]].concat(), Answer::Broken(5));
+    answer(report, &two, &[run[0], run[1], meet(1, &[0])], Answer::Broken(2));
+    answer(report, &two, &[run[0], run[1], run[2], meet(2, &[0])], Answer::Broken(3));
+    answer(report, &two, &[step(5, 0), step(6, 0)], Answer::Broken(1));
+    answer(report, &two, &[run[1]], Answer::Broken(0));
+    answer(report, &two, &[], Answer::Broken(0));
+    answer(report, &two, &[step(5, 0), step(4, 1), meet(1, &[0]), step(6, 0), meet(2, &[0])], Answer::Kept);
+}
+
+/// The small models with states A and B.
+fn by_hand(report: &mut Report) {
+    verdict(report, &format!("{AB}(new (A) (A y))\n(ask ((A x)))\n"), false, &[]);
+    let one = format!("{AB}(new (A))\n(ask ((A x)) ((A x)))\n");
+    verdict(report, &one, true, &[1]);
+    answer(report, &one, &[step(3, 0), meet(1, &[0]), meet(2, &[0])], Answer::Kept);
+    verdict(report, &format!("{MOVING}(ask ((A x)) ((B x)))\n"), true, &[1, 2]);
+    verdict(report, &format!("{MOVING}(ask ((B x)) ((A x)))\n"), false, &[1, 2]);
+    verdict(report, &format!("{MOVING}(ask ((B x)) ((A y)))\n"), true, &[1, 2]);
+    let both = format!("{MOVING}(ask ((A x) (B y)))\n");
+    let run = verdict(report, &both, true, &[1, 2]);
+    let meeting = run.last().and_then(|n| Place::decode(*n));
+    report.check(matches!(meeting, Some(Place::Meeting(1, [a, b, 255])) if a != b), || format!("two objects: {meeting:?}"));
+    answer(report, &both, &[step(3, 0), step(3, 1), step(4, 1), meet(1, &[0, 1])], Answer::Kept);
+    answer(report, &both, &[step(3, 0), step(3, 1), step(4, 1), meet(1, &[1, 0])], Answer::Broken(3));
+}
+
+/// `(next x (A) (A) (B x))` takes {B} to {B} and {A, B} to {B}.
+fn set_then_clear(report: &mut Report) {
+    let text = format!("{AB}(new (B))\n(next x (A) (A) (B x))\n(ask ((A x)))\n");
+    verdict(report, &text, false, &[2]);
+    for state in [2, 3] {
+        let subject = Subject::new(text.as_bytes());
+        let mut lent = fresh();
+        (lent[0], lent[255]) = (state, 1);
+        let kept = subject.place(report, &mut lent, step(4, 0).encode());
+        report.check(kept == Answer::Kept && lent[0] == 2, || format!("{state} goes to {}", lent[0]));
+    }
+}
+
+/// Errors that a good reader of the paper makes.
+fn errors_of_readers(report: &mut Report) {
+    let helpers = "(state A)\n(state B)\n(state C)\n(new (A))\n(next x (B) (A) (A x))\n(next x (C) (B) (B x) (A y))\n";
+    verdict(report, &format!("{helpers}(ask ((C x)))\n"), true, &[1, 2, 4]);
+    verdict(report, &format!("{helpers}(ask ((C x) (B y) (A z)))\n"), true, &[1, 2, 4]);
+    let wiped = "(state A)\n(state B)\n(state C)\n(new (A))\n(next x () (A) (A x))\n(new (B) (A x))\n(next x (C) () (B x) (A y))\n";
+    verdict(report, &format!("{wiped}(ask ((A x)) ((B x)))\n"), false, &[1, 2, 6]);
+    verdict(report, &format!("{wiped}(ask ((C x)) ((B y) (not (C y))) ((A z)))\n"), true, &[1, 2, 6]);
+    let same = "(state A)\n(rel W 2)\n(new (A))\n(rule (W x y) (A x) (A y))\n";
+    let text = format!("{same}(ask ((W x y) (A x) (A y)))\n");
+    verdict(report, &text, true, &[1]);
+    answer(report, &text, &[step(3, 0), meet(1, &[0, 0])], Answer::Kept);
+    let pairs = "(state A)\n(state B)\n(rel E 2)\n(rel T 2)\n(new (A))\n(new (B))\n(rule (E x y) (A x) (B y))\n(rule (T x y) (E x y))\n(rule (T x y) (T x z) (T z y))\n";
+    verdict(report, &format!("{pairs}(ask ((T x x)))\n"), false, &[1, 2]);
+    verdict(report, &format!("{pairs}(rule (E x y) (B x) (A y))\n(ask ((T x x) (A x)))\n"), true, &[1, 2]);
+}
+
+/// Nullary facts met by the first database, several stages in one database, and bits that count `state` lines only.
+fn readings(report: &mut Report) {
+    let first = "(rel N 0)\n(rule (N))\n";
+    let one = verdict(report, &format!("{first}(ask ((N)))\n"), true, &[]);
+    report.check(one == [meet(1, &[]).encode()], || format!("{one:?}"));
+    let three = verdict(report, &format!("{first}(ask ((N)) ((N)) ((N)))\n"), true, &[]);
+    report.check(three == [1, 2, 3].map(|s| meet(s, &[]).encode()), || format!("{three:?}"));
+    let bits = "(rel R 1)\n(state A)\n(rel W 2)\n(state B)\n(rel N 0)\n(state C)\n(new (C))\n(next x (B) () (C x))\n(ask ((N)))\n";
+    verdict(report, bits, false, &[4, 6]);
+    verdict(report, "(state A)\n(new ())\n(new (A) (A x))\n(ask ((A x)))\n", false, &[]);
+    verdict(report, "(state A)\n(ask ((A x)))\n", false, &[]);
+    let carried = "(state A)\n(state B)\n(new (A))\n(next x (B) (A) (A x))\n(next x () (B) (B x))\n";
+    verdict(report, &format!("{carried}(ask ((A x)) ((B x)) ((A y)))\n"), true, &[1, 2]);
+    verdict(report, &format!("{carried}(ask ((A x)) ((B x)) ((A x)))\n"), false, &[1, 2]);
+    verdict(report, &format!("{carried}(ask ((A x)) ((B y)) ((A x)) ((B x)))\n"), true, &[1, 2]);
+}
+
+/// Places of none of the forms, and those that the semantics do not allow.
+fn places(report: &mut Report) {
+    let text = format!("{AB}(new (A))\n(next x (B) (A) (A x))\n(next x () () (A x))\n(next x () (B) (B x))\n(rel R 1)\n(rule (R x) (A x))\n(ask ((A x) (not (B y)) (A y)) ((B x)))\n");
+    let start = [step(3, 0)];
+    for place in [
+        step(0, 0),
+        step(1, 0),
+        step(2, 1),
+        step(7, 0),
+        step(8, 0),
+        step(9, 0),
+        step(10, 1),
+        step(16_000, 0),
+        step(8_388_607, 0),
+        step(3, 0),
+        step(3, 2),
+        step(4, 1),
+        step(6, 0),
+    ] {
+        answer(report, &text, &[&start[..], &[place]].concat(), Answer::Broken(1));
+    }
+    for place in [
+        meet(0, &[0, 0]),
+        meet(2, &[0]),
+        meet(1, &[]),
+        meet(1, &[0]),
+        meet(1, &[0, 0, 0]),
+        meet(1, &[0, 1]),
+        meet(1, &[1, 0]),
+        meet(127, &[0, 0]),
+        meet(1, &[0, 255, 0]),
+        meet(1, &[255, 0]),
+    ] {
+        answer(report, &text, &[&start[..], &[place]].concat(), Answer::Broken(1));
+    }
+    let subject = Subject::new(text.as_bytes());
+    for place in [3 * 256 + 255, 255, u32::MAX, 2_147_483_648, 2_147_483_647, 0] {
+        let broken = subject.replay(report, &[step(3, 0).encode(), place]);
+        report.check(broken == Answer::Broken(1), || format!("{broken:?} to {place}"));
+    }
+    let whole = [step(3, 0), step(5, 0), step(3, 1), meet(1, &[0, 0]), step(4, 0), meet(2, &[0])];
+    answer(report, &text, &whole, Answer::Kept);
+    answer(report, &text, &[&whole[..4], &[step(4, 1), meet(2, &[1])]].concat(), Answer::Broken(5));
+    answer(report, &text, &[step(3, 0), meet(1, &[0, 0]), step(4, 0), step(6, 0), step(3, 1), step(4, 1), meet(2, &[1])], Answer::Broken(6));
+}
+
+/// 255 objects, the highest number being 254.
+fn many_objects(report: &mut Report) {
+    let text = format!("{AB}(new (A))\n(ask ((A x)))\n");
+    let subject = Subject::new(text.as_bytes());
+    let mut run: Vec<u32> = (0..255).map(|o| step(3, o).encode()).collect();
+    let kept = subject.replay(report, &[&run[..], &[meet(1, &[254]).encode()]].concat());
+    report.check(kept == Answer::Kept, || format!("255 objects: {kept:?}"));
+    run.push(3 * 256 + 255);
+    let broken = subject.replay(report, &run);
+    report.check(broken == Answer::Broken(255), || format!("256 objects: {broken:?}"));
+}
+
+/// A run of 8,640 places is replayed, one of 8,641 is not.
+fn long_runs(report: &mut Report) {
+    let text = format!("{AB}(new (A))\n(next x () () (A x))\n(ask ((A x)))\n");
+    let subject = Subject::new(text.as_bytes());
+    let mut run = vec![step(4, 0).encode(); 8_640];
+    run[0] = step(3, 0).encode();
+    run[8_639] = meet(1, &[0]).encode();
+    for (places, wanted) in [(8_640, Answer::Kept), (8_639, Answer::Broken(8_639))] {
+        let given = subject.replay(report, &run[..places]);
+        report.check(given == wanted, || format!("{places} places: {given:?}"));
+    }
+    run.insert(1, step(4, 0).encode());
+    let refused = subject.replay(report, &run);
+    report.check(refused == Answer::Refused(14, 0), || format!("8,641 places: {refused:?}"));
+    let bad = Subject::new(b"(state A!)\n").replay(report, &run);
+    report.check(bad == Answer::Refused(14, 0), || format!("14 comes before the lines: {bad:?}"));
+}
+
+/// The line that counts up to the next state: the relations below `bit` are set and `bit` is not.
+fn count_up(names: &[&str], bit: usize) -> String {
+    let set: String = names[..bit].iter().map(|n| format!("({n} x) ")).collect();
+    let some = names[bit + 1..].iter().map(|n| format!("(next x ({}) ({}) {set}({n} x) (not ({} x)))\n", names[bit], names[..bit].join(" "), names[bit]));
+    let low = format!("(next x ({}) ({}) {set}(not ({} x)))\n", names[bit], names[..bit].join(" "), names[bit]);
+    if bit == 0 {
+        some.collect()
+    } else {
+        low
+    }
+}
+
+/// 127 states, each only from the one before, and a carried object that goes round between stages: the longest run that document 01 counts.
+fn longest(report: &mut Report) {
+    let names = ["A", "B", "C", "D", "E", "F", "G"];
+    let mut text: String = names.iter().map(|n| format!("(state {n})\n")).collect();
+    text += "(new (A))\n";
+    for bit in 0..7 {
+        text += &count_up(&names, bit);
+    }
+    let all: String = names.iter().map(|n| format!(" ({n} x)")).collect();
+    text += &format!("(next x () (B C D E F G){all})\n");
+    let low = |n: u32| -> String {
+        let literals: Vec<String> = (0..7).map(|i| if n >> i & 1 == 1 { format!("({} x)", names[i]) } else { format!("(not ({} x))", names[i]) }).collect();
+        format!("({})", literals.join(" "))
+    };
+    text += &format!("(ask {} {} {} {})\n", low(127), low(126), low(125), low(124));
+    let states: Vec<u32> = (1..=127).collect();
+    let subject = Subject::new(text.as_bytes());
+    let a = subject.analyze(report);
+    report.check(matches!(a.answer, Answer::Reached(_)), || format!("{:?}:\n{text}", a.answer));
+    report.check(a.states == states, || format!("states {:?}:\n{text}", a.states));
+    let kept = subject.replay(report, &a.run);
+    report.check(kept == Answer::Kept, || format!("the longest run: {kept:?}"));
+    println!("the longest shown run has {} places", a.run.len());
+}
+
+/// Runs all models that are checked by hand.
+pub fn all(report: &mut Report) {
+    office(report);
+    by_hand(report);
+    set_then_clear(report);
+    errors_of_readers(report);
+    readings(report);
+    places(report);
+    many_objects(report);
+    long_runs(report);
+    longest(report);
+}

@@ -1,0 +1,168 @@
+//! Seeded random models against a plain search, with their runs, damaged runs and damaged texts.
+
+use crate::calls::Answer;
+use crate::damage;
+use crate::guided;
+use crate::meaning::{Action, Model};
+use crate::playing::play_on;
+use crate::random::{model, Random, Shape};
+use crate::report::Report;
+use crate::search::search;
+use crate::subject::{fresh, Subject};
+use std::collections::BTreeSet;
+
+/// How many models are tried.
+const MODELS: u64 = 700;
+/// The most objects that the plain search takes.
+const OBJECTS: usize = 8;
+/// The most sessions that the plain search looks at.
+const SESSIONS: usize = 4_000;
+
+/// What plain searches found, and whether they are certain that there is no more.
+struct Known {
+    run: Option<Vec<u32>>,
+    states: BTreeSet<u32>,
+    certain: bool,
+}
+
+/// Searches with more and more objects. By document 01's count a run needs one object of each reachable state and the carried one.
+/// So a search of all sessions with n objects that finds fewer than n states has missed nothing: one more state would have needed at most n objects.
+fn known(m: &Model) -> Known {
+    let mut known = Known { run: None, states: BTreeSet::new(), certain: false };
+    for objects in 2..=OBJECTS {
+        let found = search(m, objects, SESSIONS);
+        known.run = known.run.or(found.run);
+        known.states.extend(found.states);
+        known.certain = found.whole && known.states.len() < objects;
+        if known.certain || !found.whole {
+            break;
+        }
+    }
+    known
+}
+
+/// Compares the verdict and the states with what the plain search knows.
+fn compare(report: &mut Report, subject: &Subject, m: &Model, answer: Answer, states: &[u32]) {
+    let known = known(m);
+    let listed: BTreeSet<u32> = states.iter().copied().collect();
+    let reached = matches!(answer, Answer::Reached(_));
+    let about = || format!("{answer:?} with {listed:?}; plain: {:?} with {:?} in\n{}", known.run, known.states, subject.show());
+    report.check(reached || known.run.is_none(), about);
+    report.check(known.states.is_subset(&listed), about);
+    if known.certain {
+        report.check(reached == known.run.is_some(), about);
+        report.check(listed == known.states, about);
+        report.cover(if reached { "search: certain and reached" } else { "search: certain and unreached" });
+    } else {
+        report.cover("search: certain in one direction only");
+    }
+    if let Some(run) = &known.run {
+        let kept = subject.replay(report, run) == Answer::Kept;
+        report.check(kept, || format!("the plain run is not kept: {}", about()));
+    }
+}
+
+/// Puts a run to a lent state, place by place, and says where it was broken first.
+pub fn place_by_place(report: &mut Report, subject: &Subject, run: &[u32]) -> Option<usize> {
+    let mut lent = fresh();
+    for (i, n) in run.iter().enumerate() {
+        if subject.place(report, &mut lent, *n) != Answer::Kept {
+            return Some(i);
+        }
+    }
+    None
+}
+
+/// Replays a run whole and place by place.
+fn replay_both_ways(report: &mut Report, subject: &Subject, run: &[u32]) {
+    let whole = subject.replay(report, run);
+    let broken = place_by_place(report, subject, run);
+    let agree = match whole {
+        Answer::Kept => broken.is_none(),
+        Answer::Broken(i) => broken.unwrap_or(run.len()) == i,
+        _ => false,
+    };
+    report.check(agree, || format!("whole {whole:?}, place by place {broken:?}: {run:?} in\n{}", subject.show()));
+}
+
+/// Replays a shown run, the run damaged in one place, and plays it on.
+fn runs(report: &mut Report, r: &mut Random, subject: &Subject, m: &Model, run: &[u32]) {
+    let kept = subject.replay(report, run) == Answer::Kept;
+    report.check(kept, || format!("the shown run is not kept: {run:?} in\n{}", subject.show()));
+    replay_both_ways(report, subject, run);
+    for i in 0..12 {
+        let damaged = damage::run(r, run);
+        if i % 4 == 0 {
+            replay_both_ways(report, subject, &damaged);
+        } else {
+            subject.replay(report, &damaged);
+        }
+    }
+    play_on(report, r, subject, m, run);
+}
+
+/// Damaged texts are answered as the plain reader answers them.
+fn texts(report: &mut Report, r: &mut Random, text: &str) {
+    for _ in 0..10 {
+        let subject = Subject::new(&damage::text(r, text));
+        if let Ok(m) = &subject.read {
+            report.cover("damaged texts accepted");
+            let a = subject.analyze(report);
+            compare(report, &subject, m, a.answer, &a.states);
+        } else {
+            subject.analyze(report);
+        }
+        subject.replay(report, &[]);
+        subject.place(report, &mut fresh(), 256 * r.below(12) as u32);
+    }
+}
+
+/// Counts what a random model has.
+fn features(report: &mut Report, text: &str, m: &Model, reached: bool) {
+    let helper = |c: &crate::meaning::Clause| matches!(c.action, Action::Next(..)) && c.body.variables > 1;
+    let both = |c: &crate::meaning::Clause| matches!(c.action, Action::Next(plus, minus) if plus & minus != 0);
+    let wide = |c: &crate::meaning::Clause| matches!(c.action, Action::Rule(..)) && c.body.variables == 3;
+    let clearing = |c: &crate::meaning::Clause| matches!(c.action, Action::Next(_, minus) if minus != 0);
+    let verdict = if reached { "reached" } else { "unreached" };
+    let mut count = |what: &str, has: bool| {
+        if has {
+            report.cover(&format!("models {verdict} with {what}"));
+        }
+    };
+    count("a next line that needs a helper", m.clauses.iter().any(helper));
+    count("a relation added and removed", m.clauses.iter().any(both));
+    count("a line that clears", m.clauses.iter().any(clearing));
+    count("a rule of three variables", m.clauses.iter().any(wide));
+    count("recursion through pairs", text.contains(" x z) (") && text.contains(" z y))"));
+    count("not", text.contains("(not "));
+    count("several stages", m.stages.len() > 1);
+    count("a carried variable", m.stages.iter().any(|s| s.carried.is_some()));
+}
+
+fn shape(r: &mut Random) -> Shape {
+    Shape { states: r.pick(&[2, 2, 3]), relations: 3, clauses: 4 + r.below(6), stages: r.pick(&[1, 2, 3, 4]) }
+}
+
+/// Runs all seeded models.
+pub fn models(report: &mut Report) {
+    for seed in 1..=MODELS {
+        let mut r = Random::new(seed);
+        let shape = shape(&mut r);
+        let mut text = model(&mut r, shape);
+        if seed % 3 != 0 {
+            text = guided::asked(&mut r, &text);
+        }
+        let subject = Subject::new(text.as_bytes());
+        let a = subject.analyze(report);
+        let Ok(m) = &subject.read else {
+            report.check(false, || format!("a random model is refused:\n{text}"));
+            continue;
+        };
+        features(report, &text, m, matches!(a.answer, Answer::Reached(_)));
+        compare(report, &subject, m, a.answer, &a.states);
+        if !a.run.is_empty() {
+            runs(report, &mut r, &subject, m, &a.run);
+        }
+        texts(report, &mut r, &text);
+    }
+}

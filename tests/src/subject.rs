@@ -1,0 +1,164 @@
+//! A text under test: each call on it is compared with the plain reader and the plain meaning.
+
+use crate::calls::{self, Analysis, Answer, Lent, RUN, WORK};
+use crate::meaning::{broken_at, Model, Place, Session};
+use crate::reader::{self, Outcome};
+use crate::report::Report;
+
+pub struct Subject {
+    pub text: Vec<u8>,
+    /// The model of an accepted text, or the refusal's number and line.
+    pub read: Result<Model, (u32, u32)>,
+}
+
+/// The most places that a shown run has, by document 01's count.
+const LONGEST: usize = 8_637;
+
+impl Subject {
+    pub fn new(text: &[u8]) -> Subject {
+        let read = match reader::read(text) {
+            Outcome::Accepted(t) => Ok(Model::new(&t)),
+            Outcome::Refused(number, line) => Err((number, line)),
+        };
+        Subject { text: text.to_vec(), read }
+    }
+
+    pub fn show(&self) -> String {
+        String::from_utf8_lossy(&self.text[..self.text.len().min(2_000)]).into_owned()
+    }
+
+    /// The refusal of a call: row 1, then what the call adds, then the lines.
+    fn refusal(&self, others: &[(u32, bool)]) -> Option<(u32, u32)> {
+        if self.read.as_ref().is_err_and(|r| r.0 == 1) {
+            return Some((1, 0));
+        }
+        let row = others.iter().find(|(_, given)| *given).map(|(row, _)| (*row, 0));
+        row.or(self.read.as_ref().err().copied())
+    }
+
+    /// Analyzes the text with buffers that are large enough.
+    pub fn analyze(&self, report: &mut Report) -> Analysis {
+        self.analyze_with(report, WORK + 9, RUN + 5)
+    }
+
+    /// Analyzes the text with buffers of these sizes; refusals, buffers and the shown run are held to document 01.
+    pub fn analyze_with(&self, report: &mut Report, work: usize, places: usize) -> Analysis {
+        let a = calls::analyze(&self.text, work, places);
+        let about = || format!("analysis with {work} bytes and {places} places answers {:?} to\n{}", a.answer, self.show());
+        report.check(a.area, || format!("work area: {}", about()));
+        report.check(a.table, || format!("run table: {}", about()));
+        report.check(a.shape, || format!("states and last place: {}", about()));
+        let refusal = self.refusal(&[(12, work < WORK || places < RUN)]);
+        report.cover(&covered(&a.answer));
+        match (refusal, &self.read, a.answer) {
+            (None, Ok(m), Answer::Reached(n)) => {
+                report.check(n == a.run.len() && n <= LONGEST, || format!("{n} places: {}", about()));
+                report.check(broken_at(m, &a.run).is_none(), || format!("shown run {:?}: {}", a.run, about()));
+                report.check(matches!(a.run.last().and_then(|p| Place::decode(*p)), Some(Place::Meeting(s, _)) if s == m.stages.len()), || {
+                    format!("last place: {}", about())
+                });
+            }
+            (None, _, answer) => report.check(answer == Answer::Unreached, || about()),
+            (Some((number, line)), _, answer) => report.check(answer == Answer::Refused(number, line), || format!("{number} @ {line} expected: {}", about())),
+        }
+        a
+    }
+
+    /// Replays a run with a work area that is large enough.
+    pub fn replay(&self, report: &mut Report, run: &[u32]) -> Answer {
+        self.replay_with(report, run, WORK + 9)
+    }
+
+    /// Replays a run with a work area of this size, and compares the answer with the plain one.
+    pub fn replay_with(&self, report: &mut Report, run: &[u32], work: usize) -> Answer {
+        let plain = match (self.refusal(&[(12, work < WORK), (14, run.len() > RUN)]), &self.read) {
+            (None, Ok(m)) => broken_at(m, run).map_or(Answer::Kept, Answer::Broken),
+            (refusal, _) => refused(refusal),
+        };
+        let r = calls::replay(&self.text, run, work);
+        let about = || format!("replay with {work} bytes answers {:?}, not {plain:?}, to {:?} in\n{}", r.answer, &run[..run.len().min(60)], self.show());
+        report.check(r.answer == plain, about);
+        report.check(r.area, || format!("work area: {}", about()));
+        report.cover(&format!("replay: {}", covered(&r.answer)));
+        r.answer
+    }
+
+    /// Puts a place to a lent state with a work area that is large enough.
+    pub fn place(&self, report: &mut Report, lent: &mut Lent, place: u32) -> Answer {
+        self.place_with(report, lent, place, WORK + 9)
+    }
+
+    /// Puts a place to a lent state with a work area of this size, and compares the answer and the whole state with the plain ones.
+    pub fn place_with(&self, report: &mut Report, lent: &mut Lent, place: u32, work: usize) -> Answer {
+        let (plain, after) = match (self.refusal(&[(12, work < WORK), (14, lent[258] == 8_640)]), &self.read) {
+            (None, Ok(m)) => placed(m, lent, place),
+            (refusal, _) => (refused(refusal), *lent),
+        };
+        let before = *lent;
+        let r = calls::place(&self.text, lent, place, work);
+        let about = || {
+            format!(
+                "place {place} with {work} bytes answers {:?}, not {plain:?}, and leaves {lent:?}, not {after:?}, of {before:?} in\n{}",
+                r.answer,
+                self.show()
+            )
+        };
+        report.check(r.answer == plain, about);
+        report.check(*lent == after, || format!("state: {}", about()));
+        report.check(r.area, || format!("work area: {}", about()));
+        report.cover(&format!("place: {}", covered(&r.answer)));
+        r.answer
+    }
+}
+
+/// The answer of a refusal that is there.
+fn refused(refusal: Option<(u32, u32)>) -> Answer {
+    let (number, line) = refusal.expect("a text without a model is refused");
+    Answer::Refused(number, line)
+}
+
+/// The kind of an answer.
+fn covered(answer: &Answer) -> String {
+    match answer {
+        Answer::Reached(_) => "reached".into(),
+        Answer::Unreached => "unreached".into(),
+        Answer::Refused(number, _) => format!("refused {number:2}"),
+        Answer::Kept => "kept".into(),
+        Answer::Broken(_) => "broken".into(),
+        Answer::Unknown(code) => format!("unknown {code}"),
+    }
+}
+
+/// A state before the first place.
+pub fn fresh() -> Lent {
+    let mut lent = [0; 259];
+    lent[257] = 255;
+    lent
+}
+
+/// The session that a lent state has, if it fits the text.
+fn session_of(m: &Model, lent: &Lent) -> Option<Session> {
+    let [objects, met, carried, kept] = [255, 256, 257, 258].map(|i| lent[i] as usize);
+    if objects > 255 || met > m.stages.len() || kept > 8_640 || carried != 255 && carried >= objects {
+        return None;
+    }
+    let db = lent[..objects].to_vec();
+    let declared = db.iter().all(|state| state >> m.states == 0);
+    declared.then_some(Session { db, met, carried: (carried != 255).then_some(carried) })
+}
+
+/// The plain answer to a place put to a lent state, and the state after it.
+fn placed(m: &Model, lent: &Lent, n: u32) -> (Answer, Lent) {
+    let Some(session) = session_of(m, lent) else { return (Answer::Broken(0), *lent) };
+    let facts = m.facts(&session.db);
+    let Some(after) = Place::decode(n).and_then(|p| session.after(m, &facts, p)) else {
+        return (Answer::Broken(lent[258] as usize), *lent);
+    };
+    let mut left = *lent;
+    left[..after.db.len()].copy_from_slice(&after.db);
+    left[255] = after.db.len() as u32;
+    left[256] = after.met as u32;
+    left[257] = after.carried.map_or(255, |o| o as u32);
+    left[258] += 1;
+    (Answer::Kept, left)
+}
