@@ -42,7 +42,7 @@ pub decimal-longer : (n : ℕ) → 10 ≤ n → length (decimal n) ≡ length (d
 decimal-longer n h = ap length (decimal-large n h) ∙ length-append (decimal (n / 10)) (digit (n % 10) ∷ [])
 
 -- a number below 10 ^ (k + 1) has at most k + 1 digits
-decimal-short : (k n : ℕ) → n < 10 ^ suc k → length (decimal n) ≤ suc k
+pub decimal-short : (k n : ℕ) → n < 10 ^ suc k → length (decimal n) ≤ suc k
 decimal-short zero n h = rw (decimal-small n h) (omega arith)
 decimal-short (suc k) n h = split n 10 (λ l. rw (decimal-small n l) (omega arith))
     (λ l. let u : n < 10 ^ suc k * 10 = (rw (pow-suc 10 (suc k)) at h) in omega (arith, decimal-longer n l, decimal-short k (n / 10) (omega arith)))
