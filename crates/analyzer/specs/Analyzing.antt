@@ -1,0 +1,29 @@
+-- THE ANALYSIS OF A TEXT: what the call answers, and what the work area and the run table then have, for all inputs.
+use mathlib.Core.Path.{_≡_}
+use mathlib.Core.Bool.{Bool, false, _||_}
+use mathlib.Core.List.{List}
+use Prim.Native.Nat.{ℕ}
+use lib.Dec.{ltb}
+use lib.ListN.{length, replicate}
+use Rattle.grammar.specs.Texts.{Outcome, accepted, refused}
+use Rattle.calls.specs.Calls.{called}
+use Rattle.verdict.specs.declared.Answer.the-variants.{Refused}
+use Rattle.verdict.specs.declared.Analysis.{Analysis}
+use Rattle.verdict.specs.Judging.{Judges}
+
+-- row 12: "work area under 32,768 bytes, or a run table lent for writing under 8,640 places"
+abbrev pub short : ℕ → ℕ → Bool
+short bytes places = ltb bytes 32768 || ltb places 8640
+
+-- A REFUSAL with its number and line; the states "beside a refusal" are "none and 0"
+abbrev pub refusal : ℕ → ℕ → Analysis
+refusal n l = record { answer = Refused n l; states = replicate 127 0; count = 0 }
+
+-- WHAT THE CALL LEAVES, by the table's answer to it: after a refusal "both buffers are untouched"
+abbrev pub Leaves : Outcome → List ℕ → List ℕ → Analysis → List ℕ → List ℕ → Type 0
+Leaves (refused n l) work run a work′ run′ = (a ≡ refusal n l) × (work′ ≡ work) × (run′ ≡ run)
+Leaves (accepted D P Q) work run a work′ run′ = Judges P Q work run a work′ run′
+
+-- THE ANALYSIS a of a text, with the work area and the run table before and after it. "Order: 1, 12, .. then line by line"; row 14 speaks of replays only.
+abbrev pub Analyzes : List ℕ → List ℕ → List ℕ → Analysis → List ℕ → List ℕ → Type 0
+Analyzes text work run a work′ run′ = Leaves (called text (short (length work) (length run)) false) work run a work′ run′

@@ -1,0 +1,48 @@
+// The analysis of a text.
+use text::Acceptance;
+use verdict::Analysis;
+use verdict::Answer;
+use wipe::WORK;
+ghost use mathlib.Core.Path.{_≡_};
+ghost use Rattle.analyzer.specs.Analyzing.{short as tooShort, refusal, Analyzes};
+
+// The places that a run table lent for writing has at least.
+const PLACES: usize = 8_640;
+
+// Is the work area or the run table too short?
+fn short(bytes: usize, places: usize) -> bool
+    ensures { λ r. ⌜ r ≡ tooShort bytes places ⌝ }
+{
+    if bytes < WORK {
+        return true;
+    }
+    places < PLACES
+}
+
+// A refusal, with no states beside it.
+fn refuse(number: u32, line: u32) -> Analysis
+    ensures { λ r. ⌜ r ≡ refusal number line ⌝ }
+{
+    Analysis {
+        answer: Answer::Refused { number, line },
+        states: [0u32; 127],
+        count: 0,
+    }
+}
+
+// Reads a text, and decides its model; a refusal leaves both buffers as they are.
+pub fn analyze(text: &[u8], work: &mut [u8], run: &mut [u32]) -> Analysis
+    ensures { λ r. ⌜ Analyzes (now (text .entry)) (now (work .entry)) (now (run .entry)) r (now (work .exit)) (now (run .exit)) ⌝ }
+{
+    let row = calls::early(text.len(), short(work.len(), run.len()), false);
+    if row != 0 {
+        return refuse(row, 0);
+    }
+    let reading = text::read(text);
+    let acceptance = reading.answer;
+    if let Acceptance::Refused { number, line } = acceptance {
+        return refuse(number, line);
+    }
+    let m = reading.model;
+    verdict::decide(m, work, run)
+}
