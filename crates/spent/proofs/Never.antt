@@ -1,6 +1,6 @@
 -- NO TEXT IS REFUSED BY ROW 13: each pass before the last added something too, and there is less than 100,000 to add.
 use mathlib.Core.Path.{_≡_, refl, sym, ap, subst}
-use mathlib.Core.Logic.{_⊎_, inl, inr, ⊎-elim}
+use mathlib.Core.Logic.{⊎-elim}
 use mathlib.Core.Bool.{true, false, false≢true}
 use mathlib.Core.List.{List, [], _∷_}
 use Prim.Native.Nat.{ℕ, zero, suc, _≤_, _<_}
@@ -15,7 +15,7 @@ use Rattle.grammar.specs.Declarations.{Declared}
 use Rattle.grammar.specs.Texts.{accepted, outcome}
 use Rattle.acceptance.specs.Sound.{carriedOf, Sound}
 use Rattle.acceptance.proofs.Acceptance.{accepted-sound}
-use Rattle.spent.specs.Passes.{Item, Have, Has, Adding, Passes, Spent}
+use Rattle.spent.specs.Passes.{Has, Adding, Passes, Spent}
 use Rattle.spent.proofs.Quiet.{pass-under, quiet-next, adding?}
 use Rattle.spent.proofs.Universe.{search-within}
 use Rattle.spent.proofs.Numbers.{itemOf, numbered}

@@ -1,5 +1,5 @@
 -- THE ITEMS THAT THERE ARE, NUMBERED: pairs, single facts, facts without objects, states, carried states.
-use mathlib.Core.Path.{_≡_, refl, sym, ap, ap₂, _∙_, subst}
+use mathlib.Core.Path.{_≡_, ap, ap₂, _∙_}
 use mathlib.Core.Logic.{_≢_}
 use mathlib.Core.Bool.{Bool, cond}
 use mathlib.Core.List.{List, [], _∷_}

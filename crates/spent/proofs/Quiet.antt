@@ -10,7 +10,7 @@ use Prim.Native.Nat.{ℕ, zero, suc}
 use native.Mathlib.Decide.{map-dec, ℕ-discrete}
 use lib.ListN.{getD}
 use Rattle.semantics.specs.Models.{is, isnt, fact, Body, Line, rule, new, next, other, Program, line, Question}
-use Rattle.spent.specs.Passes.{Item, derived, found, carried, Have, Has, Carries, AllTrue, Shows, ByLine, Given, Adds, Pass, Adding}
+use Rattle.spent.specs.Passes.{Item, derived, found, carried, Have, Has, Carries, AllTrue, Shows, ByLine, Source, clause, stage, Gives, Adds, Pass, Adding}
 
 -- all that G has, H has
 abbrev pub Under : Have → Have → Type 0
@@ -39,9 +39,9 @@ module _ (G H : Have) (more : Under G H) where
     line-more (next y plus minus b) x (σ, s, inr (i, l, c, e)) = (σ, shows-more σ b s, inr (i, l, carries-more i _ c, e))
     line-more other x g = g
 
-    given-more : (x : Item) → Given P Q v G x → Given P Q v H x
-    given-more x (inl (ℓ, g)) = inl (ℓ, line-more (line P ℓ) x g)
-    given-more x (inr (i, (l, (σ, s, (c, d, h, k, e))))) = inr (i, (l, (σ, shows-more σ (getD Q i []) s, (c, d, carries-more i c h, k, e))))
+    pub gives-more : (s : Source) (x : Item) → Gives P Q v G s x → Gives P Q v H s x
+    gives-more (clause ℓ) x g = line-more (line P ℓ) x g
+    gives-more (stage i) x (l, (σ, s, (c, d, h, k, e))) = (l, (σ, shows-more σ (getD Q i []) s, (c, d, carries-more i c h, k, e)))
 
 module _ (P : Program) (Q : Question) (v : ℕ) where
   -- a pass keeps what there is
@@ -59,7 +59,7 @@ module _ (P : Program) (Q : Question) (v : ℕ) where
       old : (xs : List Item) → Adds P Q v H xs → Under (xs ++ H) H
       old [] a x m = m
       old (y ∷ xs) a x m = ⊎-elim
-          (λ (e : x ≡ y). Memᴰ·cast e (p .takes y (given-more (xs ++ H) G (λ z k. q z (old xs (a .1) z k)) P Q v y (a .0))))
+          (λ (e : x ≡ y). Memᴰ·cast e (p .takes y (a .0 .0, gives-more (xs ++ H) G (λ z k. q z (old xs (a .1) z k)) P Q v (a .0 .0) y (a .0 .1))))
           (λ k. old xs (a .1) x k) (List·Memᴰ·cases-cons m)
 
 -- WHETHER SOMETHING WAS ADDED is decidable, since items are

@@ -1,24 +1,21 @@
 -- WHAT THERE IS TO ADD for a sound model: fewer than 100,000 items.
-use mathlib.Core.Path.{_≡_, refl, sym, ap, ap₂, _∙_, subst}
+use mathlib.Core.Path.{_≡_, refl, sym, subst}
 use mathlib.Core.Logic.{_⊎_, inl, inr, ⊎-elim, _≢_}
 use mathlib.Core.Bool.{Bool, true, false, _||_, false≢true}
 use mathlib.Core.List.{List, [], _∷_, _++_, map, List·Memᴰ·not-nil, List·Memᴰ·cases-cons}
 use mathlib.Core.Option.{Option, none, some}
-use Prim.Native.Nat.{ℕ, zero, suc, _+_, _*_, _-_, _/_, _%_, _^_, _≤_, _<_}
+use Prim.Native.Nat.{ℕ, zero, suc, _^_, _≤_, _<_}
 use native.Mathlib.Omega.{arith}
-use native.Mathlib.Nat.{le-trans}
-use borrow.Author.Tests.{lt-ltb, le-ltb}
 use lib.Bits.{or-lt, and-lt, xor-lt}
-use lib.Pow.{pow-mono}
-use lib.Dec.{eqb, ltb}
+use lib.Dec.{eqb}
 use lib.ListN.{length, getD, length-map}
 use Rattle.semantics.specs.Labels.{union, difference, relabel}
 use Rattle.semantics.specs.Models.{elem, is, isnt, fact, Body, Line, rule, new, next, other, Program, line, Question, vars, supported, SafeLine}
 use Rattle.semantics.proofs.Tools.{either, clash, no-none, or-right, has-empty, elem-cases, each-head, each-tail, each-cons}
 use Rattle.semantics.proofs.Bodies.{supported-vars}
-use Rattle.grammar.specs.Declarations.{class, Declared, count}
-use Rattle.acceptance.specs.Sound.{Each, DeclaredRelation, GoodDeclarations, GoodHead, GoodClause, GoodLines, GoodQuestion, Sound}
-use Rattle.spent.specs.Passes.{Item, derived, found, carried, Have, Has, Carries, AllTrue, Shows, Hands, ByLine, ByStage, Given, Adds, Pass, Passes}
+use Rattle.grammar.specs.Declarations.{Declared, count}
+use Rattle.acceptance.specs.Sound.{Each, DeclaredRelation, GoodHead, GoodClause, Sound}
+use Rattle.spent.specs.Passes.{Item, derived, found, carried, Have, Has, Carries, AllTrue, Shows, Hands, ByLine, ByStage, clause, stage, Given, Adds, Pass, Passes}
 
 -- relabeling stays within the relations of both lists
 relabel-below : (k s plus minus : ℕ) → s < 2 ^ k → plus < 2 ^ k → minus < 2 ^ k → relabel s plus minus < 2 ^ k
@@ -105,8 +102,8 @@ module _ (D : Declared) (Q : Question) (v : ℕ) where
   -- THE ITEMS OF A SEARCH are all such
   module _ (n : ℕ) (P : Program) (sound : Sound n D P Q) where
     given-within : (H : Have) → ((x : Item) → Has H x → Within x) → (x : Item) → Given P Q v H x → Within x
-    given-within H all x (inl (ℓ, g)) = program-within P H all n P (sound .lines .clause) ℓ x g
-    given-within H all x (inr (i, g)) = stage-within P H all (sound .question .stages) i x g
+    given-within H all x (clause ℓ, g) = program-within P H all n P (sound .lines .clause) ℓ x g
+    given-within H all x (stage i, g) = stage-within P H all (sound .question .stages) i x g
 
     pass-within : (H H′ : Have) → Pass P Q v H H′ → ((x : Item) → Has H x → Within x) → (x : Item) → Has H′ x → Within x
     pass-within H H′ p all x m = go (p .added) (p .adds) x (subst (λ (G : Have). Has G x) (p .keeps) m)

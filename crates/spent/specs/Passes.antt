@@ -54,6 +54,10 @@ Hands v b σ none (some d) = (elem v (vars b) ≡ true) × (d ≡ σ v)
 Hands v b σ (some c) none = ⊥
 Hands v b σ (some c) (some d) = (elem v (vars b) ≡ true → σ v ≡ c) × (d ≡ c)
 
+-- A CLAUSE, by its line, or a STAGE, by the number of those before it
+pub data Source : Type 0 where
+  clause stage : ℕ → Source
+
 module _ (P : Program) (Q : Question) (v : ℕ) where
   module _ (H : Have) where
     -- an object of state s gets the state t, which may be the carried object while stages are left to meet
@@ -71,8 +75,12 @@ module _ (P : Program) (Q : Question) (v : ℕ) where
     abbrev pub ByStage : ℕ → Item → Type 0
     ByStage i x = (i < length Q) × ((σ : ℕ → ℕ) × Shows H σ (getD Q i []) × ((c : Option ℕ) × (d : Option ℕ) × Carries H i c × Hands v (getD Q i []) σ c d × (x ≡ carried (suc i) d)))
 
+    abbrev pub Gives : Source → Item → Type 0
+    Gives (clause ℓ) x = ByLine (line P ℓ) x
+    Gives (stage i) x = ByStage i x
+
     abbrev pub Given : Item → Type 0
-    Given x = ((ℓ : ℕ) × ByLine (line P ℓ) x) ⊎ ((i : ℕ) × ByStage i x)
+    Given x = (s : Source) × Gives s x
 
   -- items added to H one at a time, the last first: each is given by a clause or stage over what is at hand then
   abbrev pub Adds : Have → List Item → Type 0
