@@ -16,9 +16,9 @@ use Rattle.grammar.specs.Texts.{accepted, outcome}
 use Rattle.acceptance.specs.Sound.{carriedOf, Sound}
 use Rattle.acceptance.proofs.Acceptance.{accepted-sound}
 use Rattle.spent.specs.Passes.{Has, Adding, Passes, Spent}
-use Rattle.spent.proofs.Quiet.{pass-under, quiet-next, adding?}
+use Rattle.spent.proofs.Quiet.{pass-under, added-before}
 use Rattle.spent.proofs.Universe.{search-within}
-use Rattle.spent.proofs.Numbers.{itemOf, numbered}
+use Rattle.spent.proofs.Numbers.{item, numbered}
 
 -- distinct numbers below n are at most n
 below-length : (n : ℕ) (ns : List ℕ) → Distinct ns → ((i : ℕ) → elem i ns ≡ true → i < n) → length ns ≤ n
@@ -27,7 +27,7 @@ below-length n ns d h = omega (arith, length-upFrom 0 n, distinct-length ns (upF
 module _ (n : ℕ) (D : Declared) (P : Program) (Q : Question) (sound : Sound n D P Q) (v k : ℕ) (p : Passes P Q v k) where
   -- m numbers of different items that the search has after m passes
   abbrev Different : ℕ → Type 0
-  Different m = (ns : List ℕ) × (length ns ≡ m) × Distinct ns × ((i : ℕ) → elem i ns ≡ true → (i < 98684) × Has (p .after m) (itemOf D Q v i))
+  Different m = (ns : List ℕ) × (length ns ≡ m) × Distinct ns × ((i : ℕ) → elem i ns ≡ true → (i < 98684) × Has (p .after m) (item D Q v i))
 
   one-more : (m : ℕ) → m < k → Adding (p .after m) (p .after (suc m)) → Different m → Different (suc m)
   one-more m l (x, h, fresh) (ns, size, distinct, had) =
@@ -36,20 +36,19 @@ module _ (n : ℕ) (D : Declared) (P : Program) (Q : Question) (sound : Sound n 
         i ∷ ns,
         ap suc size,
         (new, distinct),
-        each-cons (λ (j : ℕ). (j < 98684) × Has (p .after (suc m)) (itemOf D Q v j)) i ns (small, subst (Has (p .after (suc m))) (sym e) h)
-            (λ j q. (had j q .0, pass-under P Q v (p .after m) (p .after (suc m)) (p .pass m l) (itemOf D Q v j) (had j q .1))),
+        each-cons (λ (j : ℕ). (j < 98684) × Has (p .after (suc m)) (item D Q v j)) i ns (small, subst (Has (p .after (suc m))) (sym e) h)
+            (λ j q. (had j q .0, pass-under P Q v (p .after m) (p .after (suc m)) (p .pass m l) (item D Q v j) (had j q .1))),
       )
 
-  -- where a pass adds, each before it did
-  different : (m : ℕ) → m < k → Adding (p .after m) (p .after (suc m)) → Different (suc m)
-  different zero l a = one-more zero l a ([], refl, tt, λ i e. absurd (false≢true e))
-  different (suc m) l a = one-more (suc m) l a (⊎-elim (λ b. different m (omega arith) b)
-      (λ q. absurd (a .2 (quiet-next P Q v (p .after m) (p .after (suc m)) (p .after (suc (suc m))) (p .pass m (omega arith)) q (p .pass (suc m) l) (a .0) (a .1))))
-      (adding? (p .after m) (p .after (suc m))))
+  different : (m : ℕ) → m ≤ k → ((i : ℕ) → i < m → Adding (p .after i) (p .after (suc i))) → Different m
+  different zero l a = ([], refl, tt, λ i e. absurd (false≢true e))
+  different (suc m) l a = one-more m l (a m (omega arith)) (different m (omega arith) (λ i h. a i (omega arith)))
 
   -- THE LAST PASS THAT ADDS is at most the 98,684th
   pub last-adding : (m : ℕ) → m < k → Adding (p .after m) (p .after (suc m)) → suc m ≤ 98684
-  last-adding m l a = let (ns, size, distinct, had) = different m l a in rw (← size) (below-length 98684 ns distinct (λ i e. had i e .0))
+  last-adding m l a =
+      let (ns, size, distinct, had) = different (suc m) l (λ i h. added-before P Q v k p m l a i (omega arith)) in
+      rw (← size) (below-length 98684 ns distinct (λ i e. had i e .0))
 
 -- THE THEOREM, for a sound model, whatever variable is followed
 pub never-spent : (n : ℕ) (D : Declared) (P : Program) (Q : Question) → Sound n D P Q → (v : ℕ) → Spent P Q v → ⊥

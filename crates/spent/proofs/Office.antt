@@ -1,6 +1,6 @@
 -- Document 01's office model with its question of two stages: a search of it may have any number of passes, and only the first two add something.
 use mathlib.Core.Path.{_≡_, refl, sym}
-use mathlib.Core.Logic.{_⊎_, inl, inr, ⊎-elim, _≢_}
+use mathlib.Core.Logic.{inl, inr, ⊎-elim}
 use mathlib.Core.Bool.{true, false, false≢true, true≢false}
 use mathlib.Core.List.{List, [], _∷_, _++_, map, List·Memᴰ·head, List·Memᴰ·tail, List·Memᴰ·not-nil, List·Memᴰ·cases-cons, List·Memᴰ·eq-of-singleton, Memᴰ·cast, Memᴰ·append-right}
 use mathlib.Core.Option.{Option, none, some}
@@ -15,7 +15,7 @@ use Rattle.semantics.specs.Models.{elem, is, isnt, fact, Line, rule, new, next,
 use Rattle.semantics.proofs.Tools.{either, clash, no-none, or-right, each-cons}
 use Rattle.acceptance.specs.Sound.{Each, carriedOf}
 use Rattle.acceptance.proofs.Office.{office-accepted}
-use Rattle.spent.specs.Passes.{Item, derived, found, carried, Have, Has, Carries, Hands, clause, stage, ByLine, ByStage, Given, Adds, Pass, Adding, Passes, Spent}
+use Rattle.spent.specs.Passes.{Item, derived, found, carried, Have, Has, Carries, Hands, Changes, clause, stage, ByLine, ByStage, Given, Adds, Pass, Adding, Passes, Spent}
 use Rattle.spent.proofs.Quiet.{Under, gives-more}
 use Rattle.spent.proofs.Orders.{at-once}
 use Rattle.spent.proofs.Never.{accepted-never-spent}
@@ -50,6 +50,7 @@ told : (f : Item → ℕ) (H : Have) (x : Item) → Has H x → elem (f x) (map 
 told f [] x m = absurd (List·Memᴰ·not-nil m)
 told f (y ∷ H) x m = ⊎-elim (λ (e : x ≡ y). rw e (rw (eq-eqb (f y) (f y) refl))) (λ k. or-right (eqb (f x) (f y)) (elem (f x) (map f H)) (told f H x k)) (List·Memᴰ·cases-cons m)
 
+-- the state of an item that is one, and a number by which the others are told apart
 abbrev stateOf : Item → ℕ
 stateOf (derived r ss) = 0
 stateOf (found s) = s
@@ -65,6 +66,7 @@ mark (carried i (some c)) = 10 * suc (suc i) + c
 by-state : (R : ℕ → Type 0) → R 0 → R 1 → R 2 → R 3 → (s : ℕ) → Has everything (found s) → R s
 by-state R a b c d s m = each-elem R (0 ∷ 0 ∷ 0 ∷ 0 ∷ 0 ∷ 3 ∷ 2 ∷ 1 ∷ []) (a, (a, (a, (a, (a, (d, (c, (b, tt)))))))) s (told stateOf everything (found s) m)
 
+-- an item that is not there
 absent : (x : Item) → elem (mark x) (map mark everything) ≡ false → Has everything x → ⊥
 absent x e m = clash (told mark everything x m) e
 
@@ -89,7 +91,7 @@ next-closed x (σ, s, c) = go c
     moved (suc zero) l h = both .1
     moved (suc (suc i)) l h = absurd (omega arith)
 
-    go : ((relabel (σ 0) 1 0 ≢ 0) × (x ≡ found (relabel (σ 0) 1 0))) ⊎ ((i : ℕ) × (i < 2) × Carries everything i (some (σ 0)) × (x ≡ carried i (some (relabel (σ 0) 1 0)))) → Has everything x
+    go : Changes P Q 0 everything (σ 0) (relabel (σ 0) 1 0) x → Has everything x
     go (inl (n, e)) = Memᴰ·cast e (both .0)
     go (inr (i, l, h, e)) = Memᴰ·cast e (moved i l h)
 
@@ -183,6 +185,7 @@ further-given = (
     helped zero = 2
     helped (suc x) = 1
 
+-- and so has any pass that ends there
 pass-to-everything : (H : Have) (xs : List Item) → everything ≡ xs ++ H → Adds P Q 0 H xs → Under H everything → Pass P Q 0 H everything
 pass-to-everything H xs e a u = record { added = xs; keeps = e; adds = a; takes = λ x (s, g). closed x (s, gives-more H everything u P Q 0 s x g) }
 

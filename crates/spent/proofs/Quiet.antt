@@ -6,11 +6,13 @@ use mathlib.Core.Sum as sum
 use mathlib.Core.List.{List, [], _∷_, _++_, List-discrete, List·Memᴰ·head, List·Memᴰ·tail, List·Memᴰ·not-nil, List·Memᴰ·cases-cons, Memᴰ·cast}
 use mathlib.Core.Option.{Option}
 use mathlib.Core.Option as option
-use Prim.Native.Nat.{ℕ, zero, suc}
+use Prim.Native.Nat.{ℕ, zero, suc, _≤_, _<_}
+use native.Mathlib.Omega.{arith}
 use native.Mathlib.Decide.{map-dec, ℕ-discrete}
 use lib.ListN.{getD}
 use Rattle.semantics.specs.Models.{is, isnt, fact, Body, Line, rule, new, next, other, Program, line, Question}
-use Rattle.spent.specs.Passes.{Item, derived, found, carried, Have, Has, Carries, AllTrue, Shows, ByLine, Source, clause, stage, Gives, Adds, Pass, Adding}
+use Rattle.semantics.proofs.Tools.{same?}
+use Rattle.spent.specs.Passes.{Item, derived, found, carried, Have, Has, Carries, AllTrue, Shows, ByLine, Source, clause, stage, Gives, Adds, Pass, Adding, Passes}
 
 -- all that G has, H has
 abbrev pub Under : Have → Have → Type 0
@@ -104,3 +106,14 @@ adding? H (y ∷ H′) = go (has? H y) (adding? H H′)
     go (no n) d = inl (y, List·Memᴰ·head refl, n)
     go (yes h) (inl (x, m, n)) = inl (x, List·Memᴰ·tail m, n)
     go (yes h) (inr u) = inr (λ x m. ⊎-elim (λ (e : x ≡ y). Memᴰ·cast e h) (λ k. u x k) (List·Memᴰ·cases-cons m))
+
+-- WHERE A PASS ADDS SOMETHING, each pass before it did
+module _ (P : Program) (Q : Question) (v k : ℕ) (p : Passes P Q v k) where
+  one-before : (m : ℕ) → suc m < k → Adding (p .after (suc m)) (p .after (suc (suc m))) → Adding (p .after m) (p .after (suc m))
+  one-before m l (x, h, fresh) = ⊎-elim (λ a. a)
+      (λ q. absurd (fresh (quiet-next P Q v (p .after m) (p .after (suc m)) (p .after (suc (suc m))) (p .pass m (omega arith)) q (p .pass (suc m) l) x h)))
+      (adding? (p .after m) (p .after (suc m)))
+
+  pub added-before : (m : ℕ) → m < k → Adding (p .after m) (p .after (suc m)) → (i : ℕ) → i ≤ m → Adding (p .after i) (p .after (suc i))
+  added-before zero l a i h = let e : i ≡ 0 = omega arith in rw e a
+  added-before (suc m) l a i h = ⊎-elim (λ (e : i ≡ suc m). rw e a) (λ n. added-before m (omega arith) (one-before m l a) i (omega arith)) (same? i (suc m))

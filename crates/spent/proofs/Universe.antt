@@ -1,6 +1,6 @@
--- WHAT THERE IS TO ADD for a sound model: fewer than 100,000 items.
+-- WHAT THERE IS TO ADD for a sound model.
 use mathlib.Core.Path.{_≡_, refl, sym, subst}
-use mathlib.Core.Logic.{_⊎_, inl, inr, ⊎-elim, _≢_}
+use mathlib.Core.Logic.{inl, inr, ⊎-elim, _≢_}
 use mathlib.Core.Bool.{Bool, true, false, _||_, false≢true}
 use mathlib.Core.List.{List, [], _∷_, _++_, map, List·Memᴰ·not-nil, List·Memᴰ·cases-cons}
 use mathlib.Core.Option.{Option, none, some}
@@ -15,18 +15,19 @@ use Rattle.semantics.proofs.Tools.{either, clash, no-none, or-right, has-empty,
 use Rattle.semantics.proofs.Bodies.{supported-vars}
 use Rattle.grammar.specs.Declarations.{Declared, count}
 use Rattle.acceptance.specs.Sound.{Each, DeclaredRelation, GoodHead, GoodClause, Sound}
-use Rattle.spent.specs.Passes.{Item, derived, found, carried, Have, Has, Carries, AllTrue, Shows, Hands, ByLine, ByStage, clause, stage, Given, Adds, Pass, Passes}
+use Rattle.spent.specs.Passes.{Item, derived, found, carried, Have, Has, Carries, AllTrue, Shows, Hands, Changes, ByLine, ByStage, clause, stage, Given, Adds, Pass, Passes}
 
 -- relabeling stays within the relations of both lists
 relabel-below : (k s plus minus : ℕ) → s < 2 ^ k → plus < 2 ^ k → minus < 2 ^ k → relabel s plus minus < 2 ^ k
 unfolding relabel difference union
 relabel-below k s plus minus a b c = let u = or-lt k s plus a b in xor-lt k _ _ u (and-lt k _ _ u c)
 
+-- what holds of each value holds of each element of the mapped list
 each-map : (R : ℕ → Type 0) (σ : ℕ → ℕ) (xs : List ℕ) → ((x : ℕ) → elem x xs ≡ true → R (σ x)) → Each R (map σ xs)
 each-map R σ [] h = tt
 each-map R σ (x ∷ xs) h = (each-head (λ (y : ℕ). R (σ y)) x xs h, each-map R σ xs (each-tail (λ (y : ℕ). R (σ y)) x xs h))
 
--- what holds of each element of a mapped list
+-- and the other way round
 each-unmap : (R : ℕ → Type 0) (σ : ℕ → ℕ) (xs : List ℕ) → Each R (map σ xs) → (x : ℕ) → elem x xs ≡ true → R (σ x)
 each-unmap R σ [] h x e = absurd (false≢true e)
 each-unmap R σ (y ∷ xs) h x e = each-cons (λ (z : ℕ). R (σ z)) y xs (h .0) (each-unmap R σ xs (h .1)) x e
@@ -36,8 +37,9 @@ abbrev pub chosen : Question → ℕ → ℕ → Bool
 chosen Q v zero = false
 chosen Q v (suc i) = elem v (vars (getD Q i [])) || chosen Q v i
 
--- THE ITEMS of a sound model. A fact is of declared relations and states that are not empty; after i stages an object is carried exactly if its variable stands in one of them.
+-- THE ITEMS of a sound model. A fact is of a declared relation and of states that are not empty; after i stages an object is carried exactly if the variable stands in one of them.
 module _ (D : Declared) (Q : Question) (v : ℕ) where
+  -- a set of declared state relations that is not empty
   abbrev Proper : ℕ → Type 0
   Proper s = (s ≢ 0) × (s < 2 ^ count 0 D)
 
@@ -72,7 +74,7 @@ module _ (D : Declared) (Q : Question) (v : ℕ) where
         moved zero h = no-none (sym h)
         moved (suc i) h = (all _ h .0, all _ h .1, small)
 
-        go : ((relabel (σ y) plus minus ≢ 0) × (x ≡ found (relabel (σ y) plus minus))) ⊎ ((i : ℕ) × (i < length Q) × Carries H i (some (σ y)) × (x ≡ carried i (some (relabel (σ y) plus minus)))) → Within x
+        go : Changes P Q v H (σ y) (relabel (σ y) plus minus) x → Within x
         go (inl (n, e)) = subst Within (sym e) small
         go (inr (i, l, h, e)) = subst Within (sym e) (moved i h)
     line-within other g s x h = absurd h

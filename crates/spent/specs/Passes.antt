@@ -1,4 +1,4 @@
--- SEARCH PASSES (row 13): what a search over atomic states adds, whatever the order in which it takes the clauses and stages. Nothing here says what a model means.
+-- SEARCH PASSES (row 13): what a search over atomic states adds, pass by pass. Nothing here says what a model means.
 use mathlib.Core.Path.{_≡_}
 use mathlib.Core.Logic.{_⊎_, _≢_}
 use mathlib.Core.Bool.{true, false}
@@ -20,6 +20,7 @@ pub data Item : Type 0 where
 abbrev pub Have : Type 0
 Have = List Item
 
+-- the search has the item
 abbrev pub Has : Have → Item → Type 0
 Has H x = List·Memᴰ x H
 
@@ -34,6 +35,7 @@ Carries H (suc i) c = Has H (carried (suc i) c)
 
 -- A BODY over what is at hand, under a choice σ of atomic states for variables
 module _ (H : Have) (σ : ℕ → ℕ) where
+  -- a state relation is read off the state, and a derived relation off the facts at hand
   abbrev pub True : Literal → Type 0
   True (is a x) = has (σ x) a ≡ true
   True (isnt a x) = has (σ x) a ≡ false
@@ -75,10 +77,12 @@ module _ (P : Program) (Q : Question) (v : ℕ) where
     abbrev pub ByStage : ℕ → Item → Type 0
     ByStage i x = (i < length Q) × ((σ : ℕ → ℕ) × Shows H σ (getD Q i []) × ((c : Option ℕ) × (d : Option ℕ) × Carries H i c × Hands v (getD Q i []) σ c d × (x ≡ carried (suc i) d)))
 
+    -- one of them gives an item
     abbrev pub Gives : Source → Item → Type 0
     Gives (clause ℓ) x = ByLine (line P ℓ) x
     Gives (stage i) x = ByStage i x
 
+    -- some clause or stage gives the item
     abbrev pub Given : Item → Type 0
     Given x = (s : Source) × Gives s x
 
@@ -87,7 +91,7 @@ module _ (P : Program) (Q : Question) (v : ℕ) where
   Adds H [] = Unit {0}
   Adds H (x ∷ xs) = Given (xs ++ H) x × Adds H xs
 
-  -- A PASS from H to H′. The order of clauses and stages is left open, and whether one of them sees what another added in the same pass.
+  -- A PASS from H to H′. In which order it takes the clauses and stages is left open, and whether one of them sees what was added in the same pass.
   pub record Pass (H H′ : Have) : Type 0 where
     pub added : List Item
     -- it "starts from all that the pass before had .. and drops nothing"
