@@ -52,7 +52,7 @@ struct Area {
 }
 
 fn work_pattern(i: usize) -> u8 {
-    (i * 37 % 251) as u8 + 1
+    i as u8 | 128
 }
 
 impl Area {

@@ -1,7 +1,8 @@
 //! Lent replay states: those that do not fit, those with a carried object, and those that no run gives.
 
 use crate::calls::{Answer, Lent, WORK};
-use crate::meaning::Place;
+use crate::meaning::{Model, Place};
+use crate::playing::pair;
 use crate::random::{model, Random, Shape};
 use crate::report::Report;
 use crate::subject::Subject;
@@ -34,7 +35,7 @@ fn put(report: &mut Report, before: Lent, place: Place, wanted: Answer) -> Lent 
     after
 }
 
-/// Each reason for which a state does not fit: broken at 0, and left.
+/// Each reason for which a state does not fit, alone: broken at 0, and left.
 fn misfits(report: &mut Report) {
     let new = Place::Step(3, 2);
     let misfit = |report: &mut Report, change: &dyn Fn(&mut Lent)| {
@@ -44,7 +45,10 @@ fn misfits(report: &mut Report) {
     };
     put(report, lent(&[1, 2], 0, 255, 7), new, Answer::Kept);
     for objects in [256, 257, 1_000, 65_536, u32::MAX] {
-        misfit(report, &|l| l[OBJECTS] = objects);
+        misfit(report, &|l| {
+            l[..OBJECTS].fill(1);
+            l[OBJECTS] = objects;
+        });
     }
     for state in [4, 5, 128, 1 << 31, u32::MAX] {
         misfit(report, &|l| l[0] = state);
@@ -122,22 +126,29 @@ fn carried(report: &mut Report) {
     report.check(given == Answer::Kept && l[CARRIED] == 1, || format!("a carried object that no variable needs: {given:?} {l:?}"));
 }
 
-/// A state that often fits, and a place that is often allowed.
-fn random_try(report: &mut Report, r: &mut Random, subject: &Subject, states: usize) {
-    let objects: Vec<u32> = (0..r.below(5)).map(|_| r.below(1 << states) as u32).collect();
-    let carried = if r.chance(50) { 255 } else { r.below(5) as u32 };
-    let mut l = lent(&objects, r.below(4) as u32, carried, r.below(8_640) as u32);
+/// A state that often fits, with a wrong number in it now and then.
+fn random_state(r: &mut Random, m: &Model) -> Lent {
+    let objects: Vec<u32> = (0..r.below(5)).map(|_| r.below(1 << m.states) as u32).collect();
+    let carried = if r.chance(60) { 255 } else { r.below(objects.len() + 1) as u32 };
+    let mut l = lent(&objects, r.below(m.stages.len() + 1) as u32, carried, r.below(8_640) as u32);
     if r.chance(10) {
         let cell = r.below(259);
         l[cell] = r.word() >> r.below(32);
     }
-    let meeting: Vec<usize> = (0..r.below(4)).map(|_| r.below(objects.len() + 1)).collect();
-    let place = match r.below(4) {
-        0 => Place::meeting(l[MET] as usize % 100 + 1, &meeting).encode(),
-        1 => r.word(),
-        _ => Place::Step(1 + r.below(20) as u32, r.below(objects.len() + 1)).encode(),
-    };
-    subject.place(report, &mut l, place);
+    l
+}
+
+/// A place that is often allowed with so many objects and stages met.
+fn random_place(r: &mut Random, m: &Model, objects: usize, met: usize) -> u32 {
+    if r.chance(10) {
+        return r.word();
+    }
+    if let (Some(stage), true) = (m.stages.get(met), r.chance(50)) {
+        let named: Vec<usize> = (0..stage.body.variables).map(|_| r.below(objects + 1)).collect();
+        return Place::meeting(met + 1, &named).encode();
+    }
+    let (line, object) = pair(r, m, objects);
+    Place::Step(line % 8_388_608, object % 255).encode()
 }
 
 /// Random states of random models, whether or not a run gives them.
@@ -146,9 +157,12 @@ fn random_states(report: &mut Report) {
         let mut r = Random::new(seed + 1_000_000);
         let text = model(&mut r, Shape { states: 3, relations: 3, clauses: 8, stages: 4 });
         let subject = Subject::new(text.as_bytes());
-        let states = subject.read.as_ref().map_or(1, |m| m.states);
+        let Ok(m) = &subject.read else { continue };
         for _ in 0..40 {
-            random_try(report, &mut r, &subject, states);
+            let mut l = random_state(&mut r, m);
+            let place = random_place(&mut r, m, l[OBJECTS] as usize % 300, l[MET] as usize);
+            let given = subject.place(report, &mut l, place);
+            report.cover(if given == Answer::Kept { "random lent states kept" } else { "random lent states broken" });
         }
     }
 }

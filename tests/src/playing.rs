@@ -96,7 +96,7 @@ fn fault(m: &Model, before: &[u32], run: &[u32]) -> Option<usize> {
 
 /// Plays a shown run on after random lists.
 pub fn play_on(report: &mut Report, r: &mut Random, subject: &Subject, m: &Model, run: &[u32]) {
-    for length in [0, 3, 6 + r.below(12)] {
+    for length in [0, 6, 12 + r.below(12)] {
         let before = played(r, m, length);
         let at = fault(m, &before, run);
         report.check(at.is_none(), || format!("after {before:?} the run {run:?} is broken at {at:?} in\n{}", subject.show()));

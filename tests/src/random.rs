@@ -42,7 +42,7 @@ impl Random {
     }
 }
 
-/// How large a random model is at most.
+/// How large a random model is; of relations and stages it may have fewer.
 #[derive(Clone, Copy)]
 pub struct Shape {
     pub states: usize,
@@ -52,7 +52,7 @@ pub struct Shape {
 }
 
 /// Names of relations, some spelled like words of the language or like variables.
-const NAMES: [&str; 12] = ["A", "B", "C", "R", "P", "Q", "N", "state", "x", "Not", "ask1", "Sixteen16letters"];
+const NAMES: [&str; 14] = ["A", "B", "C", "D", "R", "P", "Q", "N", "state", "x", "new", "Not", "ask1", "Sixteen16letters"];
 const VARIABLES: [&str; 3] = ["x", "y", "z"];
 
 /// The names that a random text declares; derived relations have their arities.
@@ -65,7 +65,7 @@ impl Names {
     fn new(r: &mut Random, s: Shape) -> Names {
         let mut names = NAMES.to_vec();
         let mut draw = |r: &mut Random| names.swap_remove(r.below(names.len()));
-        let states = (0..1 + r.below(s.states)).map(|_| draw(r)).collect();
+        let states = (0..s.states).map(|_| draw(r)).collect();
         let derived = (0..r.below(s.relations + 1)).map(|_| (draw(r), r.pick(&[1, 2, 2, 0]))).collect();
         Names { states, derived }
     }
@@ -79,8 +79,8 @@ impl Names {
         let singles = self.of_arity(1);
         let pairs = self.of_arity(2);
         match r.below(10) {
-            0..=1 if !singles.is_empty() => format!("({} {variable})", r.pick(&singles)),
-            2..=4 if !pairs.is_empty() => {
+            0 if !singles.is_empty() => format!("({} {variable})", r.pick(&singles)),
+            1..=2 if !pairs.is_empty() => {
                 let other = r.pick(variables);
                 let (first, second) = if r.chance(50) { (variable, other) } else { (other, variable) };
                 format!("({} {first} {second})", r.pick(&pairs))
@@ -112,8 +112,8 @@ impl Names {
         literals
     }
 
-    fn list(&self, r: &mut Random, most: usize) -> String {
-        let names: Vec<&str> = (0..r.below(most + 1)).map(|_| r.pick(&self.states)).collect();
+    fn list(&self, r: &mut Random, least: usize, most: usize) -> String {
+        let names: Vec<&str> = (0..least + r.below(most + 1 - least)).map(|_| r.pick(&self.states)).collect();
         format!("({})", names.join(" "))
     }
 
@@ -129,19 +129,20 @@ impl Names {
 
     fn new_line(&self, r: &mut Random) -> String {
         let count = r.pick(&[0, 0, 1, 1, 2, 3]);
-        format!("(new {}{})", self.list(r, 2), joined(&self.body(r, &VARIABLES[..count])))
+        format!("(new {}{})", self.list(r, 0, 2), joined(&self.body(r, &VARIABLES[..count])))
     }
 
     fn next_line(&self, r: &mut Random) -> String {
-        let count = r.pick(&[1, 1, 2, 2, 3]);
+        let count = r.pick(&[1, 1, 1, 2, 2, 3]);
         let body = self.body(r, &VARIABLES[..count]);
-        format!("(next x {} {}{})", self.list(r, 2), self.list(r, 2), joined(&body))
+        let least = r.pick(&[0, 1, 1]);
+        format!("(next x {} {}{})", self.list(r, least, 2), self.list(r, 0, 2), joined(&body))
     }
 
     fn clause(&self, r: &mut Random) -> Option<String> {
         match r.below(10) {
-            0..=1 => Some(self.new_line(r)),
-            2..=5 => Some(self.next_line(r)),
+            0 => Some(self.new_line(r)),
+            1..=5 => Some(self.next_line(r)),
             _ => self.rule(r),
         }
     }
@@ -163,6 +164,16 @@ impl Names {
         }
         format!("({})", body.join(" "))
     }
+
+    fn question(&self, r: &mut Random, most: usize) -> String {
+        let carries = r.chance(70);
+        let mut stages = Vec::new();
+        for i in 0..1 + r.below(most) {
+            let carried = carries && r.chance(80);
+            stages.push(self.stage(r, i, carried));
+        }
+        format!("(ask {})", stages.join(" "))
+    }
 }
 
 fn joined(literals: &[String]) -> String {
@@ -173,19 +184,12 @@ fn joined(literals: &[String]) -> String {
 pub fn model(r: &mut Random, s: Shape) -> String {
     let names = Names::new(r, s);
     let mut lines: Vec<String> = names.states.iter().map(|n| format!("(state {n})")).collect();
-    for (name, arity) in &names.derived {
-        lines.insert(r.below(lines.len() + 1), format!("(rel {name} {arity})"));
-    }
-    lines.push(format!("(new ({}))", r.pick(&names.states)));
-    for _ in 0..1 + r.below(s.clauses) {
-        lines.extend(names.clause(r));
-    }
-    let carries = r.chance(70);
-    let mut stages = Vec::new();
-    for i in 0..1 + r.below(s.stages) {
-        let carried = carries && r.chance(80);
-        stages.push(names.stage(r, i, carried));
-    }
-    lines.push(format!("(ask {})", stages.join(" ")));
+    lines.extend(names.derived.iter().map(|(name, arity)| format!("(rel {name} {arity})")));
+    r.shuffle(&mut lines);
+    let mut clauses: Vec<String> = (0..1 + r.below(3)).map(|_| format!("(new {})", names.list(r, 1, 2))).collect();
+    clauses.extend((0..s.clauses).filter_map(|_| names.clause(r)));
+    r.shuffle(&mut clauses);
+    lines.extend(clauses);
+    lines.push(names.question(r, s.stages));
     lines.join("\n") + "\n"
 }

@@ -1,6 +1,6 @@
 //! A plain reader of the bracket text, written from document 01 alone: a line becomes a tree of words and brackets, and the tree is held to the shapes.
 
-use std::collections::HashMap;
+use std::collections::{HashMap, HashSet};
 
 /// A word, or a bracket of items.
 #[derive(Clone, Debug, PartialEq)]
@@ -202,32 +202,45 @@ impl Before {
         }
     }
 
+    /// The rows that a declaration meets.
+    fn declaration(&self, name: &str, full: bool, rows: &mut Vec<u32>) {
+        if full {
+            rows.push(4);
+        }
+        if self.kind(name).is_some() {
+            rows.push(5);
+        }
+    }
+
+    /// The rows that the stages of a question meet.
+    fn question(&self, stages: &[Vec<Literal>], rows: &mut Vec<u32>) {
+        let mut stands: HashMap<&str, usize> = HashMap::new();
+        for stage in stages {
+            for l in stage {
+                self.literal(l, false, rows);
+            }
+            Before::variables(&[], stage, rows);
+            let here: HashSet<&str> = stage.iter().flat_map(|l| l.variables.iter().map(|v| v.as_str())).collect();
+            for v in here {
+                *stands.entry(v).or_insert(0) += 1;
+            }
+        }
+        if stands.values().filter(|n| **n >= 2).count() >= 2 {
+            rows.push(11);
+        }
+    }
+
     /// All rows from 4 on that a form meets.
     fn rows(&self, f: &Form) -> Vec<u32> {
         let mut rows = Vec::new();
+        let pairs = self.count(|k| k == Kind::Derived(2));
         match f {
-            Form::State(w) => {
-                if self.count(|k| k == Kind::State) >= 7 {
-                    rows.push(4);
-                }
-                if self.kind(w).is_some() {
-                    rows.push(5);
-                }
-            }
-            Form::Rel(w, n) => {
-                if self.count(|k| k != Kind::State) >= 16 || *n == 2 && self.count(|k| k == Kind::Derived(2)) >= 6 {
-                    rows.push(4);
-                }
-                if self.kind(w).is_some() {
-                    rows.push(5);
-                }
-            }
+            Form::State(w) => self.declaration(w, self.count(|k| k == Kind::State) >= 7, &mut rows),
+            Form::Rel(w, n) => self.declaration(w, self.count(|k| k != Kind::State) >= 16 || *n == 2 && pairs >= 6, &mut rows),
             Form::Rule(head, body) => {
                 self.literal(head, true, &mut rows);
-                for (i, v) in head.variables.iter().enumerate() {
-                    if head.variables[..i].contains(v) {
-                        rows.push(9);
-                    }
+                if (1..head.variables.len()).any(|i| head.variables[..i].contains(&head.variables[i])) {
+                    rows.push(9);
                 }
                 self.clause(&head.variables, body, &mut rows);
             }
@@ -240,24 +253,7 @@ impl Before {
                 self.list(minus, &mut rows);
                 self.clause(&[x.clone()], body, &mut rows);
             }
-            Form::Ask(stages) => {
-                let mut stands: HashMap<&str, usize> = HashMap::new();
-                for s in stages {
-                    for l in s {
-                        self.literal(l, false, &mut rows);
-                    }
-                    Before::variables(&[], s, &mut rows);
-                    let mut here: Vec<&str> = s.iter().flat_map(|l| l.variables.iter().map(|v| v.as_str())).collect();
-                    here.sort();
-                    here.dedup();
-                    for v in here {
-                        *stands.entry(v).or_insert(0) += 1;
-                    }
-                }
-                if stands.values().filter(|n| **n >= 2).count() >= 2 {
-                    rows.push(11);
-                }
-            }
+            Form::Ask(stages) => self.question(stages, &mut rows),
         }
         rows
     }

@@ -12,11 +12,13 @@ use crate::subject::{fresh, Subject};
 use std::collections::BTreeSet;
 
 /// How many models are tried.
-const MODELS: u64 = 700;
+const MODELS: u64 = 600;
+/// How many larger models are tried.
+const LARGE_MODELS: u64 = 50;
 /// The most objects that the plain search takes.
 const OBJECTS: usize = 8;
 /// The most sessions that the plain search looks at.
-const SESSIONS: usize = 4_000;
+const SESSIONS: usize = 3_000;
 
 /// What plain searches found, and whether they are certain that there is no more.
 struct Known {
@@ -103,14 +105,14 @@ fn runs(report: &mut Report, r: &mut Random, subject: &Subject, m: &Model, run: 
 
 /// Damaged texts are answered as the plain reader answers them.
 fn texts(report: &mut Report, r: &mut Random, text: &str) {
-    for _ in 0..10 {
+    for i in 0..10 {
         let subject = Subject::new(&damage::text(r, text));
+        let a = subject.analyze(report);
         if let Ok(m) = &subject.read {
             report.cover("damaged texts accepted");
-            let a = subject.analyze(report);
-            compare(report, &subject, m, a.answer, &a.states);
-        } else {
-            subject.analyze(report);
+            if i < 3 {
+                compare(report, &subject, m, a.answer, &a.states);
+            }
         }
         subject.replay(report, &[]);
         subject.place(report, &mut fresh(), 256 * r.below(12) as u32);
@@ -139,30 +141,44 @@ fn features(report: &mut Report, text: &str, m: &Model, reached: bool) {
     count("a carried variable", m.stages.iter().any(|s| s.carried.is_some()));
 }
 
-fn shape(r: &mut Random) -> Shape {
-    Shape { states: r.pick(&[2, 2, 3]), relations: 3, clauses: 4 + r.below(6), stages: r.pick(&[1, 2, 3, 4]) }
+/// A model that the plain search can mostly settle, or a larger one.
+fn shape(r: &mut Random, large: bool) -> Shape {
+    if large {
+        return Shape { states: 5, relations: 6, clauses: 20, stages: 4 };
+    }
+    Shape { states: r.pick(&[1, 2, 3, 3]), relations: 3, clauses: 4 + r.below(10), stages: r.pick(&[1, 2, 3, 4]) }
+}
+
+/// One seeded model: the verdict, the states, the shown run.
+fn seeded(report: &mut Report, r: &mut Random, large: bool) -> String {
+    let shape = shape(r, large);
+    let mut text = model(r, shape);
+    if r.chance(65) {
+        text = guided::asked(r, &text);
+    }
+    let subject = Subject::new(text.as_bytes());
+    let a = subject.analyze(report);
+    let Ok(m) = &subject.read else {
+        report.check(false, || format!("a random model is refused:\n{text}"));
+        return text;
+    };
+    features(report, &text, m, matches!(a.answer, Answer::Reached(_)));
+    report.cover(&format!("models with {:2} reachable states", a.states.len()));
+    compare(report, &subject, m, a.answer, &a.states);
+    if !a.run.is_empty() {
+        runs(report, r, &subject, m, &a.run);
+    }
+    text
 }
 
 /// Runs all seeded models.
 pub fn models(report: &mut Report) {
     for seed in 1..=MODELS {
         let mut r = Random::new(seed);
-        let shape = shape(&mut r);
-        let mut text = model(&mut r, shape);
-        if seed % 3 != 0 {
-            text = guided::asked(&mut r, &text);
-        }
-        let subject = Subject::new(text.as_bytes());
-        let a = subject.analyze(report);
-        let Ok(m) = &subject.read else {
-            report.check(false, || format!("a random model is refused:\n{text}"));
-            continue;
-        };
-        features(report, &text, m, matches!(a.answer, Answer::Reached(_)));
-        compare(report, &subject, m, a.answer, &a.states);
-        if !a.run.is_empty() {
-            runs(report, &mut r, &subject, m, &a.run);
-        }
+        let text = seeded(report, &mut r, false);
         texts(report, &mut r, &text);
+    }
+    for seed in 1..=LARGE_MODELS {
+        seeded(report, &mut Random::new(seed + 1_000), true);
     }
 }
