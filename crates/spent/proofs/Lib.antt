@@ -1,5 +1,6 @@
 pub mod Quiet
 pub mod Orders
+pub mod Ended
 pub mod Universe
 pub mod Numbers
 pub mod Never

@@ -3,10 +3,13 @@ use mathlib.Core.Path.{_≡_, refl, sym, ap, subst}
 use mathlib.Core.Logic.{⊎-elim}
 use mathlib.Core.Bool.{true, false, false≢true}
 use mathlib.Core.List.{List, [], _∷_}
+use mathlib.Core.Option.{Option}
 use Prim.Native.Nat.{ℕ, zero, suc, _≤_, _<_}
 use native.Mathlib.Omega.{arith}
 use lib.ListN.{length}
 use Rattle.semantics.specs.Models.{elem, Program, Question, Distinct}
+use Rattle.semantics.specs.Steps.{Reachable}
+use Rattle.semantics.specs.Questions.{Reached}
 use Rattle.semantics.proofs.Tools.{either, each-cons, distinct-length}
 use Rattle.model.specs.Records.{upFrom}
 use Rattle.model.proofs.Numbering.{length-upFrom, upFrom-elem}
@@ -15,8 +18,9 @@ use Rattle.grammar.specs.Declarations.{Declared}
 use Rattle.grammar.specs.Texts.{accepted, outcome}
 use Rattle.acceptance.specs.Sound.{carriedOf, Sound}
 use Rattle.acceptance.proofs.Acceptance.{accepted-sound}
-use Rattle.spent.specs.Passes.{Has, Adding, Passes, Spent}
-use Rattle.spent.proofs.Quiet.{pass-under, added-before}
+use Rattle.spent.specs.Passes.{found, Has, Adding, Carries, Passes, Spent}
+use Rattle.spent.proofs.Quiet.{Under, pass-under, adding?, added-before}
+use Rattle.spent.proofs.Ended.{all-states, all-stages}
 use Rattle.spent.proofs.Universe.{search-within}
 use Rattle.spent.proofs.Numbers.{item, numbered}
 
@@ -50,6 +54,10 @@ module _ (n : ℕ) (D : Declared) (P : Program) (Q : Question) (sound : Sound n 
       let (ns, size, distinct, had) = different (suc m) l (λ i h. added-before P Q v k p m l a i (omega arith)) in
       rw (← size) (below-length 98684 ns distinct (λ i e. had i e .0))
 
+  -- each later one adds nothing
+  pub ended : (m : ℕ) → 98684 ≤ m → m < k → Under (p .after (suc m)) (p .after m)
+  ended m h l = ⊎-elim (λ a. absurd (let z = last-adding m l a in omega arith)) (λ q. q) (adding? (p .after m) (p .after (suc m)))
+
 -- THE THEOREM, for a sound model, whatever variable is followed
 pub never-spent : (n : ℕ) (D : Declared) (P : Program) (Q : Question) → Sound n D P Q → (v : ℕ) → Spent P Q v → ⊥
 never-spent n D P Q sound v (p, a) = absurd (let h = last-adding n D P Q sound v 100000 p 99999 (omega arith) a in omega arith)
@@ -57,3 +65,14 @@ never-spent n D P Q sound v (p, a) = absurd (let h = last-adding n D P Q sound v
 -- and so for an accepted text
 pub accepted-never-spent : (text : List ℕ) (D : Declared) (P : Program) (Q : Question) → outcome text ≡ accepted D P Q → Spent P Q (carriedOf Q) → ⊥
 accepted-never-spent text D P Q e s = never-spent (length (lines text)) D P Q (accepted-sound text D P Q e) (carriedOf Q) s
+
+-- AFTER 98,685 PASSES each reachable state of an accepted text is found, and all stages are met where the question is reached
+pub accepted-ended : (text : List ℕ) (D : Declared) (P : Program) (Q : Question) → outcome text ≡ accepted D P Q → (p : Passes P Q (carriedOf Q) 98685)
+    → ((s : ℕ) → Reachable P s → Has (p .after 98685) (found s)) × (Reached P Q → (c : Option ℕ) × Carries (p .after 98685) (length Q) c)
+accepted-ended text D P Q e p =
+    let sound = accepted-sound text D P Q e in
+    let quiet = ended (length (lines text)) D P Q sound (carriedOf Q) 98685 p 98684 (omega arith) (omega arith) in
+    let last = p .pass 98684 (omega arith) in (
+      all-states P Q (carriedOf Q) (p .after 98684) (p .after 98685) last quiet (sound .safe) (sound .question .safe),
+      all-stages P Q (carriedOf Q) (p .after 98684) (p .after 98685) last quiet (sound .safe) (sound .question .safe) (sound .question .carries),
+    )

@@ -2,7 +2,7 @@
 use mathlib.Core.Path.{_≡_, refl, sym}
 use mathlib.Core.Logic.{inl, inr, ⊎-elim}
 use mathlib.Core.Bool.{true, false, false≢true, true≢false}
-use mathlib.Core.List.{List, [], _∷_, _++_, map, List·Memᴰ·head, List·Memᴰ·tail, List·Memᴰ·not-nil, List·Memᴰ·cases-cons, List·Memᴰ·eq-of-singleton, Memᴰ·cast, Memᴰ·append-right}
+use mathlib.Core.List.{List, [], _∷_, _++_, map, List·Memᴰ·not-nil, List·Memᴰ·cases-cons, List·Memᴰ·eq-of-singleton, Memᴰ·cast, Memᴰ·append-right, Memᴰ·map}
 use mathlib.Core.Option.{Option, none, some}
 use Prim.Native.Nat.{ℕ, zero, suc, _+_, _*_, _<_}
 use native.Mathlib.Omega.{arith}
@@ -17,6 +17,7 @@ use Rattle.acceptance.specs.Sound.{Each, carriedOf}
 use Rattle.acceptance.proofs.Office.{office-accepted}
 use Rattle.spent.specs.Passes.{Item, derived, found, carried, Have, Has, Carries, Hands, Changes, clause, stage, ByLine, ByStage, Given, Adds, Pass, Adding, Passes, Spent}
 use Rattle.spent.proofs.Quiet.{Under, gives-more}
+use Rattle.spent.proofs.Ended.{mem-at, mem-elem}
 use Rattle.spent.proofs.Orders.{at-once}
 use Rattle.spent.proofs.Never.{accepted-never-spent}
 
@@ -47,8 +48,7 @@ each-line R r (c ∷ cs) h ℓ = ⊎-elim (λ (q : eqb ℓ (c .0) ≡ true). rw 
 
 -- a number told of an item is among those told of what there is
 told : (f : Item → ℕ) (H : Have) (x : Item) → Has H x → elem (f x) (map f H) ≡ true
-told f [] x m = absurd (List·Memᴰ·not-nil m)
-told f (y ∷ H) x m = ⊎-elim (λ (e : x ≡ y). rw e (rw (eq-eqb (f y) (f y) refl))) (λ k. or-right (eqb (f x) (f y)) (elem (f x) (map f H)) (told f H x k)) (List·Memᴰ·cases-cons m)
+told f H x m = mem-elem (map f H) (f x) (Memᴰ·map f m)
 
 -- the state of an item that is one, and a number by which the others are told apart
 abbrev stateOf : Item → ℕ
@@ -71,10 +71,8 @@ absent : (x : Item) → elem (mark x) (map mark everything) ≡ false → Has ev
 absent x e m = clash (told mark everything x m) e
 
 -- the item at a place of what there is
-at : (H : Have) (i : ℕ) → i < length H → Has H (getD H i (found 0))
-at [] i l = absurd (omega arith)
-at (x ∷ H) zero l = List·Memᴰ·head refl
-at (x ∷ H) (suc i) l = List·Memᴰ·tail (at H i (omega arith))
+has-at : (H : Have) (i : ℕ) → i < length H → Has H (getD H i (found 0))
+has-at H i l = mem-at H (found 0) i l
 
 -- NOTHING ELSE is given: by the line on which a user becomes an administrator
 next-closed : (x : Item) → ByLine P Q 0 everything (next 0 1 0 (is 1 0 ∷ is 0 1 ∷ [])) x → Has everything x
@@ -84,7 +82,7 @@ next-closed x (σ, s, c) = go c
     both : Has everything (found (relabel (σ 0) 1 0)) × Has everything (carried 1 (some (relabel (σ 0) 1 0)))
     both = by-state (λ (t : ℕ). has t 1 ≡ true → Has everything (found (relabel t 1 0)) × Has everything (carried 1 (some (relabel t 1 0))))
         (λ h. absurd (false≢true h)) (λ h. absurd (false≢true h))
-        (λ h. (at everything 5 (omega arith), at everything 1 (omega arith))) (λ h. (at everything 5 (omega arith), at everything 1 (omega arith))) (σ 0) (s .0 0 refl) (s .1 .0)
+        (λ h. (has-at everything 5 (omega arith), has-at everything 1 (omega arith))) (λ h. (has-at everything 5 (omega arith), has-at everything 1 (omega arith))) (σ 0) (s .0 0 refl) (s .1 .0)
 
     moved : (i : ℕ) → i < 2 → Carries everything i (some (σ 0)) → Has everything (carried i (some (relabel (σ 0) 1 0)))
     moved zero l h = no-none (sym h)
@@ -99,14 +97,14 @@ next-closed x (σ, s, c) = go c
 line-closed : (ℓ : ℕ) (x : Item) → ByLine P Q 0 everything (line P ℓ) x → Has everything x
 unfolding has
 line-closed = each-line (λ (L : Line). (x : Item) → ByLine P Q 0 everything L x → Has everything x) (λ x g. absurd g) P (
-  λ x g. Memᴰ·cast (g .3) (at everything 7 (omega arith)),
+  λ x g. Memᴰ·cast (g .3) (has-at everything 7 (omega arith)),
   (
-    λ x g. Memᴰ·cast (g .3) (at everything 6 (omega arith)),
+    λ x g. Memᴰ·cast (g .3) (has-at everything 6 (omega arith)),
     (
       next-closed,
       (
         λ x g. Memᴰ·cast (g .2) (by-state (λ (t : ℕ). has t 0 ≡ true → Has everything (derived 64 (t ∷ [])))
-            (λ h. absurd (false≢true h)) (λ h. at everything 4 (omega arith)) (λ h. absurd (false≢true h)) (λ h. at everything 3 (omega arith)) (g .0 0) (g .1 .0 0 refl) (g .1 .1 .0)),
+            (λ h. absurd (false≢true h)) (λ h. has-at everything 4 (omega arith)) (λ h. absurd (false≢true h)) (λ h. has-at everything 3 (omega arith)) (g .0 0) (g .1 .0 0 refl) (g .1 .1 .0)),
         tt,
       ),
     ),
@@ -121,7 +119,7 @@ stage-closed zero x (l, (σ, s, (c, d, h, k, e))) = Memᴰ·cast e (go c d h k)
     go : (c d : Option ℕ) → c ≡ none → Hands 0 (is 1 0 ∷ isnt 0 0 ∷ []) σ c d → Has everything (carried 1 d)
     go none none h k = absurd (true≢false k)
     go none (some d) h k = rw (k .1) (by-state (λ (t : ℕ). has t 1 ≡ true → has t 0 ≡ false → Has everything (carried 1 (some t)))
-        (λ p q. absurd (false≢true p)) (λ p q. absurd (false≢true p)) (λ p q. at everything 2 (omega arith)) (λ p q. absurd (true≢false q)) (σ 0) (s .0 0 refl) (s .1 .0) (s .1 .1 .0))
+        (λ p q. absurd (false≢true p)) (λ p q. absurd (false≢true p)) (λ p q. has-at everything 2 (omega arith)) (λ p q. absurd (true≢false q)) (σ 0) (s .0 0 refl) (s .1 .0) (s .1 .1 .0))
     go (some c) d h k = no-none (sym h)
 stage-closed (suc zero) x (l, (σ, s, (c, d, h, k, e))) = Memᴰ·cast e (go c d h k)
   where
@@ -130,7 +128,7 @@ stage-closed (suc zero) x (l, (σ, s, (c, d, h, k, e))) = Memᴰ·cast e (go c d
     go none (some d) h k = absurd (absent (carried 1 none) refl h)
     go (some c) none h k = absurd k
     go (some c) (some d) h k = rw (k .1, ← k .0 refl) (by-state (λ (t : ℕ). Has everything (derived 64 (t ∷ [])) → Has everything (carried 1 (some t)) → Has everything (carried 2 (some t)))
-        (λ p q. absurd (absent _ refl p)) (λ p q. absurd (absent _ refl q)) (λ p q. absurd (absent _ refl p)) (λ p q. at everything 0 (omega arith)) (σ 0) (s .0 0 refl) (s .1 .0) (rw (← k .0 refl) at h))
+        (λ p q. absurd (absent _ refl p)) (λ p q. absurd (absent _ refl q)) (λ p q. absurd (absent _ refl p)) (λ p q. has-at everything 0 (omega arith)) (σ 0) (s .0 0 refl) (s .1 .0) (rw (← k .0 refl) at h))
 stage-closed (suc (suc i)) x g = absurd (let l = g .0 in omega arith)
 
 closed : (x : Item) → Given P Q 0 everything x → Has everything x
@@ -147,8 +145,8 @@ first-pass = at-once P Q 0 [] created given all
 
     by-line : (ℓ : ℕ) (x : Item) → ByLine P Q 0 [] (line P ℓ) x → Has created x
     by-line = each-line (λ (L : Line). (x : Item) → ByLine P Q 0 [] L x → Has created x) (λ x g. absurd g) P (
-      λ x g. Memᴰ·cast (g .3) (at created 1 (omega arith)),
-      (λ x g. Memᴰ·cast (g .3) (at created 0 (omega arith)), (λ x g. absurd (List·Memᴰ·not-nil (g .1 .0 0 refl)), (λ x g. absurd (List·Memᴰ·not-nil (g .1 .0 0 refl)), tt))),
+      λ x g. Memᴰ·cast (g .3) (has-at created 1 (omega arith)),
+      (λ x g. Memᴰ·cast (g .3) (has-at created 0 (omega arith)), (λ x g. absurd (List·Memᴰ·not-nil (g .1 .0 0 refl)), (λ x g. absurd (List·Memᴰ·not-nil (g .1 .0 0 refl)), tt))),
     )
 
     by-stage : (i : ℕ) (x : Item) → ByStage P Q 0 [] i x → Has created x
@@ -164,16 +162,16 @@ first-pass = at-once P Q 0 [] created given all
 further-given : Adds P Q 0 created further
 unfolding has union difference relabel
 further-given = (
-  (stage 1, (omega arith, (λ x. 3, (each-elem _ (0 ∷ []) (at (drop 1 everything) 4 (omega arith), tt), (at (drop 1 everything) 2 (omega arith), tt)), (some 3, some 3, at (drop 1 everything) 0 (omega arith), (λ e. refl, refl), refl)))),
+  (stage 1, (omega arith, (λ x. 3, (each-elem _ (0 ∷ []) (has-at (drop 1 everything) 4 (omega arith), tt), (has-at (drop 1 everything) 2 (omega arith), tt)), (some 3, some 3, has-at (drop 1 everything) 0 (omega arith), (λ e. refl, refl), refl)))),
   (
-    (clause 6, (helped, (each-elem _ (0 ∷ 1 ∷ []) (at (drop 2 everything) 4 (omega arith), (at (drop 2 everything) 5 (omega arith), tt)), (refl, (refl, tt))), inr (1, omega arith, at (drop 2 everything) 0 (omega arith), refl))),
+    (clause 6, (helped, (each-elem _ (0 ∷ 1 ∷ []) (has-at (drop 2 everything) 4 (omega arith), (has-at (drop 2 everything) 5 (omega arith), tt)), (refl, (refl, tt))), inr (1, omega arith, has-at (drop 2 everything) 0 (omega arith), refl))),
     (
-      (stage 0, (omega arith, (λ x. 2, (each-elem _ (0 ∷ 0 ∷ []) (at (drop 3 everything) 3 (omega arith), (at (drop 3 everything) 3 (omega arith), tt)), (refl, (refl, tt))), (none, some 2, refl, (refl, refl), refl)))),
+      (stage 0, (omega arith, (λ x. 2, (each-elem _ (0 ∷ 0 ∷ []) (has-at (drop 3 everything) 3 (omega arith), (has-at (drop 3 everything) 3 (omega arith), tt)), (refl, (refl, tt))), (none, some 2, refl, (refl, refl), refl)))),
       (
-        (clause 7, (λ x. 3, (each-elem _ (0 ∷ []) (at (drop 4 everything) 1 (omega arith), tt), (refl, tt)), refl)),
+        (clause 7, (λ x. 3, (each-elem _ (0 ∷ []) (has-at (drop 4 everything) 1 (omega arith), tt), (refl, tt)), refl)),
         (
-          (clause 7, (λ x. 1, (each-elem _ (0 ∷ []) (at (drop 5 everything) 2 (omega arith), tt), (refl, tt)), refl)),
-          ((clause 6, (helped, (each-elem _ (0 ∷ 1 ∷ []) (at created 0 (omega arith), (at created 1 (omega arith), tt)), (refl, (refl, tt))), inl (suc-ne-zero 2, refl))), tt),
+          (clause 7, (λ x. 1, (each-elem _ (0 ∷ []) (has-at (drop 5 everything) 2 (omega arith), tt), (refl, tt)), refl)),
+          ((clause 6, (helped, (each-elem _ (0 ∷ 1 ∷ []) (has-at created 0 (omega arith), (has-at created 1 (omega arith), tt)), (refl, (refl, tt))), inl (suc-ne-zero 2, refl))), tt),
         ),
       ),
     ),
@@ -204,8 +202,8 @@ pass (suc (suc i)) = pass-to-everything everything [] refl tt (λ x m. m)
 pub office-search : (n : ℕ) → (p : Passes P Q 0 n) × Adding (p .after 0) (p .after 1) × Adding (p .after 1) (p .after 2) × ((i : ℕ) → Adding (p .after (suc (suc i))) (p .after (suc (suc (suc i)))) → ⊥)
 office-search n = (
   record { after = after; nothing = refl; pass = λ i l. pass i },
-  (found 1, at created 1 (omega arith), List·Memᴰ·not-nil),
-  (found 3, at everything 5 (omega arith), λ m. clash (told stateOf created (found 3) m) refl),
+  (found 1, has-at created 1 (omega arith), List·Memᴰ·not-nil),
+  (found 3, has-at everything 5 (omega arith), λ m. clash (told stateOf created (found 3) m) refl),
   λ i (x, m, n). n m,
 )
 

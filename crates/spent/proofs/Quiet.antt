@@ -89,7 +89,7 @@ same-parts = sum.discrete (×-discrete ℕ-discrete (List-discrete ℕ-discrete)
 same-item : Discrete Item
 same-item x y = map-dec (λ (e : parts x ≡ parts y). sym (whole-parts x) ∙ ap whole e ∙ whole-parts y) (λ (e : x ≡ y). ap parts e) (same-parts (parts x) (parts y))
 
-has? : (H : Have) (x : Item) → Dec (Has H x)
+pub has? : (H : Have) (x : Item) → Dec (Has H x)
 has? [] x = no List·Memᴰ·not-nil
 has? (y ∷ H) x = go (same-item x y) (has? H x)
   where
