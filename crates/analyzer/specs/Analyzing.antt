@@ -6,6 +6,8 @@ use Prim.Native.Nat.{ℕ}
 use lib.Dec.{ltb}
 use lib.ListN.{length, replicate}
 use Rattle.grammar.specs.Texts.{Outcome, accepted, refused}
+use Rattle.acceptance.specs.Sound.{carriedOf}
+use Rattle.spent.specs.Passes.{Spent}
 use Rattle.calls.specs.Calls.{called}
 use Rattle.verdict.specs.declared.Answer.the-variants.{Refused}
 use Rattle.verdict.specs.declared.Analysis.{Analysis}
@@ -19,10 +21,10 @@ short bytes places = ltb bytes 32768 || ltb places 8640
 abbrev pub refusal : ℕ → ℕ → Analysis
 refusal n l = record { answer = Refused n l; states = replicate 127 0; count = 0 }
 
--- WHAT THE CALL LEAVES, by the table's answer to it: after a refusal "both buffers are untouched"
+-- WHAT THE CALL LEAVES, by the table's answer to it: after a refusal "both buffers are untouched"; an accepted text has no 100,000 search passes, so that row 13 is never given
 abbrev pub Leaves : Outcome → List ℕ → List ℕ → Analysis → List ℕ → List ℕ → Type 0
 Leaves (refused n l) work run a work′ run′ = (a ≡ refusal n l) × (work′ ≡ work) × (run′ ≡ run)
-Leaves (accepted D P Q) work run a work′ run′ = Judges P Q work run a work′ run′
+Leaves (accepted D P Q) work run a work′ run′ = (Spent P Q (carriedOf Q) → ⊥) × Judges P Q work run a work′ run′
 
 -- THE ANALYSIS a of a text, with the work area and the run table before and after it. "Order: 1, 12, .. then line by line"; row 14 speaks of replays only.
 abbrev pub Analyzes : List ℕ → List ℕ → List ℕ → Analysis → List ℕ → List ℕ → Type 0
