@@ -1,5 +1,5 @@
 -- A run, place by place.
-use mathlib.Core.Path.{_≡_, refl, sym, ap, _∙_, subst, fun-ext}
+use mathlib.Core.Path.{_≡_, refl, sym, _∙_, subst, fun-ext}
 use mathlib.Core.Logic.{inl, inr, _≢_}
 use mathlib.Core.Bool.{Bool, true, false, cond}
 use mathlib.Core.List.{List, []}
@@ -9,13 +9,13 @@ use native.Mathlib.Omega.{arith}
 use native.Mathlib.Numerals.{add-one}
 use native.Mathlib.Nat.{not-suc-le-zero}
 use lib.Dec.{eqb}
-use lib.ListN.{length, drop, getD, replicate, length-set, length-replicate, drop-of-length-le}
+use lib.ListN.{length, drop, getD, length-set, length-replicate, drop-of-length-le}
 use lib.Seq.{drop-cons}
 use Rattle.semantics.specs.Models.{Line, rule, new, next, other, line}
 use Rattle.semantics.specs.Facts.{Database}
 use Rattle.semantics.specs.Steps.{Enabled}
 use Rattle.semantics.specs.Runs as runs
-use Rattle.semantics.specs.Runs.{step, meet, start, nobody, Allowed, after}
+use Rattle.semantics.specs.Runs.{step, meet, start, nobody, Allowed}
 use Rattle.model.specs.declared.Model.{Model}
 use Rattle.model.specs.Records.{programOf, questionOf}
 use Rattle.model.specs.Places.{Numerable}

@@ -28,7 +28,7 @@ use Rattle.model.specs.WellFormed.{declaredIn, GoodAction, WellFormed}
 use Rattle.model.proofs.Lines.{every-line}
 use Rattle.model.proofs.Accepted.{stages}
 use Rattle.session.specs.declared.Session.{Session}
-use Rattle.session.specs.Sessions.{optional, stateIn, created, stepped}
+use Rattle.session.specs.Sessions.{optional, stateIn, stepped}
 use Rattle.session.specs.Records.{sessionOf, Fits, carriedBy, taken}
 use Rattle.session.proofs.Relations.{Among, among-below}
 
