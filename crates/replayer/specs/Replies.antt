@@ -1,0 +1,40 @@
+-- WHAT THE REPLAY ANSWERS to a text: "after every answer that is no refusal, a single place's included, the first 32,768 work bytes are zero and the rest untouched".
+use mathlib.Core.Path.{_≡_}
+use mathlib.Core.Bool.{Bool}
+use mathlib.Core.List.{List, []}
+use Prim.Native.Nat.{ℕ}
+use lib.Dec.{eqb, ltb}
+use lib.ListN.{length}
+use Rattle.semantics.specs.Runs.{start}
+use Rattle.grammar.specs.Declarations.{count}
+use Rattle.grammar.specs.Texts.{Outcome, accepted, refused}
+use Rattle.acceptance.specs.Sound.{carriedOf}
+use Rattle.calls.specs.Calls.{called}
+use Rattle.wipe.specs.Wiping.{wiped}
+use Rattle.session.specs.declared.Answer.{Answer}
+use Rattle.session.specs.declared.Answer.the-variants.{Refused}
+use Rattle.session.specs.declared.Session.{Session}
+use Rattle.session.specs.Replays.{Replays}
+use Rattle.replay.specs.Replies.{PlaceReply}
+
+-- row 12, "work area under 32,768 bytes"
+abbrev pub narrow : List ℕ → Bool
+narrow work = ltb (length work) 32768
+
+-- A WHOLE RUN: row 14, "a replay of a run over 8,640 places"
+abbrev pub runOutcome : List ℕ → List ℕ → List ℕ → Outcome
+runOutcome text run work = called text (narrow work) (ltb 8640 (length run))
+
+-- the answer, and the work area after it
+abbrev pub Replayed : Outcome → List ℕ → List ℕ → Answer → List ℕ → Type 0
+Replayed (refused n l) run work a after = (a ≡ Refused n l) × (after ≡ work)
+Replayed (accepted D P Q) run work a after = Replays P Q (start []) run 0 a × (after ≡ wiped work)
+
+-- ONE PLACE: row 14, "a place put to a lent state that has kept 8,640"
+abbrev pub placeOutcome : List ℕ → Session → List ℕ → Outcome
+placeOutcome text s work = called text (narrow work) (eqb (s .kept) 8640)
+
+-- the answer, the state after the place, and the work area after it; "refusals leave it"
+abbrev pub Put : Outcome → Session → ℕ → List ℕ → Answer → Session → List ℕ → Type 0
+Put (refused n l) s place work a t after = (a ≡ Refused n l) × (t ≡ s) × (after ≡ work)
+Put (accepted D P Q) s place work a t after = PlaceReply (count 0 D) P Q (carriedOf Q) s place a t × (after ≡ wiped work)

@@ -1,0 +1,59 @@
+// The replay over a text: a whole run, and one place put to a state by value.
+use replay::Reply;
+use session::Answer;
+use session::Session;
+use text::Acceptance;
+use wipe::WORK;
+ghost use mathlib.Core.Path.{_≡_};
+ghost use Rattle.session.specs.declared.Answer.the-variants.{Refused};
+ghost use Rattle.replayer.specs.Replies.{runOutcome, Replayed, placeOutcome, Put};
+
+// The most places that a run has.
+const PLACES: usize = 8640;
+
+// A refusal leaves the state.
+fn refuse(s: Session, number: u32, line: u32) -> Reply
+    ensures { λ r. ⌜ (r .answer ≡ Refused number line) × (r .session ≡ s) ⌝ }
+{
+    Reply {
+        answer: Answer::Refused { number, line },
+        session: s,
+    }
+}
+
+// Replays a run over a text.
+pub fn replay(text: &[u8], run: &[u32], work: &mut [u8]) -> Answer
+    ensures { λ r. ⌜ Replayed (runOutcome (now (text .entry)) (now (run .entry)) (now (work .entry))) (now (run .entry)) (now (work .entry)) r (now (work .exit)) ⌝ }
+{
+    let row = calls::early(text.len(), work.len() < WORK, run.len() > PLACES);
+    if row != 0 {
+        return Answer::Refused {
+            number: row,
+            line: 0,
+        };
+    }
+    let reading = text::read(text);
+    let acceptance = reading.answer;
+    if let Acceptance::Refused { number, line } = acceptance {
+        return Answer::Refused { number, line };
+    }
+    let m = reading.model;
+    replay::replay_model(m, run, work)
+}
+
+// Puts one place to a state over a text.
+pub fn place(text: &[u8], s: Session, n: u32, work: &mut [u8]) -> Reply
+    ensures { λ r. ⌜ Put (placeOutcome (now (text .entry)) s (now (work .entry))) s n (now (work .entry)) (r .answer) (r .session) (now (work .exit)) ⌝ }
+{
+    let row = calls::early(text.len(), work.len() < WORK, s.kept == PLACES);
+    if row != 0 {
+        return refuse(s, row, 0);
+    }
+    let reading = text::read(text);
+    let acceptance = reading.answer;
+    if let Acceptance::Refused { number, line } = acceptance {
+        return refuse(s, number, line);
+    }
+    let m = reading.model;
+    replay::place_model(m, s, n, work)
+}
