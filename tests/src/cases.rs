@@ -227,6 +227,16 @@ fn declarations(states: usize, singles: usize, pairs: usize, clauses: usize) -> 
     text + "(ask ((S0 x)))\n"
 }
 
+/// As many literals as there can be: 64 bodies and 4 stages of 8.
+fn all_literals(report: &mut Report) {
+    let bodies = format!("(next x () () {})\n", times("(A x)", 8)).repeat(63);
+    let stage = format!("({})", times("(A x)", 8));
+    let ask = format!("(ask {})", times(&stage, 4));
+    accepted(report, format!("(state A)\n{bodies}(new (A) {})\n{ask}\n", times("(A y)", 8)).as_bytes());
+    accepted(report, format!("(state A)\n(new (A))\n{bodies}{ask}\n").as_bytes());
+    refused(report, 4, 66, format!("(state A)\n(new (A))\n(new (A))\n{bodies}{ask}\n").as_bytes());
+}
+
 /// Row 4: 7 and 8 states, 16 and 17 relations, 6 and 7 pairs, 64 and 65 clauses.
 fn counts(report: &mut Report) {
     accepted(report, declarations(7, 10, 6, 64).as_bytes());
@@ -286,6 +296,7 @@ fn sizes(report: &mut Report) {
     refused(report, 3, 1, &[b'\n'; 16_384]);
     refused(report, 1, 0, &[b'\n'; 16_385]);
     refused(report, 1, 0, &vec![0; 100_000]);
+    refused(report, 3, 1, &[&[b'('; 16_383][..], b"\n"].concat());
 }
 
 /// Every byte of a text dropped, doubled, or replaced by and preceded by each of some others.
@@ -315,6 +326,7 @@ pub fn all(report: &mut Report) {
     rows_of_questions(report);
     long_names(report);
     lengths(report);
+    all_literals(report);
     counts(report);
     sizes(report);
     one_byte_wrong(report);

@@ -124,6 +124,8 @@ fn carried(report: &mut Report) {
     let mut l = lent(&[1, 1], 0, 1, 0);
     let given = free.place(report, &mut l, Place::meeting(1, &[0]).encode());
     report.check(given == Answer::Kept && l[CARRIED] == 1, || format!("a carried object that no variable needs: {given:?} {l:?}"));
+    let given = free.place(report, &mut lent(&[1, 1], 0, 2, 9), Place::meeting(1, &[0]).encode());
+    report.check(given == Answer::Broken(0), || format!("a carried object that was not created: {given:?}"));
 }
 
 /// A state that often fits, with a wrong number in it now and then.
@@ -167,6 +169,42 @@ fn random_states(report: &mut Report) {
     }
 }
 
+/// A rule for pairs of rather special states.
+fn pair_rule(r: &mut Random) -> String {
+    let literal = |r: &mut Random, v: &str| match r.below(2) {
+        0 => format!(" (S{} {v})", r.below(7)),
+        _ => format!(" (not (S{} {v}))", r.below(7)),
+    };
+    let others: String = ["x", "x", "y", "y"].iter().map(|v| literal(r, v)).collect();
+    format!("(rule (E x y) (S{} x) (S{} y){others})\n", r.below(7), r.below(7))
+}
+
+/// A text about seven state relations, with pairs and their closure.
+fn closure_text(r: &mut Random) -> String {
+    let mut text: String = (0..7).map(|i| format!("(state S{i})\n")).collect();
+    text += "(rel E 2)\n(rel T 2)\n(rel U 1)\n";
+    for _ in 0..4 {
+        text += &pair_rule(r);
+    }
+    text + "(rule (T x y) (E x y))\n(rule (T x y) (T x z) (E z y))\n(rule (U x) (T x x))\n(new (S0) (U x))\n(ask ((T x y)))\n"
+}
+
+/// Databases of 127 different states in any order, in which pairs and their closure are asked for.
+fn all_states(report: &mut Report) {
+    for seed in 1..=5 {
+        let mut r = Random::new(seed + 2_000_000);
+        let subject = Subject::new(closure_text(&mut r).as_bytes());
+        let mut states: Vec<u32> = (1..128).collect();
+        r.shuffle(&mut states);
+        for _ in 0..6 {
+            let named = [r.below(127), r.below(127)];
+            let given = subject.place(report, &mut lent(&states, 0, 255, 0), Place::meeting(1, &named).encode());
+            report.cover(if given == Answer::Kept { "closure over 127 states: kept" } else { "closure over 127 states: broken" });
+        }
+        subject.place(report, &mut lent(&states, 0, 255, 0), Place::Step(17, 127).encode());
+    }
+}
+
 /// Runs all lent states.
 pub fn all(report: &mut Report) {
     misfits(report);
@@ -174,4 +212,5 @@ pub fn all(report: &mut Report) {
     places_kept(report);
     carried(report);
     random_states(report);
+    all_states(report);
 }

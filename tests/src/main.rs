@@ -18,6 +18,25 @@ mod subject;
 
 use report::Report;
 
+/// What the seeded models and the damaged texts are to meet at least.
+fn covered_enough(report: &mut Report) {
+    for call in ["analysis", "replay", "place"] {
+        for number in 1..=12 {
+            report.met_often(&format!("{call}: refused {number:2}"), 5);
+        }
+    }
+    for call in ["replay", "place"] {
+        report.met_often(&format!("{call}: refused 14"), 5);
+        report.met_often(&format!("{call}: kept"), 500);
+        report.met_often(&format!("{call}: broken"), 500);
+    }
+    report.met_often("search: certain and reached", 400);
+    report.met_often("search: certain and unreached", 200);
+    report.met_often("models reached with a carried variable", 100);
+    report.met_often("models unreached with a carried variable", 50);
+    report.met_often("played on after other objects", 400);
+}
+
 fn main() {
     let mut report = Report::default();
     cases::all(&mut report);
@@ -25,6 +44,7 @@ fn main() {
     lent::all(&mut report);
     buffers::all(&mut report);
     seeded::models(&mut report);
+    covered_enough(&mut report);
     if !report.close() {
         std::process::exit(1);
     }

@@ -129,6 +129,9 @@ fn readings(report: &mut Report) {
     verdict(report, bits, false, &[4, 6]);
     verdict(report, "(state A)\n(new ())\n(new (A) (A x))\n(ask ((A x)))\n", false, &[]);
     verdict(report, "(state A)\n(ask ((A x)))\n", false, &[]);
+    let order = format!("{AB}(new (A))\n(new (B))\n(ask ((not (A y)) (A x) (B y)))\n");
+    answer(report, &order, &[step(3, 0), step(4, 1), meet(1, &[1, 0])], Answer::Kept);
+    answer(report, &order, &[step(3, 0), step(4, 1), meet(1, &[0, 1])], Answer::Broken(2));
     let carried = "(state A)\n(state B)\n(new (A))\n(next x (B) (A) (A x))\n(next x () (B) (B x))\n";
     verdict(report, &format!("{carried}(ask ((A x)) ((B x)) ((A y)))\n"), true, &[1, 2]);
     verdict(report, &format!("{carried}(ask ((A x)) ((B x)) ((A x)))\n"), false, &[1, 2]);

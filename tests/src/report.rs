@@ -30,6 +30,12 @@ impl Report {
         *self.covered.entry(what.to_string()).or_insert(0) += 1;
     }
 
+    /// Checks that something was met often enough for the other checks to say much.
+    pub fn met_often(&mut self, what: &str, least: usize) {
+        let times = self.covered.get(what).copied().unwrap_or(0);
+        self.check(times >= least, || format!("{what}: {times}, and not {least}"));
+    }
+
     /// Prints what was covered and the count of checks, and says whether all passed.
     pub fn close(&self) -> bool {
         for (what, times) in &self.covered {

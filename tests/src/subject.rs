@@ -49,7 +49,7 @@ impl Subject {
         report.check(a.table, || format!("run table: {}", about()));
         report.check(a.shape, || format!("states and last place: {}", about()));
         let refusal = self.refusal(&[(12, work < WORK || places < RUN)]);
-        report.cover(&covered(&a.answer));
+        report.cover(&format!("analysis: {}", covered(&a.answer)));
         match (refusal, &self.read, a.answer) {
             (None, Ok(m), Answer::Reached(n)) => {
                 report.check(n == a.run.len() && n <= LONGEST, || format!("{n} places: {}", about()));
