@@ -104,67 +104,21 @@ fn every_byte(report: &mut Report) {
     }
 }
 
-/// Lines that have none of the shapes.
-fn no_shapes(report: &mut Report) {
-    let lines = "state C|(State C)|(state)|(state C D)|((state C))|(state (C))|(state C))|((state C)|(state C)(state D)|(state C) | (state C)|( state C)|(state C )|()|(|)|C|(C)|(stateC)|(state 1C)|(state not)\
-        |(rel S 01)|(rel S 3)|(rel S)|(rel S 10)|(rel S 1 )|(rel S x)|(rel S (1))|(rel S 1 1)|(rel not 1)|(rel 1)|(rel 1S 1)|(rel (S) 1)|(rel S  1)\
-        |(rule)|(rule R (A x))|(rule ())|(rule () (A x))|(rule (not x) (A x))|(rule (not (R x)) (A x))|(rule ((R x)) (A x))|(rule (R x)(A x))|(rule (R x) A)|(rule (R x) ())|(rule (R not) (A x))|(rule (R x) ((A x)))\
-        |(new)|(new A)|(new () ())|(new (A) A)|(new (A) (A 1))|(new (1))|(new (not))|(new ((A)))|(new (A) (A not))|(new () (not A))|(new () (not x))|(new () (not))|(new () (not (not (A x))))|(new () (not (A x) (A x)))|(new () (not (A x) x))|(new () (not ()))\
-        |(new ( A))|(new (A ))|(new (A  B))|(new () (A x ))|(new () ( A x))|(new () (A  x))|(new () (not  (A x)))|(new () (not(A x)))|(new()(A x))\
-        |(next)|(next x)|(next x (A))|(next (x) (A) ())|(next x A ())|(next x () (A) A)|(next not () () (A not))|(next 1 () () (A x))|(next () () (A x))|(next x () () ())|(next x ()  () (A x))";
-    for each in lines.split('|') {
-        line(report, 3, each);
-    }
-    for ask in "(ask)|(ask ())|(ask () ((A x)))|(ask ((A x)) ())|(ask (A x))|(ask A)|(ask ((A x))((A x)))|(ask ((A x)) )|(ask (()))|(ask ((not x)))|(ask (((A x))))|(ask ((A x)) x)|(ask  ((A x)))|(asks ((A x)))|(ask ((A x))".split('|') {
-        question(report, 3, ask);
-    }
+/// The rows of a file of cases: a number, and a line in quotes.
+fn rows(file: &'static str) -> impl Iterator<Item = (u32, &'static str)> {
+    file.lines().filter(|row| row.ends_with('"')).map(|row| {
+        let (number, text) = row.split_once(" \"").expect("a number before the quotes");
+        (number.parse().expect("a number"), text.strip_suffix('"').expect("a quote at the end"))
+    })
 }
 
-/// Lines that have a shape, with rows 5 to 9 in document 01's order.
-fn rows_of_lines(report: &mut Report) {
-    let accepted = "(state C)|(state Not)|(state not1)|(state state)|(state ask)|(state A1)|(rel S 0)|(rel S 1)|(rel S 2)|(rel rel 2)|(rel new 1)|(new ())|(new (A))|(new (A A))|(new (A B) (A A))|(new (A) (A A) (B B))|(new () (N))\
-        |(rule (N))|(rule (N) (A x))|(rule (R x) (A x))|(rule (R x) (R x))|(rule (W x y) (A x) (A y))|(rule (W y x) (W x y))|(rule (R x) (W x x))|(rule (R x) (W x y) (W y z))|(rule (R R) (R R))\
-        |(next x () () (A x))|(next x (A) (A) (B x))|(next A (A) () (A A))|(next x () () (W y x) (W x z))|(new () (W x y) (W y z) (W z x) (A x))|(new () (A x) (not (A x)))|(new () (not (A x)) (A x))|(new () (not (A y)) (A x) (W x y))";
-    for each in accepted.split('|') {
-        line(report, 0, each);
+/// Lines and questions after the declarations.
+fn lines_and_questions(report: &mut Report) {
+    for (number, each) in rows(include_str!("../cases/lines.txt")) {
+        line(report, number, each);
     }
-    let cases = [
-        (5, "(state A)|(state R)|(state N)|(rel A 1)|(rel R 1)|(rel W 1)|(rel N 2)"),
-        (6, "(new (C))|(new (R))|(new (A R))|(new (A x))|(new () (C x))|(new () (not (C x)))|(new () (a x))|(next x (C) () (A x))|(next x () (R) (A x))|(next x (A) (A x))|(next x () () (C x))"),
-        (6, "(rule (C x) (A x))|(rule (A x) (A x))|(rule (A x y) (A x))|(rule (A) (A x))|(rule (R x) (C x))|(rule (R x) (A x) (not (C x)))"),
-        (6, "(new (C) (A x y))|(new (A) (A x y) (C x))|(new (C) (not (R x)))|(rule (C x x) (A y))|(new () (not (R x)) (C x))|(next y (A) (A) (C x x))|(rule (R x y) (C x))"),
-        (7, "(new () (A))|(new () (A x y))|(new () (not (A)) (A x))|(new () (A x) (not (A x y)))|(new () (R))|(new () (R x y))|(new () (W x))|(new () (W x y z))|(new () (W))|(new () (N x))|(new () (N x y z v))"),
-        (7, "(rule (R) (A x))|(rule (R x y) (A x) (A y))|(rule (W x) (A x))|(rule (W x y z) (A x) (A y) (A z))|(rule (N x) (A x))|(rule (R x x) (A x))|(rule (N x x x) (A x))"),
-        (7, "(new () (not (R x y)) (A x))|(new () (not (W x)) (A x))|(new () (not (N x)) (A x))|(new () (not (R x)) (A x y))|(new () (A x y) (not (R x)))|(new () (A x y) (A z))|(rule (R x y) (A z))|(new () (A x y z v))"),
-        (8, "(new () (A x) (not (R x)))|(new () (not (R x)))|(new () (A y) (not (R x)))|(new () (not (W x y)) (A x))|(new () (not (N)))|(rule (R x) (not (R x)))|(rule (W x x) (not (R x)) (A x))|(next x () () (not (R x)))|(new () (not (W x y)) (A z) (A v))"),
-        (9, "(rule (R x) (A y))|(rule (R x))|(rule (W x y) (A x))|(rule (W x x) (A x))|(next x (A) ())|(next x (A) () (A y))|(next x () () (not (A x)))|(new () (not (A x)))|(new () (A x) (not (A y)))|(rule (R x) (not (A x)))"),
-        (9, "(new () (W x y) (W z v))|(new () (A x) (A y) (A z) (A v))|(rule (R x) (A x) (W y z) (A v))|(next x () () (A x) (W y z) (A v))|(rule (W x y) (A x) (A y) (W z v))|(rule (N) (W a b) (W c d))"),
-    ];
-    for (number, lines) in cases {
-        for each in lines.split('|') {
-            line(report, number, each);
-        }
-    }
-}
-
-/// Questions, with rows 6 to 9 and 11.
-fn rows_of_questions(report: &mut Report) {
-    let accepted = "(ask ((A x)))|(ask ((A A)))|(ask ((N)))|(ask ((N)) ((N)) ((N)) ((N)))|(ask ((A x)) ((A x)) ((A x)) ((A x)))|(ask ((A x) (A y)) ((A x)) ((B x) (not (A x))))|(ask ((W x y)) ((W z v)))|(ask ((W x y)) ((W y z)))\
-        |(ask ((W a b) (A c)) ((W d e) (A f)) ((W g h) (A i)) ((W j k) (A l)))|(ask ((W w b) (A c)) ((W d w) (A f)) ((W g h) (A w)) ((W w k) (A l)))|(ask ((A x)) ((N)) ((A x)))|(ask ((not (A x)) (B x)))";
-    for ask in accepted.split('|') {
-        question(report, 0, ask);
-    }
-    let cases = [
-        (6, "(ask ((C x)))|(ask ((A x)) ((C x)))|(ask ((A x y)) ((C x)))|(ask ((not (R x))) ((C x)))|(ask ((A x) (not (C x))))|(ask ((W x y)) ((W x y) (C x)))"),
-        (7, "(ask ((A)))|(ask ((A x y)))|(ask ((W x)))|(ask ((N x)))|(ask ((A x)) ((R)))|(ask ((A x) (not (R x))) ((A x y)))|(ask ((A x) (not (A x y))))|(ask ((W x y)) ((W x y) (R)))"),
-        (8, "(ask ((A x) (not (R x))))|(ask ((A x)) ((A y) (not (R x))))|(ask ((A y) (not (R x))))|(ask ((W x y)) ((W x y) (not (W x y))))|(ask ((not (N))))"),
-        (9, "(ask ((not (A x))))|(ask ((A x)) ((A y) (not (A x))))|(ask ((A x) (not (A y))))|(ask ((W x y) (W z v)))|(ask ((A x)) ((W x y) (W z v)))|(ask ((W x y)) ((W x y) (not (A z))))|(ask ((A x) (A y) (A z) (A v)))"),
-        (11, "(ask ((W x y)) ((W x y)))|(ask ((W x y)) ((W y x)))|(ask ((A x) (A y)) ((A x)) ((A y)))|(ask ((A x)) ((A x)) ((A y)) ((A y)))|(ask ((A x) (A y)) ((A z)) ((A x) (A y)))|(ask ((W x y)) ((A x) (A y) (A z)) ((A z)))"),
-    ];
-    for (number, asks) in cases {
-        for ask in asks.split('|') {
-            question(report, number, ask);
-        }
+    for (number, ask) in rows(include_str!("../cases/questions.txt")) {
+        question(report, number, ask);
     }
 }
 
@@ -321,9 +275,7 @@ pub fn all(report: &mut Report) {
     small_examples(report);
     lines_and_bytes(report);
     every_byte(report);
-    no_shapes(report);
-    rows_of_lines(report);
-    rows_of_questions(report);
+    lines_and_questions(report);
     long_names(report);
     lengths(report);
     all_literals(report);

@@ -1,7 +1,7 @@
 //! Questions drawn from a random walk, so that a run meets them, and near misses of such questions.
 
+use crate::guess::pair;
 use crate::meaning::{Facts, Model};
-use crate::playing::pair;
 use crate::random::Random;
 use crate::reader::{self, Kind, Outcome, Text};
 

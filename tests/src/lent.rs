@@ -1,8 +1,8 @@
 //! Lent replay states: those that do not fit, those with a carried object, and those that no run gives.
 
 use crate::calls::{Answer, Lent, WORK};
+use crate::guess;
 use crate::meaning::{Model, Place};
-use crate::playing::pair;
 use crate::random::{model, Random, Shape};
 use crate::report::Report;
 use crate::subject::Subject;
@@ -140,19 +140,6 @@ fn random_state(r: &mut Random, m: &Model) -> Lent {
     l
 }
 
-/// A place that is often allowed with so many objects and stages met.
-fn random_place(r: &mut Random, m: &Model, objects: usize, met: usize) -> u32 {
-    if r.chance(10) {
-        return r.word();
-    }
-    if let (Some(stage), true) = (m.stages.get(met), r.chance(50)) {
-        let named: Vec<usize> = (0..stage.body.variables).map(|_| r.below(objects + 1)).collect();
-        return Place::meeting(met + 1, &named).encode();
-    }
-    let (line, object) = pair(r, m, objects);
-    Place::Step(line % 8_388_608, object % 255).encode()
-}
-
 /// Random states of random models, whether or not a run gives them.
 fn random_states(report: &mut Report) {
     for seed in 1..=300 {
@@ -162,7 +149,7 @@ fn random_states(report: &mut Report) {
         let Ok(m) = &subject.read else { continue };
         for _ in 0..40 {
             let mut l = random_state(&mut r, m);
-            let place = random_place(&mut r, m, l[OBJECTS] as usize % 300, l[MET] as usize);
+            let place = guess::place(&mut r, m, l[OBJECTS] as usize % 300, l[MET] as usize);
             let given = subject.place(report, &mut l, place);
             report.cover(if given == Answer::Kept { "random lent states kept" } else { "random lent states broken" });
         }

@@ -4,6 +4,7 @@ mod buffers;
 mod calls;
 mod cases;
 mod damage;
+mod guess;
 mod guided;
 mod lent;
 mod meaning;

@@ -1,25 +1,10 @@
 //! Playing on (demand 3): the shown run follows after any list of pairs that somebody played before.
 
-use crate::meaning::{sessions, Action, Model, Place, NONE};
+use crate::guess::pair;
+use crate::meaning::{sessions, Model, Place, NONE};
 use crate::random::Random;
 use crate::report::Report;
 use crate::subject::Subject;
-
-/// A pair that is often allowed, and sometimes far off.
-pub fn pair(r: &mut Random, m: &Model, objects: usize) -> (u32, usize) {
-    let clause = &m.clauses[r.below(m.clauses.len())];
-    let object = match clause.action {
-        Action::New(_) => objects,
-        _ => r.below(objects + 1),
-    };
-    match r.below(12) {
-        0 => (r.word(), object),
-        1 => (clause.line, 1_000_000_000_000 + r.below(300)),
-        2 => (clause.line, object + 1),
-        3 => (0, 0),
-        _ => (clause.line, object),
-    }
-}
 
 /// The database that a random list of pairs leaves, each tried on what the one before left.
 fn played(r: &mut Random, m: &Model, length: usize) -> Vec<u32> {

@@ -2,8 +2,9 @@
 
 use crate::calls::Answer;
 use crate::damage;
+use crate::guess;
 use crate::guided;
-use crate::meaning::{Action, Model};
+use crate::meaning::{Action, Clause, Model};
 use crate::playing::play_on;
 use crate::random::{model, Random, Shape};
 use crate::report::Report;
@@ -27,8 +28,9 @@ struct Known {
     certain: bool,
 }
 
-/// Searches with more and more objects. By document 01's count a run needs one object of each reachable state and the carried one.
-/// So a search of all sessions with n objects that finds fewer than n states has missed nothing: one more state would have needed at most n objects.
+/// Searches with more and more objects, until nothing can have been missed. By document 01's count the reachable states can be put in an order in which
+/// each is made with one object of each state before it; and a run needs one object of each state, and the carried one. So a search of all sessions with
+/// n objects that finds fewer than n states is certain: the first state that it missed would have needed n objects at most.
 fn known(m: &Model) -> Known {
     let mut known = Known { run: None, states: BTreeSet::new(), certain: false };
     for objects in 2..=OBJECTS {
@@ -121,10 +123,10 @@ fn texts(report: &mut Report, r: &mut Random, text: &str) {
 
 /// Counts what a random model has.
 fn features(report: &mut Report, text: &str, m: &Model, reached: bool) {
-    let helper = |c: &crate::meaning::Clause| matches!(c.action, Action::Next(..)) && c.body.variables > 1;
-    let both = |c: &crate::meaning::Clause| matches!(c.action, Action::Next(plus, minus) if plus & minus != 0);
-    let wide = |c: &crate::meaning::Clause| matches!(c.action, Action::Rule(..)) && c.body.variables == 3;
-    let clearing = |c: &crate::meaning::Clause| matches!(c.action, Action::Next(_, minus) if minus != 0);
+    let helper = |c: &Clause| matches!(c.action, Action::Next(..)) && c.body.variables > 1;
+    let both = |c: &Clause| matches!(c.action, Action::Next(plus, minus) if plus & minus != 0);
+    let wide = |c: &Clause| matches!(c.action, Action::Rule(..)) && c.body.variables == 3;
+    let clearing = |c: &Clause| matches!(c.action, Action::Next(_, minus) if minus != 0);
     let verdict = if reached { "reached" } else { "unreached" };
     let mut count = |what: &str, has: bool| {
         if has {
@@ -165,6 +167,9 @@ fn seeded(report: &mut Report, r: &mut Random, large: bool) -> String {
     features(report, &text, m, matches!(a.answer, Answer::Reached(_)));
     report.cover(&format!("models with {:2} reachable states", a.states.len()));
     compare(report, &subject, m, a.answer, &a.states);
+    for _ in 0..3 {
+        replay_both_ways(report, &subject, &guess::run(r, m));
+    }
     if !a.run.is_empty() {
         runs(report, r, &subject, m, &a.run);
     }
