@@ -7,6 +7,7 @@ mod damage;
 mod guess;
 mod guided;
 mod lent;
+mod longest;
 mod meaning;
 mod models;
 mod playing;
@@ -42,6 +43,7 @@ fn main() {
     let mut report = Report::default();
     cases::all(&mut report);
     models::all(&mut report);
+    longest::run(&mut report);
     lent::all(&mut report);
     buffers::all(&mut report);
     seeded::models(&mut report);

@@ -214,43 +214,6 @@ fn long_runs(report: &mut Report) {
     report.check(bad == Answer::Refused(14, 0), || format!("14 comes before the lines: {bad:?}"));
 }
 
-/// The line that counts up to the next state: the relations below `bit` are set and `bit` is not.
-fn count_up(names: &[&str], bit: usize) -> String {
-    let set: String = names[..bit].iter().map(|n| format!("({n} x) ")).collect();
-    let some = names[bit + 1..].iter().map(|n| format!("(next x ({}) ({}) {set}({n} x) (not ({} x)))\n", names[bit], names[..bit].join(" "), names[bit]));
-    let low = format!("(next x ({}) ({}) {set}(not ({} x)))\n", names[bit], names[..bit].join(" "), names[bit]);
-    if bit == 0 {
-        some.collect()
-    } else {
-        low
-    }
-}
-
-/// 127 states, each only from the one before, and a carried object that goes round between stages: the longest run that document 01 counts.
-fn longest(report: &mut Report) {
-    let names = ["A", "B", "C", "D", "E", "F", "G"];
-    let mut text: String = names.iter().map(|n| format!("(state {n})\n")).collect();
-    text += "(new (A))\n";
-    for bit in 0..7 {
-        text += &count_up(&names, bit);
-    }
-    let all: String = names.iter().map(|n| format!(" ({n} x)")).collect();
-    text += &format!("(next x () (B C D E F G){all})\n");
-    let low = |n: u32| -> String {
-        let literals: Vec<String> = (0..7).map(|i| if n >> i & 1 == 1 { format!("({} x)", names[i]) } else { format!("(not ({} x))", names[i]) }).collect();
-        format!("({})", literals.join(" "))
-    };
-    text += &format!("(ask {} {} {} {})\n", low(127), low(126), low(125), low(124));
-    let states: Vec<u32> = (1..=127).collect();
-    let subject = Subject::new(text.as_bytes());
-    let a = subject.analyze(report);
-    report.check(matches!(a.answer, Answer::Reached(_)), || format!("{:?}:\n{text}", a.answer));
-    report.check(a.states == states, || format!("states {:?}:\n{text}", a.states));
-    let kept = subject.replay(report, &a.run);
-    report.check(kept == Answer::Kept, || format!("the longest run: {kept:?}"));
-    println!("the longest shown run has {} places", a.run.len());
-}
-
 /// Runs all models that are checked by hand.
 pub fn all(report: &mut Report) {
     office(report);
@@ -261,5 +224,4 @@ pub fn all(report: &mut Report) {
     places(report);
     many_objects(report);
     long_runs(report);
-    longest(report);
 }
