@@ -1,0 +1,22 @@
+-- THE CONTRACT LEAVES NO FREEDOM but the run shown: two analyses of one text over the same buffers are the same.
+use mathlib.Core.Path.{_≡_, refl, sym, _∙_}
+use mathlib.Core.Bool.{false}
+use mathlib.Core.List.{List}
+use Prim.Native.Nat.{ℕ}
+use lib.ListN.{length}
+use Rattle.grammar.specs.Texts.{Outcome, accepted, refused}
+use Rattle.calls.specs.Calls.{called}
+use Rattle.verdict.specs.declared.Analysis.{Analysis}
+use Rattle.verdict.proofs.Settled as verdict
+use Rattle.verdict.proofs.Settled.{Same}
+use Rattle.analyzer.specs.Analyzing.{short, Leaves, Analyzes}
+
+left-settled : (o : Outcome) (work run : List ℕ) (a b : Analysis) (w w′ r r′ : List ℕ) → length (a .states) ≡ 127 → length (b .states) ≡ 127
+    → Leaves o work run a w r → Leaves o work run b w′ r′ → Same a w r b w′ r′
+left-settled (refused n l) work run a b w w′ r r′ p q g h = rw (g .0, h .0) ((refl, refl, g .2 ∙ sym (h .2)), refl, refl, g .1 ∙ sym (h .1))
+left-settled (accepted D P Q) work run a b w w′ r r′ p q g h = verdict.settled P Q work run a b w w′ r r′ p q (g .1) (h .1)
+
+-- an array of 127 states has its length
+pub settled : (text work run : List ℕ) (a b : Analysis) (w w′ r r′ : List ℕ) → length (a .states) ≡ 127 → length (b .states) ≡ 127
+    → Analyzes text work run a w r → Analyzes text work run b w′ r′ → Same a w r b w′ r′
+settled text work run = left-settled (called text (short (length work) (length run)) false) work run
