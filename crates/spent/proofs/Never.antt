@@ -1,6 +1,6 @@
 -- NO TEXT IS REFUSED BY ROW 13: each pass before the last added something too, and there is less than 100,000 to add.
 use mathlib.Core.Path.{_≡_, refl, sym, ap, subst}
-use mathlib.Core.Logic.{⊎-elim}
+use mathlib.Core.Logic.{⊎-elim, _↔_}
 use mathlib.Core.Bool.{true, false, false≢true}
 use mathlib.Core.List.{List, [], _∷_}
 use mathlib.Core.Option.{Option}
@@ -21,6 +21,7 @@ use Rattle.acceptance.proofs.Acceptance.{accepted-sound}
 use Rattle.spent.specs.Passes.{found, Has, Adding, Carries, Passes, Spent}
 use Rattle.spent.proofs.Quiet.{Under, pass-under, adding?, added-before}
 use Rattle.spent.proofs.Ended.{all-states, all-stages}
+use Rattle.spent.proofs.Real.{states-reachable, stages-reached}
 use Rattle.spent.proofs.Universe.{search-within}
 use Rattle.spent.proofs.Numbers.{item, numbered}
 
@@ -66,13 +67,20 @@ never-spent n D P Q sound v (p, a) = absurd (let h = last-adding n D P Q sound v
 pub accepted-never-spent : (text : List ℕ) (D : Declared) (P : Program) (Q : Question) → outcome text ≡ accepted D P Q → Spent P Q (carriedOf Q) → ⊥
 accepted-never-spent text D P Q e s = never-spent (length (lines text)) D P Q (accepted-sound text D P Q e) (carriedOf Q) s
 
--- AFTER 98,685 PASSES each reachable state of an accepted text is found, and all stages are met where the question is reached
-pub accepted-ended : (text : List ℕ) (D : Declared) (P : Program) (Q : Question) → outcome text ≡ accepted D P Q → (p : Passes P Q (carriedOf Q) 98685)
-    → ((s : ℕ) → Reachable P s → Has (p .after 98685) (found s)) × (Reached P Q → (c : Option ℕ) × Carries (p .after 98685) (length Q) c)
-accepted-ended text D P Q e p =
+-- AFTER 98,685 PASSES a search of an accepted text has exactly the reachable states, and has met all stages exactly if the question is reached
+pub accepted-searched : (text : List ℕ) (D : Declared) (P : Program) (Q : Question) → outcome text ≡ accepted D P Q → (p : Passes P Q (carriedOf Q) 98685)
+    → ((s : ℕ) → Reachable P s ↔ Has (p .after 98685) (found s)) × (Reached P Q ↔ ((c : Option ℕ) × Carries (p .after 98685) (length Q) c))
+accepted-searched text D P Q e p =
     let sound = accepted-sound text D P Q e in
+    let asked = sound .question in
     let quiet = ended (length (lines text)) D P Q sound (carriedOf Q) 98685 p 98684 (omega arith) (omega arith) in
     let last = p .pass 98684 (omega arith) in (
-      all-states P Q (carriedOf Q) (p .after 98684) (p .after 98685) last quiet (sound .safe) (sound .question .safe),
-      all-stages P Q (carriedOf Q) (p .after 98684) (p .after 98685) last quiet (sound .safe) (sound .question .safe) (sound .question .carries),
+      λ s. (
+        all-states P Q (carriedOf Q) (p .after 98684) (p .after 98685) last quiet (sound .safe) (asked .safe) s,
+        states-reachable P Q (carriedOf Q) (sound .safe) 98685 p 98685 (omega arith) s,
+      ),
+      (
+        all-stages P Q (carriedOf Q) (p .after 98684) (p .after 98685) last quiet (sound .safe) (asked .safe) (asked .carries),
+        λ (c, h). stages-reached P Q (carriedOf Q) (sound .safe) (asked .carries) (asked .one) 98685 p 98685 (omega arith) c h,
+      ),
     )

@@ -7,12 +7,11 @@ use mathlib.Core.Option.{Option, none, some}
 use Prim.Native.Nat.{ℕ, zero, suc, _+_, _*_, _<_}
 use native.Mathlib.Omega.{arith}
 use native.Mathlib.Nat.{suc-ne-zero}
-use borrow.Author.Tests.{eq-eqb}
 use lib.Dec.{eqb}
 use lib.ListN.{length, getD, drop}
 use Rattle.semantics.specs.Labels.{has, union, difference, relabel}
 use Rattle.semantics.specs.Models.{elem, is, isnt, fact, Line, rule, new, next, other, Program, line, Question, shared}
-use Rattle.semantics.proofs.Tools.{either, clash, no-none, or-right, each-cons}
+use Rattle.semantics.proofs.Tools.{either, clash, no-none, each-cons}
 use Rattle.acceptance.specs.Sound.{Each, carriedOf}
 use Rattle.acceptance.proofs.Office.{office-accepted}
 use Rattle.spent.specs.Passes.{Item, derived, found, carried, Have, Has, Carries, Hands, Changes, clause, stage, ByLine, ByStage, Given, Adds, Pass, Adding, Passes, Spent}

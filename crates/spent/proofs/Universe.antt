@@ -23,7 +23,7 @@ unfolding relabel difference union
 relabel-below k s plus minus a b c = let u = or-lt k s plus a b in xor-lt k _ _ u (and-lt k _ _ u c)
 
 -- what holds of each value holds of each element of the mapped list
-each-map : (R : ℕ → Type 0) (σ : ℕ → ℕ) (xs : List ℕ) → ((x : ℕ) → elem x xs ≡ true → R (σ x)) → Each R (map σ xs)
+pub each-map : (R : ℕ → Type 0) (σ : ℕ → ℕ) (xs : List ℕ) → ((x : ℕ) → elem x xs ≡ true → R (σ x)) → Each R (map σ xs)
 each-map R σ [] h = tt
 each-map R σ (x ∷ xs) h = (each-head (λ (y : ℕ). R (σ y)) x xs h, each-map R σ xs (each-tail (λ (y : ℕ). R (σ y)) x xs h))
 
