@@ -1,0 +1,65 @@
+-- WHAT THE PROGRAM WRITES for a text.
+use mathlib.Core.Path.{_≡_}
+use mathlib.Core.Logic.{_↔_}
+use mathlib.Core.Bool.{Bool, true, false}
+use mathlib.Core.List.{List, []}
+use Prim.Native.Nat.{ℕ, _≤_}
+use lib.ListN.{length}
+use Rattle.semantics.specs.Models.{elem, Program, Question}
+use Rattle.semantics.specs.Steps.{Reachable}
+use Rattle.semantics.specs.Questions.{Verdict}
+use Rattle.semantics.specs.Runs.{Place, Kept}
+use Rattle.model.specs.declared.Model.{Model}
+use Rattle.grammar.specs.Bytes.{lines}
+use Rattle.grammar.specs.Declarations.{Declared}
+use Rattle.grammar.specs.Texts.{Outcome, accepted, refused}
+use Rattle.acceptance.specs.Represents.{Represents}
+use Rattle.text.specs.Reading.{Names}
+use Rattle.states.specs.Rising.{Rising}
+use Rattle.verdict.specs.declared.Answer.{Answer}
+use Rattle.verdict.specs.declared.Answer.the-variants.{Reached, Unreached, Refused}
+use Rattle.writing.specs.Writing.{WritesLine}
+use Rattle.listing.specs.Lines.{refusedLine, listingOf}
+use Rattle.report.specs.Report.{Listable, WritesListing}
+use Rattle.eon.specs.declared.Input.{Input}
+use Rattle.eon.specs.declared.Input.the-variants.{Bytes, Failed}
+
+-- INPUT: what was read is the front of the buffer
+abbrev pub Front : ℕ → Input → Type 0
+Front n (Bytes k) = k ≤ n
+Front n Failed = Unit {0}
+
+-- AN ANALYSIS that can be listed, and its listing: the first k states, and of a reached question the run
+abbrev pub Ready : List ℕ → Model → List ℕ → ℕ → List ℕ → Answer → Type 0
+Ready text m states k run (Reached n last) = Listable text m states k run n
+Ready text m states k run Unreached = Listable text m states k run 0
+Ready text m states k run (Refused n l) = Unit {0}
+
+abbrev pub Shows : List ℕ → Model → List ℕ → ℕ → List ℕ → Answer → List ℕ → ℕ → List ℕ → Type 0
+Shows text m states k run (Reached n last) d r e = WritesListing d text m true states k run n r e
+Shows text m states k run Unreached d r e = WritesListing d text m false states k run 0 r e
+Shows text m states k run (Refused n l) d r e = WritesLine d (refusedLine n l) r e
+
+-- THE LISTING OF AN ACCEPTED TEXT: the verdict, the reachable atomic states by rising number, and of a reached question a kept run
+abbrev pub Run : Program → Question → Bool → List Place → Type 0
+Run P Q true run = Kept P Q run
+Run P Q false run = run ≡ []
+
+pub record Lists (text : List ℕ) (D : Declared) (P : Program) (Q : Question) (out : List ℕ) : Type 0 where
+  -- the record of the text's model says where in the text the names stand
+  pub model : Model
+  pub represents : Represents (length (lines text)) D P Q model
+  pub names : Names text D model
+  pub reached : Bool
+  pub verdict : Verdict P Q reached
+  pub states : List ℕ
+  pub rising : Rising states (length states)
+  pub reachable : (s : ℕ) → Reachable P s ↔ (elem s states ≡ true)
+  pub run : List Place
+  pub shown : Run P Q reached run
+  pub bytes : out ≡ listingOf text model reached states run
+
+-- THE OUTPUT for a text: its listing; "a refusal is the one line `(refused number line)`"
+abbrev pub Output : Outcome → List ℕ → List ℕ → Type 0
+Output (refused n l) text out = out ≡ refusedLine n l
+Output (accepted D P Q) text out = Lists text D P Q out
