@@ -39,7 +39,7 @@ mem-elem [] a m = absurd (List·Memᴰ·not-nil m)
 mem-elem (b ∷ l) a m = ⊎-elim (λ (e : a ≡ b). rw (eq-eqb a b e)) (λ k. or-right (eqb a b) (elem a l) (mem-elem l a k)) (List·Memᴰ·cases-cons m)
 
 -- what the items of a search tell, in a row
-abbrev gather : {B : Type 0} → (Item → List B) → Have → List B
+abbrev pub gather : {B : Type 0} → (Item → List B) → Have → List B
 gather f [] = []
 gather f (x ∷ H) = f x ++ gather f H
 
@@ -52,12 +52,12 @@ gathered-from f [] b m = absurd (List·Memᴰ·not-nil m)
 gathered-from f (y ∷ H) b m = ⊎-elim (λ h. (y, List·Memᴰ·head refl, h)) (λ k. let (x, h, t) = gathered-from f H b k in (x, List·Memᴰ·tail h, t)) (List·Memᴰ·append-cases (f y) m)
 
 -- THE STATES, and the states carried after i stages
-abbrev stateOf : Item → List ℕ
+abbrev pub stateOf : Item → List ℕ
 stateOf (derived r ss) = []
 stateOf (found s) = s ∷ []
 stateOf (carried i c) = []
 
-abbrev carriedOf : ℕ → Item → List (Option ℕ)
+abbrev pub carriedOf : ℕ → Item → List (Option ℕ)
 carriedOf i (derived r ss) = []
 carriedOf i (found s) = []
 carriedOf i (carried j c) = cond (eqb i j) (c ∷ []) []
@@ -76,35 +76,38 @@ carried-item i c (carried j d) m = ⊎-elim
 
 -- WHAT THERE IS as the tables of a search: the states in a row, the rows of entries, the facts over places of states
 module _ (H : Have) where
-  abbrev states : Database
+  abbrev pub states : Database
   states = gather stateOf H
 
-  abbrev rows : Rows
+  abbrev pub rows : Rows
   rows zero = none ∷ []
   rows (suc i) = gather (carriedOf (suc i)) H
 
   abbrev table : Table
   table r os = decide (has? H (derived r (map (state states) os)))
 
-  has-state : (o : ℕ) → o < length states → Has H (found (state states o))
-  has-state o l = let (x, h, m) = gathered-from stateOf H (state states o) (mem-at states 0 o l) in Memᴰ·cast (state-item (state states o) x m) h
+  pub state-in : (s : ℕ) → Has H (found s) → List·Memᴰ s states
+  state-in s h = gathered stateOf H s (found s) h (List·Memᴰ·head refl)
 
-  state-had : (s : ℕ) → Has H (found s) → elem s states ≡ true
-  state-had s h = mem-elem states s (gathered stateOf H s (found s) h (List·Memᴰ·head refl))
+  pub in-states : (s : ℕ) → List·Memᴰ s states → Has H (found s)
+  in-states s m = let (x, h, k) = gathered-from stateOf H s m in Memᴰ·cast (state-item s x k) h
+
+  pub carried-in : (i : ℕ) (c : Option ℕ) → Carries H i c → List·Memᴰ c (rows i)
+  carried-in zero c e = List·Memᴰ·head e
+  carried-in (suc i) c h = gathered (carriedOf (suc i)) H c (carried (suc i) c) h (rw (eq-eqb (suc i) (suc i) refl) (List·Memᴰ·head refl))
+
+  pub in-rows : (i : ℕ) (c : Option ℕ) → List·Memᴰ c (rows i) → Carries H i c
+  in-rows zero c m = List·Memᴰ·eq-of-singleton m
+  in-rows (suc i) c m = let (x, h, k) = gathered-from (carriedOf (suc i)) H c m in Memᴰ·cast (carried-item (suc i) c x k) h
+
+  has-state : (o : ℕ) → o < length states → Has H (found (state states o))
+  has-state o l = in-states (state states o) (mem-at states 0 o l)
 
   entry-carries : (i : ℕ) (c : Option ℕ) → Entry rows i c → Carries H i c
-  entry-carries zero c (j, l, e) = sym e ∙ first j l
-    where
-      first : (j : ℕ) → j < 1 → getD {A = Option ℕ} (none ∷ []) j none ≡ none
-      first zero l = refl
-      first (suc j) l = absurd (omega arith)
-  entry-carries (suc i) c (j, l, e) =
-      let (x, h, m) = gathered-from (carriedOf (suc i)) H c (subst (λ (d : Option ℕ). List·Memᴰ d (rows (suc i))) e (mem-at (rows (suc i)) none j l)) in
-      Memᴰ·cast (carried-item (suc i) c x m) h
+  entry-carries i c (j, l, e) = in-rows i c (subst (λ (d : Option ℕ). List·Memᴰ d (rows i)) e (mem-at (rows i) none j l))
 
   carries-entry : (i : ℕ) (c : Option ℕ) → Carries H i c → Entry rows i c
-  carries-entry zero c e = (0, omega arith, sym e)
-  carries-entry (suc i) c h = place (rows (suc i)) none c (gathered (carriedOf (suc i)) H c (carried (suc i) c) h (rw (eq-eqb (suc i) (suc i) refl) (List·Memᴰ·head refl)))
+  carries-entry i c h = place (rows i) none c (carried-in i c h)
 
   -- before the first stage nothing is carried
   entered : (i s t : ℕ) → Carries H i (some s) → Has H (carried i (some t)) → Entry rows i (some t)
@@ -123,7 +126,7 @@ module _ (H : Have) where
 
   -- a state is empty or there
   within : (s : ℕ) → (s ≢ 0 → Has H (found s)) → Within states s
-  within s h = ⊎-elim (λ e. inl e) (λ n. inr (state-had s (h n))) (same? s 0)
+  within s h = ⊎-elim (λ e. inl e) (λ n. inr (mem-elem states s (state-in s (h n)))) (same? s 0)
 
   module _ (P : Program) (Q : Question) (v : ℕ) where
     -- a line that gives nothing else adds nothing to the tables

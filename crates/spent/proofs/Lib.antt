@@ -1,6 +1,7 @@
 pub mod Quiet
 pub mod Orders
 pub mod Ended
+pub mod Searches
 pub mod Universe
 pub mod Real
 pub mod Numbers

@@ -21,6 +21,7 @@ use Rattle.acceptance.proofs.Acceptance.{accepted-sound}
 use Rattle.spent.specs.Passes.{found, Has, Adding, Carries, Passes, Spent}
 use Rattle.spent.proofs.Quiet.{Under, pass-under, adding?, added-before}
 use Rattle.spent.proofs.Ended.{all-states, all-stages}
+use Rattle.spent.proofs.Searches.{search}
 use Rattle.spent.proofs.Real.{states-reachable, stages-reached}
 use Rattle.spent.proofs.Universe.{search-within}
 use Rattle.spent.proofs.Numbers.{item, numbered}
@@ -66,6 +67,10 @@ never-spent n D P Q sound v (p, a) = absurd (let h = last-adding n D P Q sound v
 -- and so for an accepted text
 pub accepted-never-spent : (text : List ℕ) (D : Declared) (P : Program) (Q : Question) → outcome text ≡ accepted D P Q → Spent P Q (carriedOf Q) → ⊥
 accepted-never-spent text D P Q e s = never-spent (length (lines text)) D P Q (accepted-sound text D P Q e) (carriedOf Q) s
+
+-- THERE IS A SEARCH of any number of passes for it
+pub accepted-search : (text : List ℕ) (D : Declared) (P : Program) (Q : Question) → outcome text ≡ accepted D P Q → (n : ℕ) → Passes P Q (carriedOf Q) n
+accepted-search text D P Q e n = search P Q (carriedOf Q) (accepted-sound text D P Q e .safe) n
 
 -- AFTER 98,685 PASSES a search of an accepted text has exactly the reachable states, and has met all stages exactly if the question is reached
 pub accepted-searched : (text : List ℕ) (D : Declared) (P : Program) (Q : Question) → outcome text ≡ accepted D P Q → (p : Passes P Q (carriedOf Q) 98685)
