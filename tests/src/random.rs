@@ -156,7 +156,7 @@ impl Names {
             variables.insert(r.below(variables.len() + 1), "w");
         }
         if variables.is_empty() && self.of_arity(0).is_empty() {
-            variables.push("only");
+            variables.push(&own[0]);
         }
         let mut body = self.body(r, &variables);
         if body.is_empty() {
