@@ -14,6 +14,7 @@ mod playing;
 mod random;
 mod reader;
 mod report;
+mod salad;
 mod search;
 mod seeded;
 mod subject;
@@ -44,6 +45,7 @@ fn main() {
     cases::all(&mut report);
     models::all(&mut report);
     longest::run(&mut report);
+    salad::texts(&mut report);
     lent::all(&mut report);
     buffers::all(&mut report);
     seeded::models(&mut report);

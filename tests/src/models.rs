@@ -118,6 +118,21 @@ fn errors_of_readers(report: &mut Report) {
     verdict(report, &format!("{pairs}(rule (E x y) (B x) (A y))\n(ask ((T x x) (A x)))\n"), true, &[1, 2]);
 }
 
+/// Facts handed from the last declared relation to the first, by rules in the opposite order, so that each waits for the next.
+fn handed_down(report: &mut Report) {
+    let relations = ["N", "P", "Q", "R", "S", "T"];
+    let arities = [0, 1, 1, 2, 2, 2];
+    let heads = ["(N)", "(P x)", "(Q x)", "(R x y)", "(S x y)", "(T x y)"];
+    let bodies = ["(P x)", "(Q x)", "(R x y)", "(S y x)", "(T y x)", "(A x) (B y)"];
+    let mut text = String::from(AB);
+    text.extend(relations.iter().zip(arities).map(|(name, arity)| format!("(rel {name} {arity})\n")));
+    text.extend(heads.iter().zip(bodies).map(|(head, body)| format!("(rule {head} {body})\n")));
+    verdict(report, &format!("{text}(new (A B))\n(ask ((N)))\n"), true, &[3]);
+    verdict(report, &format!("{text}(new (A))\n(new (B))\n(ask ((N)))\n"), true, &[1, 2]);
+    verdict(report, &format!("{text}(new (A))\n(new (B))\n(ask ((Q x) (B x)))\n"), false, &[1, 2]);
+    verdict(report, &format!("{text}(new (A))\n(new (B))\n(ask ((Q x) (A x)))\n"), true, &[1, 2]);
+}
+
 /// Nullary facts met by the first database, several stages in one database, and bits that count `state` lines only.
 fn readings(report: &mut Report) {
     let first = "(rel N 0)\n(rule (N))\n";
@@ -220,6 +235,7 @@ pub fn all(report: &mut Report) {
     by_hand(report);
     set_then_clear(report);
     errors_of_readers(report);
+    handed_down(report);
     readings(report);
     places(report);
     many_objects(report);
