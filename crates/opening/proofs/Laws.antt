@@ -16,22 +16,22 @@ use Rattle.names.proofs.Laws.{length-listOf}
 use Rattle.store.specs.Stored as stored
 use Rattle.question.specs.Questions as questions
 use Rattle.ask.proofs.Represented.{Before}
-use Rattle.opening.specs.Openings.{Blank, fitted}
+use Rattle.opening.specs.Openings.{blank, fitted}
 
 -- the blank record holds no clause
-pub blank-program : {m : Model} → Blank m → programOf m ≡ []
+pub blank-program : programOf blank ≡ []
 unfolding programOf
-blank-program b = rw (b .clausecount)
+blank-program = refl
 
-pub blank-holds : {m : Model} → Blank m → stored.Holds m []
-blank-holds b = record {
-  program = blank-program b;
-  count = b .clausecount;
-  few = let z = b .clausecount in omega arith;
-  room = let z = b .literalcount in omega arith;
-  clause = λ i h. absurd (let z = b .clausecount in omega arith);
-  clauses = b .clauses;
-  literals = b .literals;
+pub blank-holds : stored.Holds blank []
+blank-holds = record {
+  program = blank-program;
+  count = refl;
+  few = omega arith;
+  room = omega arith;
+  clause = λ i h. absurd (omega arith);
+  clauses = refl;
+  literals = refl;
 }
 
 -- THE DECLARED NAMES in the record

@@ -1,18 +1,25 @@
 -- The model record of a text before its first line and at its `ask` line.
-use mathlib.Core.Path.{_≡_}
 use Prim.Native.Nat.{ℕ}
-use lib.ListN.{length}
+use lib.ListN.{replicate}
+use Rattle.model.specs.declared.Action.the-variants.{New}
 use Rattle.model.specs.declared.Model.{Model}
 use Rattle.names.specs.declared.Declared.{Declared}
 
--- a record without clauses and stages
-pub record Blank (m : Model) : Type 0 where
-  pub clausecount : m .clausecount ≡ 0
-  pub literalcount : m .literalcount ≡ 0
-  pub stagecount : m .stagecount ≡ 0
-  pub clauses : length (m .clauses) ≡ 64
-  pub literals : length (m .literals) ≡ 544
-  pub stages : length (m .stages) ≡ 4
+-- THE BLANK RECORD, of no clauses and stages
+abbrev pub blank : Model
+blank = record {
+  relations = record { codes = replicate 23 0; count = 0 };
+  names = replicate 23 0;
+  lengths = replicate 23 0;
+  clauses = replicate 64 (record { action = New 0; line = 0; first = 0; count = 0; variables = 0 });
+  clausecount = 0;
+  literals = replicate 544 0;
+  literalcount = 0;
+  stages = replicate 4 (record { first = 0; count = 0; variables = 0; numbers = replicate 3 0 });
+  stagecount = 0;
+  carried = 255;
+  lines = 0;
+}
 
 -- the record with the declared names, for a text of n lines
 abbrev pub fitted : Model → Declared → ℕ → Model

@@ -1,6 +1,6 @@
 // The model record of a text at its beginning, and with the declared names at its end.
 ghost use mathlib.Core.Path.{_≡_};
-ghost use Rattle.opening.specs.Openings.{Blank, fitted};
+ghost use Rattle.opening.specs.Openings.{blank as blankRecord, fitted};
 use model::Action;
 use model::Clause;
 use model::Model;
@@ -10,7 +10,7 @@ use names::Declared;
 
 // A record without clauses and stages.
 pub fn blank() -> Model
-    ensures { λ r. ⌜ Blank r ⌝ }
+    ensures { λ r. ⌜ r ≡ blankRecord ⌝ }
 {
     let clause = Clause {
         action: Action::New { set: 0 },

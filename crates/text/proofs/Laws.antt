@@ -24,11 +24,11 @@ unlike e f = absurd (let z : _≡_ {A = ℕ} 0 1 = cc in omega arith)
 module _ (text : List ℕ) (r : Reading) where
   pub is-accepted : (o : Outcome) → Reads o text r → r .answer ≡ Accepted → (D : Declared) × (P : Program) × (Q : Question) × (o ≡ accepted D P Q)
   is-accepted (accepted D P Q) h e = (D, P, Q, refl)
-  is-accepted (refused n l) h e = unlike e h
+  is-accepted (refused n l) h e = unlike e (h .0)
 
   pub is-refused : (o : Outcome) (n l : ℕ) → Reads o text r → r .answer ≡ Refused n l → o ≡ refused n l
   is-refused (accepted D P Q) n l h e = unlike (h .0) e
-  is-refused (refused k j) n l h e = let z : Refused k j ≡ Refused n l = sym h ∙ e in cc
+  is-refused (refused k j) n l h e = let z : Refused k j ≡ Refused n l = sym (h .0) ∙ e in cc
 
 -- THE RECORD of an accepted text
 module _ (text : List ℕ) (D : Declared) (P : Program) (Q : Question) (r : Reading) (o : outcome text ≡ accepted D P Q) (h : Reads (outcome text) text r) where

@@ -24,7 +24,7 @@ use Rattle.scan.proofs.Laws.{nothing}
 use Rattle.line.specs.Lines.{Stepped, Aside}
 use Rattle.line.specs.declared.Step.{Step}
 use Rattle.line.proofs.Going.{valid-longer, declared-longer, reads-bad, reads-unshaped, reads-faulty, reads-on, other-form}
-use Rattle.opening.specs.Openings.{Blank}
+use Rattle.opening.specs.Openings.{blank}
 use Rattle.opening.proofs.Laws.{blank-program, blank-holds}
 use Rattle.text.specs.Reached.{Reached, onwards, LineAt}
 
@@ -39,7 +39,7 @@ some-lines [] h = absurd (omega arith)
 some-lines (b ∷ s) h = ⊎-elim (λ (q : eqb b 10 ≡ true). rw q (ended [], lines s, refl)) (λ (q : eqb b 10 ≡ false). rw q (one-line b (lines s))) (either (eqb b 10))
 
 -- BEFORE THE FIRST LINE
-module _ (d : Declared) {m : Model} (z : d .count ≡ 0) (b : Blank m) where
+module _ (d : Declared) {m : Model} (z : d .count ≡ 0) (b : m ≡ blank) where
   pub reached-start : {text : List ℕ} → length (d .codes) ≡ 23 → length (d .names) ≡ 23 → length (d .lengths) ≡ 23 → Reached text 0 1 d m
   reached-start p q r = record {
     place = omega arith;
@@ -47,14 +47,14 @@ module _ (d : Declared) {m : Model} (z : d .count ≡ 0) (b : Blank m) where
     small = omega arith;
     valid = record { count = omega arith; codes = p; names = q; lengths = r; within = λ i h. absurd (omega arith); coded = λ i h. absurd (omega arith) };
     limited = record { total = rw z; states = rw z (omega arith); derived = rw z (omega arith) };
-    holds = rw (blank-program b) (blank-holds b);
-    stagecount = b .stagecount;
-    stages = b .stages;
+    holds = rw (b, blank-program) blank-holds;
+    stagecount = rw b;
+    stages = rw b;
   }
 
   pub onwards-start : (text : List ℕ) → readLines 1 [] [] (lines text) ≡ onwards text 0 1 d m
   unfolding onwards declaredOf
-  onwards-start text = rw (z, blank-program b)
+  onwards-start text = rw (z, b, blank-program)
 
 -- A LINE THAT ENDS
 pub line-found : {text : List ℕ} {at e : ℕ} → scan.LineEnd text at e → (e ≡ length text → ⊥) → LineAt text at e

@@ -10,6 +10,7 @@ use Rattle.grammar.specs.Declarations.{Declared}
 use Rattle.grammar.specs.Texts.{Outcome, accepted, refused}
 use Rattle.acceptance.specs.Sound.{nameAt}
 use Rattle.acceptance.specs.Represents.{Represents}
+use Rattle.opening.specs.Openings.{blank}
 use Rattle.text.specs.declared.Acceptance.the-variants.{Accepted, Refused}
 use Rattle.text.specs.declared.Reading.{Reading}
 
@@ -18,7 +19,7 @@ pub record Names (text : List ℕ) (D : Declared) (m : Model) : Type 0 where
   pub within : (i : ℕ) → i < length D → getD (m .names) i 0 + getD (m .lengths) i 0 ≤ length text
   pub name : (i : ℕ) → i < length D → slice (getD (m .names) i 0) (getD (m .names) i 0 + getD (m .lengths) i 0) text ≡ nameAt D i
 
--- THE ANSWER TO A TEXT: the refusal with its number and line; or the record of the model that the text says
+-- THE ANSWER TO A TEXT: the refusal with its number and line, beside the blank record; or the record of the model that the text says
 abbrev pub Reads : Outcome → List ℕ → Reading → Type 0
-Reads (refused n l) text r = r .answer ≡ Refused n l
+Reads (refused n l) text r = (r .answer ≡ Refused n l) × (r .model ≡ blank)
 Reads (accepted D P Q) text r = (r .answer ≡ Accepted) × Represents (length (lines text)) D P Q (r .model) × Names text D (r .model)

@@ -5,6 +5,7 @@ ghost use Prim.Native.Nat.{_≤_};
 ghost use lib.ListN.{length};
 ghost use Rattle.grammar.specs.Bytes.{lines};
 ghost use Rattle.grammar.specs.Texts.{readLines, outcome};
+ghost use Rattle.opening.specs.Openings.{blank};
 ghost use Rattle.text.specs.declared.Acceptance.the-variants.{Refused};
 ghost use Rattle.text.specs.Reading.{Reads};
 ghost use Rattle.text.specs.Reached.{Reached, onwards, AskLine};
@@ -23,9 +24,9 @@ pub struct Reading {
     pub model: Model,
 }
 
-// A refusal.
+// A refusal, beside the blank record.
 fn refusal(number: u32, line: u32) -> Reading
-    ensures { λ r. ⌜ r .answer ≡ Refused number line ⌝ }
+    ensures { λ r. ⌜ (r .answer ≡ Refused number line) × (r .model ≡ blank) ⌝ }
 {
     Reading {
         answer: Acceptance::Refused { number, line },

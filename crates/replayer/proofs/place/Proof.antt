@@ -7,7 +7,8 @@ use borrow.Author.Tests.{ltb-false, eqb-false}
 use Rattle.grammar.specs.Texts.{outcome}
 use Rattle.calls.proofs.Laws.{called-early, called-lines, sizes}
 use Rattle.replayer.specs.Replies.{narrow}
-use Rattle.replayer.proofs.Laws.{reads-refusal, reads-model, good-model, placed}
+use Rattle.text.proofs.Laws.{is-refused}
+use Rattle.replayer.proofs.Laws.{good-model, placed}
 use Rattle.replayer.proofs.place.Statement.{statement}
 use Rattle.replayer.proofs.place.Tie as tie
 
@@ -40,7 +41,7 @@ returns-2 c =
     let v = c .before .before .acceptance .given in
     rw (
       called-lines (now (a .text)) (narrow (now (a .work))) (eqb (a .s .kept) 8640) (sym e ∙ c .before .before .before .before .before .if1 .left),
-      reads-refusal (outcome (now (a .text))) (now (a .text)) (r .result) (v .0 .0) (v .0 .1 .0) (r .ensures) (v .1),
+      is-refused (now (a .text)) (r .result) (outcome (now (a .text))) (v .0 .0) (v .0 .1 .0) (r .ensures) (v .1),
     ) (c .refuse2 .ensures .0, c .refuse2 .ensures .1, refl)
 
 enum-told : tie.Need-enum-told
@@ -52,7 +53,7 @@ place-model-requires c κs =
     let e = c .before .before .before .before .before .before .early .ensures in
     let r = c .before .before .before .before .read in
     let l = sizes (length (now (a .text))) (narrow (now (a .work))) (eqb (a .s .kept) 8640) (sym e ∙ c .before .before .before .before .before .if1 .left) in (
-      good-model (now (a .text)) (r .result .model) (reads-model (outcome (now (a .text))) (now (a .text)) (r .result) (r .ensures) (c .before .before .enum-told .given .1)),
+      good-model (now (a .text)) (r .result) (r .ensures) (c .before .before .enum-told .given .1),
       eqb-false (a .s .kept) 8640 (l .1),
       ltb-false (length (now (a .work))) 32768 (l .0),
     )
@@ -67,7 +68,7 @@ returns-3 c =
     let r = c .before .before .before .before .before .before .before .read in
     let p = c .before .before .place-model in
     rw (called-lines (now (a .text)) (narrow (now (a .work))) (eqb (a .s .kept) 8640) (sym e ∙ c .before .before .before .before .before .before .before .before .if1 .left))
-    (placed (now (a .text)) (r .result .model) (reads-model (outcome (now (a .text))) (now (a .text)) (r .result) (r .ensures) (c .before .before .before .before .before .enum-told .given .1))
+    (placed (now (a .text)) (r .result) (r .ensures) (c .before .before .before .before .before .enum-told .given .1)
     (a .s) (p .result .session) (a .n) (now (a .work)) (p .last .1 .1 .1 .0) (p .result .answer) (p .ensures .0) (p .ensures .1))
 
 pub place-spec : {M : Type 1} → statement M

@@ -7,7 +7,8 @@ use borrow.Author.Tests.{ltb-false}
 use Rattle.grammar.specs.Texts.{outcome}
 use Rattle.calls.proofs.Laws.{called-early, called-lines, sizes}
 use Rattle.replayer.specs.Replies.{narrow}
-use Rattle.replayer.proofs.Laws.{reads-refusal, reads-model, good-model, replayed}
+use Rattle.text.proofs.Laws.{is-refused}
+use Rattle.replayer.proofs.Laws.{good-model, replayed}
 use Rattle.replayer.proofs.replay.Statement.{statement}
 use Rattle.replayer.proofs.replay.Tie as tie
 
@@ -34,7 +35,7 @@ returns-2 c =
     let v = c .before .acceptance .given in
     rw (
       called-lines (now (a .text)) (narrow (now (a .work))) (ltb 8640 (length (now (a .run)))) (sym e ∙ c .before .before .before .before .if1 .left),
-      reads-refusal (outcome (now (a .text))) (now (a .text)) (r .result) (v .0 .0) (v .0 .1 .0) (r .ensures) (v .1),
+      is-refused (now (a .text)) (r .result) (outcome (now (a .text))) (v .0 .0) (v .0 .1 .0) (r .ensures) (v .1),
     ) (refl, refl)
 
 enum-told : tie.Need-enum-told
@@ -46,7 +47,7 @@ replay-model-requires c κs =
     let e = c .before .before .before .before .before .before .early .ensures in
     let r = c .before .before .before .before .read in
     let l = sizes (length (now (a .text))) (narrow (now (a .work))) (ltb 8640 (length (now (a .run)))) (sym e ∙ c .before .before .before .before .before .if1 .left) in (
-      good-model (now (a .text)) (r .result .model) (reads-model (outcome (now (a .text))) (now (a .text)) (r .result) (r .ensures) (c .before .before .enum-told .given .1)),
+      good-model (now (a .text)) (r .result) (r .ensures) (c .before .before .enum-told .given .1),
       ltb-false 8640 (length (now (a .run))) (l .1),
       ltb-false (length (now (a .work))) 32768 (l .0),
     )
@@ -61,7 +62,7 @@ returns-3 c =
     let r = c .before .before .before .before .before .before .before .read in
     let p = c .before .before .replay-model in
     rw (called-lines (now (a .text)) (narrow (now (a .work))) (ltb 8640 (length (now (a .run)))) (sym e ∙ c .before .before .before .before .before .before .before .before .if1 .left))
-    (replayed (now (a .text)) (r .result .model) (reads-model (outcome (now (a .text))) (now (a .text)) (r .result) (r .ensures) (c .before .before .before .before .before .enum-told .given .1))
+    (replayed (now (a .text)) (r .result) (r .ensures) (c .before .before .before .before .before .enum-told .given .1)
     (now (a .run)) (now (a .work)) (p .last .1 .1 .0) (p .result) (p .ensures .0) (p .ensures .1))
 
 pub replay-spec : {M : Type 1} → statement M
