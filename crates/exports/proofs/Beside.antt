@@ -1,0 +1,35 @@
+-- What the contracts say of the cells beside each answer.
+use mathlib.Core.Path.{_≡_, _∙_, ap}
+use mathlib.Core.Logic.{⊎-elim}
+use mathlib.Core.Bool.{false}
+use mathlib.Core.List.{List}
+use Prim.Native.Nat.{ℕ}
+use lib.ListN.{length, replicate}
+use Rattle.grammar.specs.Texts.{Outcome, accepted, refused}
+use Rattle.calls.specs.Calls.{called}
+use Rattle.analyzer.specs.Analyzing.{short, Leaves}
+use Rattle.verdict.specs.declared.Analysis.{Analysis}
+use Rattle.session.specs.declared.Answer.{Answer}
+use Rattle.session.specs.declared.Answer.the-variants.{Kept}
+use Rattle.session.specs.declared.Session.{Session}
+use Rattle.replayer.specs.Replies.{placeOutcome, Put}
+use Rattle.exports.specs.Cells.{lastNumber, table, stateOf, cellsOf}
+use Rattle.exports.specs.Calls.{Analyzed, Placed}
+use Rattle.exports.proofs.Cells.{zero-beside-refusal, cells-left}
+
+-- beside a refusal all cells are zero
+pub refused-zero : (text work run : List ℕ) (n : ℕ) (work′ run′ out′ : List ℕ) (k l : ℕ) → called text (short (length work) (length run)) false ≡ refused k l
+    → Analyzed text work run n work′ run′ out′ → out′ ≡ replicate 129 0
+refused-zero text work run n work′ run′ out′ k l e h =
+    let r : Leaves (refused k l) work run (h .analysis) work′ run′ = (rw e at (h .analyzes)) in
+    h .cells ∙ ap (λ (a : Analysis). table a (lastNumber (a .answer) run′)) (r .0) ∙ zero-beside-refusal k l
+
+-- a place that is not kept leaves the cells
+unkept-state : (o : Outcome) (s : Session) (place : ℕ) (work : List ℕ) (a : Answer) (t : Session) (work′ : List ℕ) → (a ≡ Kept → ⊥) → Put o s place work a t work′ → t ≡ s
+unkept-state (refused k l) s place work a t work′ not h = h .1
+unkept-state (accepted D P Q) s place work a t work′ not h = ⊎-elim (λ w. w .left) (λ w. ⊎-elim (λ k. absurd (not (k .answer))) (λ b. b .left) (w .1)) (h .0)
+
+pub unkept-left : (text lent : List ℕ) (place : ℕ) (work : List ℕ) (n : ℕ) (lent′ work′ : List ℕ) → length lent ≡ 259 → (h : Placed text lent place work n lent′ work′)
+    → (h .answer ≡ Kept → ⊥) → lent′ ≡ lent
+unkept-left text lent place work n lent′ work′ size h not =
+    h .cells ∙ ap cellsOf (unkept-state (placeOutcome text (stateOf lent) work) (stateOf lent) place work (h .answer) (h .after) work′ not (h .put)) ∙ cells-left lent size

@@ -1,0 +1,107 @@
+-- What the public calls answer fits the numbers and cells.
+use mathlib.Core.Path.{_≡_, sym, ap, _∙_}
+use mathlib.Core.Logic.{⊎-elim}
+use mathlib.Core.Bool.{Bool, true, false}
+use mathlib.Core.List.{List, [], _∷_, map}
+use mathlib.Core.Option.{some}
+use Prim.Native.Nat.{ℕ, suc, _+_, _≤_}
+use native.Mathlib.Omega.{arith}
+use lib.Dec.{eqb, ltb}
+use lib.ListN.{length, take, length-append, length-map, length-take}
+use borrow.Author.Tests.{eqb-true, eqb-false, ltb-false}
+use Rattle.semantics.specs.Models.{Line, rule, new, next, other, line, Program, Question}
+use Rattle.semantics.specs.Runs as runs
+use Rattle.semantics.specs.Runs.{step, meet, start, after}
+use Rattle.model.specs.Places.{placeOf}
+use Rattle.grammar.specs.Declarations.{Declared}
+use Rattle.grammar.specs.Texts.{Outcome, accepted, refused, outcome}
+use Rattle.grammar.proofs.Tests.{either}
+use Rattle.acceptance.proofs.Acceptance.{accepted-sound}
+use Rattle.calls.specs.Calls.{early, called}
+use Rattle.calls.proofs.Laws.{called-early, called-lines, sizes}
+use Rattle.verdict.specs.declared.Answer.{Answer}
+use Rattle.verdict.specs.declared.Answer.the-variants.{Reached, Unreached, Refused}
+use Rattle.verdict.specs.declared.Analysis.{Analysis}
+use Rattle.verdict.specs.Judging as judging
+use Rattle.verdict.specs.Judging.{Answered}
+use Rattle.analyzer.specs.Analyzing.{Leaves}
+use Rattle.session.specs.declared.Answer as session
+use Rattle.session.specs.declared.Answer.the-variants as reply
+use Rattle.session.specs.declared.Session.{Session}
+use Rattle.session.specs.Sessions.{Fits, stepped, taken}
+use Rattle.session.specs.Replays.{Replays}
+use Rattle.replay.specs.Replies.{PlaceReply}
+use Rattle.replayer.specs.Replies.{Replayed, Put}
+use Rattle.exports.specs.Ranges.{ShortRun, Shown, LowPlace, Small}
+
+-- AN ACCEPTED CALL is of an accepted text, and its buffers and its run have their sizes
+pub record Taken (text : List ℕ) (short long : Bool) (D : Declared) (P : Program) (Q : Question) : Type 0 where
+  pub text-accepted : outcome text ≡ accepted D P Q
+  pub long-not : long ≡ false
+
+called-taken : (text : List ℕ) (short long : Bool) (D : Declared) (P : Program) (Q : Question) → called text short long ≡ accepted D P Q → Taken text short long D P Q
+called-taken text short long D P Q e = ⊎-elim
+    (λ (q : eqb row 0 ≡ true).
+    let z = eqb-true row 0 q in
+    record { text-accepted = sym (called-lines text short long z) ∙ e; long-not = sizes (length text) short long z .1 })
+    (λ (q : eqb row 0 ≡ false).
+    let r : refused row 0 ≡ accepted D P Q = sym (called-early text short long (eqb-false row 0 q)) ∙ e in
+    absurd (let z : _≡_ {A = ℕ} 0 1 = cc in omega arith))
+    (either (eqb row 0))
+  where
+    row : ℕ
+    row = early (length text) short long
+
+-- THE ANALYSIS
+module _ (P : Program) (Q : Question) (run run′ : List ℕ) where
+  run-places : (n : ℕ) (ps : List runs.Place) → map placeOf (take n run′) ≡ map some ps → n ≡ length ps → n ≤ length run′
+  run-places n ps e h = omega (arith, h, length-take n run′, length-map (take n run′) placeOf, length-map {B = _} ps some, ap length e)
+
+  answer-fits : (a : Answer) → Answered P Q run run′ a → ShortRun a × Shown (length run′) a
+  answer-fits (Reached n last) h =
+      let s = h .1 in
+      (s .fits, (omega (arith, s .count, ap length (s .ends), length-append (s .before) (meet (length Q) (s .objects) ∷ [])), run-places n (s .places) (s .written) (s .count)))
+  answer-fits Unreached h = (tt, tt)
+  answer-fits (Refused n l) h = absurd h
+
+pub analysis-fits : (o : Outcome) (work run : List ℕ) (a : Analysis) (work′ run′ : List ℕ) → Leaves o work run a work′ run′
+    → ShortRun (a .answer) × Shown (length run′) (a .answer) × (a .count ≤ 127)
+analysis-fits (refused n l) work run a work′ run′ h = rw (h .0) (tt, tt, omega arith)
+analysis-fits (accepted D P Q) work run a work′ run′ h =
+    let f = answer-fits P Q run run′ (a .answer) (h .1 .verdict) in
+    (f .0, f .1, h .1 .states .count)
+
+-- THE REPLAY
+module _ (P : Program) (Q : Question) where
+  within : (s : runs.Session) (ns : List ℕ) (i : ℕ) (a : session.Answer) → i + length ns ≤ 8640 → Replays P Q s ns i a → LowPlace a
+  within s [] i reply.Kept h r = tt
+  within s [] i (reply.Broken j) h r = omega (arith, r .1)
+  within s [] i (reply.Refused n l) h r = tt
+  within s (n ∷ ns) i a h r = ⊎-elim (λ w. within (after P Q s (w .0)) ns (suc i) a (omega arith) (w .3)) (λ w. rw (w .1) (omega arith)) r
+
+pub replay-fits : (text run work : List ℕ) (short : Bool) (a : session.Answer) (work′ : List ℕ) (o : Outcome) → called text short (ltb 8640 (length run)) ≡ o
+    → Replayed o run work a work′ → LowPlace a
+replay-fits text run work short a work′ (refused n l) e h = rw (h .0) tt
+replay-fits text run work short a work′ (accepted D P Q) e h =
+    within P Q (start []) run 0 a (omega (arith, ltb-false 8640 (length run) (called-taken text short (ltb 8640 (length run)) D P Q e .long-not))) (h .0)
+
+-- ONE PLACE
+stepped-small : (Q : Question) (d : ℕ) (s : Session) → Fits d Q s → Small s → (o : ℕ) (l : Line) → Small (stepped s o l)
+stepped-small Q d s f h o (rule r xs b) = h
+stepped-small Q d s f h o (new t b) = record { objects = omega (arith, f .objects); met = h .met; kept = omega (arith, f .places) }
+stepped-small Q d s f h o (next x plus minus b) = record { objects = h .objects; met = h .met; kept = omega (arith, f .places) }
+stepped-small Q d s f h o other = h
+
+taken-small : (P : Program) (Q : Question) (d c : ℕ) (s : Session) → length Q ≤ 4 → Fits d Q s → Small s → (p : runs.Place) → Small (taken P Q c s p)
+taken-small P Q d c s few f h (step ℓ o) = stepped-small Q d s f h o (line P ℓ)
+taken-small P Q d c s few f h (meet i os) = record { objects = h .objects; met = omega (arith, f .stages); kept = omega (arith, f .places) }
+
+reply-fits : (P : Program) (Q : Question) (d c : ℕ) (s : Session) (n : ℕ) (a : session.Answer) (t : Session) → length Q ≤ 4 → Small s → PlaceReply d P Q c s n a t → LowPlace a × Small t
+reply-fits P Q d c s n a t few h r = ⊎-elim (λ w. (rw (w .answer) (omega arith), rw (w .left) h))
+    (λ w. ⊎-elim (λ k. (rw (k .answer) tt, rw (k .taken) (taken-small P Q d c s few (w .0) h (k .place)))) (λ b. (rw (b .answer) (h .kept), rw (b .left) h)) (w .1)) r
+
+pub place-fits : (text : List ℕ) (short long : Bool) (s : Session) (n : ℕ) (work : List ℕ) (a : session.Answer) (t : Session) (work′ : List ℕ) → Small s
+    → (o : Outcome) → called text short long ≡ o → Put o s n work a t work′ → LowPlace a × Small t
+place-fits text short long s n work a t work′ h (refused k l) e w = (rw (w .0) tt, rw (w .1) h)
+place-fits text short long s n work a t work′ h (accepted D P Q) e w =
+    reply-fits P Q _ _ s n a t (accepted-sound text D P Q (called-taken text short long D P Q e .text-accepted) .question .stages) h (w .0)

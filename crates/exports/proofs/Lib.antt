@@ -1,0 +1,4 @@
+pub mod Cells
+pub mod Fitting
+pub mod Beside
+pub mod Refusals

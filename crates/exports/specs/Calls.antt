@@ -1,0 +1,33 @@
+-- WHAT THE EXPORTED CALLS ANSWER: each passes on the whole contract of the public call, its answer as a number and its records as cells.
+use mathlib.Core.Path.{_≡_}
+use mathlib.Core.List.{List}
+use Prim.Native.Nat.{ℕ}
+use Rattle.verdict.specs.declared.Analysis.{Analysis}
+use Rattle.analyzer.specs.Analyzing.{Analyzes}
+use Rattle.session.specs.declared.Answer.{Answer}
+use Rattle.session.specs.declared.Session.{Session}
+use Rattle.replayer.specs.Replies as replies
+use Rattle.replayer.specs.Replies.{runOutcome, placeOutcome, Put}
+use Rattle.exports.specs.Codes.{coded, replied}
+use Rattle.exports.specs.Cells.{lastNumber, table, stateOf, cellsOf}
+
+-- THE ANALYSIS, with the work area, the run table and the cells after it
+pub record Analyzed (text work run : List ℕ) (n : ℕ) (work′ run′ out′ : List ℕ) : Type 0 where
+  pub analysis : Analysis
+  pub analyzes : Analyzes text work run analysis work′ run′
+  pub number : n ≡ coded (analysis .answer)
+  pub cells : out′ ≡ table analysis (lastNumber (analysis .answer) run′)
+
+-- THE REPLAY of a run
+pub record Replayed (text run work : List ℕ) (n : ℕ) (work′ : List ℕ) : Type 0 where
+  pub answer : Answer
+  pub replays : replies.Replayed (runOutcome text run work) run work answer work′
+  pub number : n ≡ replied answer
+
+-- ONE PLACE put to the state that the cells say
+pub record Placed (text lent : List ℕ) (place : ℕ) (work : List ℕ) (n : ℕ) (lent′ work′ : List ℕ) : Type 0 where
+  pub answer : Answer
+  pub after : Session
+  pub put : Put (placeOutcome text (stateOf lent) work) (stateOf lent) place work answer after work′
+  pub number : n ≡ replied answer
+  pub cells : lent′ ≡ cellsOf after

@@ -1,0 +1,25 @@
+-- CELLS: rows of numbers in place of records.
+use mathlib.Core.List.{List, [], _∷_, _++_}
+use Prim.Native.Nat.{ℕ, _-_}
+use lib.ListN.{take, getD}
+use Rattle.verdict.specs.declared.Answer.{Answer}
+use Rattle.verdict.specs.declared.Answer.the-variants.{Reached, Unreached, Refused}
+use Rattle.verdict.specs.declared.Analysis.{Analysis}
+use Rattle.session.specs.declared.Session.{Session}
+
+-- the number of the shown run's last place, 0 where there is no run
+abbrev pub lastNumber : Answer → List ℕ → ℕ
+lastNumber (Reached n last) run = getD run (n - 1) 0
+lastNumber Unreached run = 0
+lastNumber (Refused n l) run = 0
+
+-- WHAT STANDS BESIDE AN ANSWER of the analysis: the number of reachable atomic states, 127 cells of the states by rising number with zeros behind, and the number of the last place
+abbrev pub table : Analysis → ℕ → List ℕ
+table a last = a .count ∷ (a .states ++ (last ∷ []))
+
+-- THE REPLAY'S STATE: 255 atomic states, the number of objects, the stages met, the carried object, the places kept
+abbrev pub stateOf : List ℕ → Session
+stateOf cells = record { states = take 255 cells; objects = getD cells 255 0; met = getD cells 256 0; carried = getD cells 257 0; kept = getD cells 258 0 }
+
+abbrev pub cellsOf : Session → List ℕ
+cellsOf s = s .states ++ (s .objects ∷ s .met ∷ s .carried ∷ s .kept ∷ [])

@@ -1,0 +1,4 @@
+pub mod Codes
+pub mod Cells
+pub mod Calls
+pub mod Ranges

@@ -1,0 +1,31 @@
+-- NUMBERS THAT FIT their cells and codes.
+use Prim.Native.Nat.{ℕ, _≤_, _<_}
+use Rattle.verdict.specs.declared.Answer.{Answer}
+use Rattle.verdict.specs.declared.Answer.the-variants.{Reached, Unreached, Refused}
+use Rattle.session.specs.declared.Answer as session
+use Rattle.session.specs.declared.Answer.the-variants as reply
+use Rattle.session.specs.declared.Session.{Session}
+
+-- a run has at most 8,640 places
+abbrev pub ShortRun : Answer → Type 0
+ShortRun (Reached n last) = n ≤ 8640
+ShortRun Unreached = Unit {0}
+ShortRun (Refused n l) = Unit {0}
+
+-- it stands in the run table, and has a last place
+abbrev pub Shown : ℕ → Answer → Type 0
+Shown size (Reached n last) = (1 ≤ n) × (n ≤ size)
+Shown size Unreached = Unit {0}
+Shown size (Refused n l) = Unit {0}
+
+-- a broken place is a number of 32 bits
+abbrev pub LowPlace : session.Answer → Type 0
+LowPlace reply.Kept = Unit {0}
+LowPlace (reply.Broken place) = place < 4294967296
+LowPlace (reply.Refused n l) = Unit {0}
+
+-- and so are the counts of a state
+pub record Small (s : Session) : Type 0 where
+  pub objects : s .objects < 4294967296
+  pub met : s .met < 4294967296
+  pub kept : s .kept < 4294967296

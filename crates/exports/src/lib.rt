@@ -1,0 +1,154 @@
+// The public calls for C and Rust: answers as numbers, records as rows of cells (include/eon.h).
+use session::Session;
+use verdict::Analysis;
+ghost use mathlib.Core.Path.{_≡_};
+ghost use Prim.Native.Nat.{_+_, _≤_, _<_};
+ghost use lib.ListN.{length};
+ghost use lib.Seq.{paste};
+ghost use Rattle.exports.specs.Codes.{refusal as refusalCode, coded as codeOf, replied as replyCode};
+ghost use Rattle.exports.specs.Cells.{lastNumber, table as tableOf, stateOf, cellsOf};
+ghost use Rattle.exports.specs.Calls.{Analyzed, Replayed, Placed};
+ghost use Rattle.exports.specs.Ranges.{ShortRun, LowPlace, Shown, Small};
+
+// Copies the numbers into the cells from place `at` on.
+fn copy(cells: &mut [u32], at: usize, numbers: &[u32])
+    requires { ⌜ at + length (now numbers) ≤ length (now cells) ⌝ }
+    ensures { λ _. ⌜ now (cells .exit) ≡ paste (now (cells .entry)) at (now (numbers .entry)) (length (now (numbers .entry))) ⌝ }
+{
+    let mut i = 0;
+    while i < numbers.len() {
+        cells[at + i] = numbers[i];
+        i += 1;
+    }
+}
+
+// The number of a refusal.
+fn refusal(number: u32, line: u32) -> u64
+    ensures { λ r. ⌜ r ≡ refusalCode number line ⌝ }
+{
+    2 * 4_294_967_296 + (number as u64 * 65_536 + line as u64)
+}
+
+// The number of an analysis's answer.
+fn coded(answer: verdict::Answer) -> u64
+    requires { ⌜ ShortRun answer ⌝ }
+    ensures { λ r. ⌜ r ≡ codeOf answer ⌝ }
+{
+    match answer {
+        verdict::Answer::Unreached => 0,
+        verdict::Answer::Reached { places, last: _ } => 4_294_967_296 + places as u64,
+        verdict::Answer::Refused { number, line } => refusal(number, line),
+    }
+}
+
+// The number of a replay's answer.
+fn replied(answer: session::Answer) -> u64
+    requires { ⌜ LowPlace answer ⌝ }
+    ensures { λ r. ⌜ r ≡ replyCode answer ⌝ }
+{
+    match answer {
+        session::Answer::Kept => 3 * 4_294_967_296,
+        session::Answer::Broken { place } => 4 * 4_294_967_296 + place as u64,
+        session::Answer::Refused { number, line } => refusal(number, line),
+    }
+}
+
+// The number of the shown run's last place, 0 where there is no run.
+fn last_number(answer: verdict::Answer, run: &[u32]) -> u32
+    requires { ⌜ Shown (length (now run)) answer ⌝ }
+    ensures { λ r. ⌜ r ≡ lastNumber answer (now (run .entry)) ⌝ }
+{
+    match answer {
+        verdict::Answer::Reached { places, last: _ } => run[places - 1],
+        verdict::Answer::Unreached => 0,
+        verdict::Answer::Refused { number: _, line: _ } => 0,
+    }
+}
+
+// The cells beside an answer of the analysis.
+fn table(a: Analysis, last: u32) -> [u32; 129]
+    requires { ⌜ a .count ≤ 127 ⌝ }
+    ensures { λ r. ⌜ r ≡ tableOf a last ⌝ }
+{
+    let states = a.states;
+    let mut cells = [0u32; 129];
+    cells[0] = a.count as u32;
+    cells[128] = last;
+    copy(&mut cells, 1, &states);
+    cells
+}
+
+// The replay's state that the cells say.
+fn unpack(cells: [u32; 259]) -> Session
+    ensures { λ r. ⌜ (r ≡ stateOf cells) × Small r ⌝ }
+{
+    let mut states = [0u32; 255];
+    copy(&mut states, 0, &cells[..255]);
+    Session {
+        states,
+        objects: cells[255] as usize,
+        met: cells[256] as usize,
+        carried: cells[257],
+        kept: cells[258] as usize,
+    }
+}
+
+// The cells of a replay's state.
+fn pack(s: Session) -> [u32; 259]
+    requires { ⌜ Small s ⌝ }
+    ensures { λ r. ⌜ r ≡ cellsOf s ⌝ }
+{
+    let states = s.states;
+    let mut cells = [0u32; 259];
+    cells[255] = s.objects as u32;
+    cells[256] = s.met as u32;
+    cells[257] = s.carried;
+    cells[258] = s.kept as u32;
+    copy(&mut cells, 0, &states);
+    cells
+}
+
+// Analyzes a text.
+#[no_mangle]
+pub extern "C" fn eon_analyze(
+    text: &[u8],
+    work: &mut [u8],
+    run: &mut [u32],
+    out: &mut [u32; 129],
+) -> u64
+    ensures { λ r. ⌜ Analyzed (now (text .entry)) (now (work .entry)) (now (run .entry)) r (now (work .exit)) (now (run .exit)) (now (out .exit)) ⌝ }
+{
+    let analysis = analyzer::analyze(text, work, run);
+    let answer = analysis.answer;
+    let last = last_number(answer, run);
+    let cells = table(analysis, last);
+    *out = cells;
+    coded(answer)
+}
+
+// Replays a run over a text.
+#[no_mangle]
+pub extern "C" fn eon_replay(text: &[u8], run: &[u32], work: &mut [u8]) -> u64
+    ensures { λ r. ⌜ Replayed (now (text .entry)) (now (run .entry)) (now (work .entry)) r (now (work .exit)) ⌝ }
+{
+    replied(replayer::replay(text, run, work))
+}
+
+// Puts one place to a lent state.
+#[no_mangle]
+pub extern "C" fn eon_place(
+    text: &[u8],
+    session: &mut [u32; 259],
+    place: u32,
+    work: &mut [u8],
+) -> u64
+    ensures { λ r. ⌜ Placed (now (text .entry)) (now (session .entry)) place (now (work .entry)) r (now (session .exit)) (now (work .exit)) ⌝ }
+{
+    let cells = *session;
+    let reply = replayer::place(text, unpack(cells), place, work);
+    let after = reply.session;
+    let left = pack(after);
+    *session = left;
+    let answer = reply.answer;
+    replied(answer)
+}

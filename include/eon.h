@@ -1,0 +1,71 @@
+/* Tumreslo's calls for C: the analysis of an EON text, the replay of a run, and the replay one place at a time.
+ *
+ * The library is written by `rt staticlib exports` as target/staticlib/libexports.a.
+ *
+ * A buffer is passed as a pointer and its number of elements. Buffers must not overlap, and a pointer must not be null,
+ * not even where the number of elements is 0.
+ *
+ * Each call returns kind * 2^32 + value:
+ *
+ *   kind 0  unreached                value 0
+ *   kind 1  reached                  value: the number n of places of the run shown
+ *   kind 2  refused                  value: number * 65,536 + line
+ *   kind 3  kept                     value 0
+ *   kind 4  broken                   value: the place, from 0
+ *
+ * Numbers of refusals: 1 no bytes, or over 16,384; 2 a bad byte, or a last line without byte 10; 3 a line that has no shape;
+ * 4 one declaration or clause too many; 5 a name declared again; 6 a name undeclared or of the wrong kind; 7 a wrong number of variables;
+ * 8 `not` before a derived relation; 9 a variable only under `not` or only in the head, a fourth variable, one repeated in a rule's head;
+ * 10 a line after `ask`, or no `ask`; 11 two or more carried variables; 12 a work area under EON_WORK bytes, or a run table lent for writing
+ * under EON_RUN places; 14 a run over EON_RUN places, or a state that has kept EON_RUN. Number 13 is never given.
+ * The first line is 1; the line is 0 for numbers 1, 12 and 14.
+ *
+ * After a refusal the lent buffers are as they were, but for `out`. After every other answer the first EON_WORK bytes of the work area are zero,
+ * and the rest is as it was.
+ *
+ * A place of a run is a number of 32 bits. A step is line * 256 + object. A meeting is
+ * 2,147,483,648 + stage * 16,777,216 + o1 * 65,536 + o2 * 256 + o3, with 255 where there is no object.
+ *
+ * An atomic state is a number of 32 bits: the relation of the first `state` line counts 1, the next 2, then 4, and so on.
+ */
+#ifndef EON_H
+#define EON_H
+
+#include <stddef.h>
+#include <stdint.h>
+
+#ifdef __cplusplus
+extern "C" {
+#endif
+
+/* The sizes that buffers need: bytes of the work area, places of a run table lent for writing, cells beside an answer, cells of a replay state. */
+#define EON_WORK 32768
+#define EON_RUN 8640
+#define EON_OUT 129
+#define EON_SESSION 259
+
+/* Analyzes a text: kind 0, 1 or 2.
+ *
+ * out has EON_OUT cells, and all of them are written. out[0] is the number of reachable atomic states; out[1] and so on are these states by rising
+ * number, with zeros behind them up to out[127]; out[128] is the number of the last place of the run shown, 0 where there is none.
+ * After a refusal all are 0.
+ *
+ * run is written only for reached, and only its first n places. */
+uint64_t eon_analyze(const uint8_t *text, size_t bytes, uint8_t *work, size_t work_bytes, uint32_t *run, size_t places, uint32_t *out);
+
+/* Replays a run over a text: kind 2, 3 or 4. */
+uint64_t eon_replay(const uint8_t *text, size_t bytes, const uint32_t *run, size_t places, uint8_t *work, size_t work_bytes);
+
+/* Puts one place to a replay state over a text: kind 2, 3 or 4. Broken is answered with the number of places kept so far, or with 0 where the state
+ * does not fit the text.
+ *
+ * session has EON_SESSION cells: 255 atomic states of the objects in order of creation, then the number of objects, the stages met,
+ * the carried object (255 for none), and the number of places kept. The state before the first place has 255 for the carried object and 0 in
+ * every other cell. It is updated if the place is kept, and left as it was after every other answer. */
+uint64_t eon_place(const uint8_t *text, size_t bytes, uint32_t *session, uint32_t place, uint8_t *work, size_t work_bytes);
+
+#ifdef __cplusplus
+}
+#endif
+
+#endif
