@@ -12,6 +12,7 @@ use Rattle.model.specs.Literals.{literalOf}
 use Rattle.model.specs.Records.{bodyAt, lineOf, stageOf, renamed, numberIn, programOf, questionOf, clauseAt, stageAt}
 use Rattle.acceptance.proofs.WellFormed.{clauseOf}
 use Rattle.acceptance.specs.Represents.{HoldsClause, HoldsStage}
+use Rattle.acceptance.specs.Growing.{Keeps}
 
 -- A PART that lies before place k of the row
 take-drop : (n size : ℕ) (row : List ℕ) → take size (drop n row) ≡ drop n (take (n + size) row)
@@ -37,13 +38,6 @@ map-same {B = B} f g (suc k) (x ∷ xs) d h = rw (h 0 (omega arith)) (ap {B = Li
 
 map-one-more : {A B : Type 0} (f : A → B) (k : ℕ) (xs : List A) (d : A) → k < length xs → map f (take (suc k) xs) ≡ map f (take k xs) ++ (f (getD xs k d) ∷ [])
 map-one-more f k xs d h = rw (take-suc xs k d h, map-append f (take k xs) (getD xs k d ∷ []))
-
--- the record m′ keeps the clauses, the stages and the literals of m
-pub record Keeps (m m′ : Model) : Type 0 where
-  pub clauses : take (m .clausecount) (m′ .clauses) ≡ take (m .clausecount) (m .clauses)
-  pub stages : take (m .stagecount) (m′ .stages) ≡ take (m .stagecount) (m .stages)
-  pub literals : take (m .literalcount) (m′ .literals) ≡ take (m .literalcount) (m .literals)
-  pub literalcount : m .literalcount ≤ m′ .literalcount
 
 module _ (m m′ : Model) (keeps : Keeps m m′) where
   part-kept : (first size : ℕ) → first + size ≤ m .literalcount → bodyAt (m′ .literals) first size ≡ bodyAt (m .literals) first size

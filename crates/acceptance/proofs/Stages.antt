@@ -14,7 +14,6 @@ use Rattle.semantics.specs.Models as meaning
 use Rattle.semantics.specs.Models.{elem, firsts, names, shared}
 use Rattle.semantics.proofs.Tools.{or-right}
 use Rattle.model.specs.Records.{rename, renamed}
-use Rattle.model.specs.WellFormed.{uncarried}
 use Rattle.grammar.specs.Bytes.{Word, same}
 use Rattle.grammar.specs.Forms.{Atom, Literal, plain, negated}
 use Rattle.grammar.specs.Declarations as words
@@ -25,6 +24,7 @@ use Rattle.grammar.proofs.Words.{same-eq, member-append, member-left, member-ri
 use Rattle.grammar.proofs.Lower.{lower-none}
 use Rattle.grammar.proofs.Tests.{either}
 use Rattle.acceptance.specs.Sound.{carriedOf}
+use Rattle.acceptance.specs.Growing.{firstNumber}
 use Rattle.acceptance.proofs.Words.{member-here, news, extend-news, place-at}
 use Rattle.acceptance.proofs.Bodies.{Found, plain-right, negated-right, vars-body}
 use Rattle.acceptance.proofs.Questions.{Within, within-rest, number-same, askWords, within-asked, stands-all, word-of, only-carried, carried-or-none}
@@ -108,10 +108,6 @@ module _ (D : Declared) (vs own : List Word) (ns : List ℕ) (numbers : take (le
       )
 
 -- THE CARRIED VARIABLE has the number of the first carried word
-abbrev pub firstNumber : List Word → List Word → ℕ
-firstNumber vs [] = uncarried
-firstNumber vs (w ∷ ws) = place vs w
-
 carried-stands : (qs : List (List Literal)) (xs : List Word) (w : Word) → member w (carried qs xs) ≡ true → (member w xs ≡ true) × (leb 2 (words.stands w qs) ≡ true)
 carried-stands qs [] w e = absurd (false≢true e)
 carried-stands qs (x ∷ xs) w e = ⊎-elim

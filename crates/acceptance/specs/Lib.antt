@@ -1,2 +1,3 @@
 pub mod Sound
 pub mod Represents
+pub mod Growing

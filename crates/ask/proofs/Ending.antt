@@ -20,13 +20,15 @@ use Rattle.grammar.specs.Models.{bodyOf, questionOf}
 use Rattle.grammar.proofs.Tests.{either}
 use Rattle.grammar.proofs.Lower.{lower-first, lower-bound, lower-under}
 use Rattle.acceptance.proofs.Questions.{askWords}
-use Rattle.acceptance.proofs.Stages.{firstNumber, carried-number}
+use Rattle.acceptance.specs.Growing.{firstNumber}
+use Rattle.acceptance.proofs.Stages.{carried-number}
 use Rattle.frame.proofs.Adding.{body-bound}
 use Rattle.body.specs.declared.Body.{Body}
 use Rattle.clause.proofs.Laws.{Row, lower-row, row-row, body-row, row-bound, whole-all, whole-part}
 use Rattle.asking.specs.Asking as asking
+use Rattle.asking.specs.Asking.{each}
 use Rattle.asking.specs.declared.Table.{Table}
-use Rattle.asking.proofs.Stages.{each, each-words, carries}
+use Rattle.asking.proofs.Stages.{each-words, carries}
 use Rattle.question.specs.Questions.{Empty, Stored, Holds, Added}
 use Rattle.question.specs.declared.Asking.{Asking}
 use Rattle.ask.specs.Asks.{StagesEnd, carrying, finished, Asks, AskEnd}

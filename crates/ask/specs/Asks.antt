@@ -16,7 +16,7 @@ use Rattle.grammar.specs.Rows.{fault}
 use Rattle.grammar.specs.Models.{questionOf}
 use Rattle.acceptance.specs.Sound.{carriedOf}
 use Rattle.acceptance.specs.Represents.{HoldsStage}
-use Rattle.acceptance.proofs.Growth.{Keeps}
+use Rattle.acceptance.specs.Growing.{Keeps}
 use Rattle.question.specs.Questions as questions
 use Rattle.question.specs.declared.Asking.{Asking}
 use Rattle.ask.specs.declared.Stages.{Stages}

@@ -16,7 +16,7 @@ use Rattle.grammar.specs.Declarations.{member, extend, place}
 use Rattle.grammar.proofs.Tests.{either}
 use Rattle.grammar.proofs.Words.{same-refl, same-eq, same-sym, place-hit, place-none, place-below, extend-append, extend-old}
 use Rattle.acceptance.proofs.Questions.{number-same}
-use Rattle.acceptance.proofs.Stages.{firstNumber}
+use Rattle.acceptance.specs.Growing.{firstNumber}
 use Rattle.scan.proofs.Laws.{slice-part}
 use Rattle.names.specs.Rows.{listOf}
 use Rattle.names.proofs.Laws.{listOf-same, length-listOf}

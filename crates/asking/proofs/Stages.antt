@@ -13,21 +13,14 @@ use Rattle.grammar.specs.Bytes.{Word, same}
 use Rattle.grammar.specs.Forms.{Literal, all}
 use Rattle.grammar.specs.Declarations.{member, extend, variables, stands, allVariables}
 use Rattle.grammar.specs.Rows.{carried, carriesMany}
+use Rattle.grammar.specs.Words.{Distinct}
 use Rattle.grammar.proofs.Tests.{either, clash, and-left, and-right}
-use Rattle.grammar.proofs.Words.{same-refl, same-eq, same-sym, member-append, extend-append, Distinct, distinct-extend}
+use Rattle.grammar.proofs.Words.{same-refl, same-eq, same-sym, member-append, extend-append, distinct-extend}
 use Rattle.acceptance.proofs.Words.{news, extend-news}
+use Rattle.acceptance.specs.Growing.{firstNumber}
 use Rattle.acceptance.proofs.Questions.{askWords}
-use Rattle.acceptance.proofs.Stages.{firstNumber}
-use Rattle.asking.specs.Asking.{repeated, differ}
+use Rattle.asking.specs.Asking.{own, each, repeated, differ}
 use Rattle.asking.proofs.Laws.{repeated-append, repeated-within}
-
--- the words of a stage, and of all stages
-abbrev pub own : List Literal → List Word
-own q = extend [] (variables q)
-
-abbrev pub each : List (List Literal) → List Word
-each [] = []
-each (q ∷ qs) = own q ++ each qs
 
 -- MEMBERS of a list with first appearances
 pub member-extend : (x : Word) (vs xs : List Word) → member x (extend vs xs) ≡ (member x vs || member x xs)

@@ -7,9 +7,9 @@ use lib.Dec.{eqb, ltb}
 use lib.ListN.{length, take, getD, set}
 use lib.Seq.{slice}
 use Rattle.grammar.specs.Bytes.{Word, same}
-use Rattle.grammar.specs.Forms.{all}
-use Rattle.grammar.specs.Declarations.{member, extend, place}
-use Rattle.acceptance.proofs.Stages.{firstNumber}
+use Rattle.grammar.specs.Forms.{Literal, all}
+use Rattle.grammar.specs.Declarations.{member, extend, place, variables}
+use Rattle.acceptance.specs.Growing.{firstNumber}
 use Rattle.names.specs.Rows.{listOf}
 use Rattle.asking.specs.declared.Table.{Table}
 use Rattle.asking.specs.declared.Numbering.{Numbering}
@@ -39,6 +39,15 @@ appended t i a e = record { count = i + 1; starts = set (t .starts) i a; ends = 
 
 unfoldable pub met : Table → ℕ → ℕ → ℕ → Table
 met t i a e = cond (ltb i (t .count)) (again t i) (appended t i a e)
+
+-- the words of a stage, each once
+abbrev pub own : List Literal → List Word
+own q = extend [] (variables q)
+
+-- the words of all stages, each once for each stage
+abbrev pub each : List (List Literal) → List Word
+each [] = []
+each (q ∷ qs) = own q ++ each qs
 
 -- the words that stand in ws although they were seen before, in order
 abbrev pub repeated : List Word → List Word → List Word

@@ -10,8 +10,8 @@ use native.Mathlib.Numerals.{add-one}
 use lib.ListN.{length, getD, length-append, List·getD-append}
 use Rattle.semantics.specs.Models.{elem, Program, line, Question}
 use Rattle.semantics.specs.Facts.{Database}
-use Rattle.semantics.specs.Tables.{Rows, entry, Entry, Moves, Hands}
-use Rattle.semantics.proofs.Tools.{same?, clash, seat, seat-ok}
+use Rattle.semantics.specs.Tables.{seat, Rows, entry, Entry, Moves, Hands}
+use Rattle.semantics.proofs.Tools.{same?, clash, seat-ok}
 use Rattle.states.proofs.Seats.{seat-in, seat-out}
 use Rattle.entries.specs.declared.Levels.{Levels}
 use Rattle.entries.specs.Entries.{entryOf, count, numbers, rowsOf, arrivalOf, Brings, Proper, spare, added, appended}

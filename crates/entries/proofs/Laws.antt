@@ -13,8 +13,8 @@ use lib.ListN.{length, getD, set, length-append, length-map, List·getD-append, 
 use lib.Seq.{getD-set-same, getD-set-other, getD-append-seam}
 use Rattle.semantics.specs.Models.{elem, Program, Question, Safe, Distinct}
 use Rattle.semantics.specs.Facts.{Database}
-use Rattle.semantics.specs.Tables.{Within, Rows, entry, Entry, Arrival, first, moved, met, Hands, Came, held, FoundedRows}
-use Rattle.semantics.proofs.Tools.{either, same?, clash, or-true-cases, or-right, elem-here, elem-cases, seat, seat-ok}
+use Rattle.semantics.specs.Tables.{Within, seat, Rows, entry, Entry, Arrival, first, moved, met, Hands, Came, held, FoundedRows}
+use Rattle.semantics.proofs.Tools.{either, same?, clash, or-true-cases, or-right, elem-here, elem-cases, seat-ok}
 use Rattle.semantics.proofs.Similar.{Under}
 use Rattle.semantics.proofs.Growth.{came-grows, came-longer}
 use Rattle.states.proofs.Laws.{only-one}

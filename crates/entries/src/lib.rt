@@ -2,7 +2,7 @@
 ghost use mathlib.Core.Path.{_≡_};
 ghost use Prim.Native.Nat.{_+_, _*_, _≤_, _<_};
 ghost use lib.ListN.{length, take, drop, getD};
-ghost use Rattle.semantics.proofs.Tools.{seat};
+ghost use Rattle.semantics.specs.Tables.{seat};
 ghost use Rattle.entries.specs.Entries.{begun, appended, added, Proper};
 
 // A level's entries have room for 129 numbers, of which the first counts[k] are in use. Number 0 is that nothing is carried yet, and 1 + s that the carried object has state s.

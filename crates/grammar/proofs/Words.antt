@@ -12,6 +12,7 @@ use borrow.Author.Tests.{eqb-true}
 use Rattle.grammar.specs.Bytes.{Word, same}
 use Rattle.grammar.specs.Forms.{all}
 use Rattle.grammar.specs.Declarations.{member, extend, place}
+use Rattle.grammar.specs.Words.{Distinct, allMarked}
 use Rattle.grammar.proofs.Tests.{either, clash, and-left, and-right, eqb-same}
 
 pub same-refl : (w : Word) → same w w ≡ true
@@ -111,10 +112,6 @@ extend-longer vs (x ∷ xs) =
     omega arith
 
 -- DIFFERENT WORDS
-abbrev pub Distinct : List Word → Type 0
-Distinct [] = Unit {0}
-Distinct (x ∷ xs) = (member x xs ≡ false) × Distinct xs
-
 or-none : (a b : Bool) → (a || b) ≡ false → (a ≡ false) × (b ≡ false)
 or-none true b e = clash refl e
 or-none false b e = (refl, e)
@@ -172,10 +169,6 @@ among-extend S vs (x ∷ xs) = among-extend S (one vs x) xs ∙ ⊎-elim
     (λ (q : member x vs ≡ true). rw q (⊎-elim (λ (p : among S vs ≡ true). rw (p, among-use S vs x p q)) (λ (p : among S vs ≡ false). rw p) (either (among S vs))))
     (λ (q : member x vs ≡ false). rw (q, among-append S vs (x ∷ []), and-true (member x S)) (and-assoc (among S vs) (member x S) (among S xs)))
     (either (member x vs))
-
-abbrev pub allMarked : List Bool → Bool
-allMarked [] = true
-allMarked (m ∷ ms) = m && allMarked ms
 
 pub marks-all : (S vs : List Word) → allMarked (marks S vs) ≡ among S vs
 marks-all S [] = refl

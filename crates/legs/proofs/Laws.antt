@@ -13,12 +13,12 @@ use lib.ListN.{length, set, getD, length-map, length-append}
 use Rattle.semantics.specs.Models.{elem, Body, vars, names, supported, Supported, Distinct}
 use Rattle.semantics.specs.Facts.{Database, state, In, Derived, Meets}
 use Rattle.semantics.specs.Runs.{Place, named}
-use Rattle.semantics.specs.Tables.{Shows, Hands}
-use Rattle.semantics.proofs.Tools.{either, same?, clash, elem-here, or-right, seat, named-own}
+use Rattle.semantics.specs.Tables.{Shows, seat, Hands}
+use Rattle.semantics.specs.Building.{Leads, places, lineage, at}
+use Rattle.semantics.proofs.Tools.{either, same?, clash, elem-here, or-right, named-own}
 use Rattle.semantics.proofs.Bodies.{holds-agree, more-facts, supported-vars}
-use Rattle.semantics.proofs.Leads.{Leads, places}
-use Rattle.semantics.proofs.Build.{lineage, length-lineage}
-use Rattle.semantics.proofs.Legs.{at, behind, handing, hand-leads}
+use Rattle.semantics.proofs.Build.{length-lineage}
+use Rattle.semantics.proofs.Legs.{behind, handing, hand-leads}
 use Rattle.model.specs.declared.Model.{Model}
 use Rattle.model.specs.declared.Stage.{Stage}
 use Rattle.model.specs.Records.{upFrom, stageBody, stageOf, numberIn, programOf, questionOf, stageAt}

@@ -8,8 +8,7 @@ use lib.ListN.{length, getD}
 use Rattle.semantics.specs.Facts.{Meets}
 use Rattle.semantics.specs.Runs.{Place, Session, meet}
 use Rattle.semantics.specs.Tables.{Hands}
-use Rattle.semantics.proofs.Leads.{Leads}
-use Rattle.semantics.proofs.Legs.{at}
+use Rattle.semantics.specs.Building.{Leads, at}
 use Rattle.model.specs.declared.Model.{Model}
 use Rattle.model.specs.declared.Stage.{Stage}
 use Rattle.model.specs.Records.{upFrom, numberIn, programOf, questionOf}

@@ -11,8 +11,8 @@ use lib.Seq.{length-take-le}
 use Rattle.semantics.specs.Models.{Line, rule, new, next, other, Program, line}
 use Rattle.semantics.specs.Facts.{Database}
 use Rattle.semantics.specs.Tables.{From, Founded}
+use Rattle.semantics.specs.Building.{grown, lineage}
 use Rattle.semantics.proofs.Tools.{clash}
-use Rattle.semantics.proofs.Build.{grown, lineage}
 use Rattle.model.specs.declared.Model.{Model}
 use Rattle.model.specs.Records.{programOf}
 use Rattle.model.specs.WellFormed.{WellFormed}

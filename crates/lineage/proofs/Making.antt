@@ -10,9 +10,8 @@ use Rattle.semantics.specs.Models.{Line, rule, new, next, other, line}
 use Rattle.semantics.specs.Steps.{Pair}
 use Rattle.semantics.specs.Runs.{step}
 use Rattle.semantics.specs.Tables.{From}
+use Rattle.semantics.specs.Building.{places, grown, lineage, with, build}
 use Rattle.semantics.proofs.Tools.{either}
-use Rattle.semantics.proofs.Leads.{places}
-use Rattle.semantics.proofs.Build.{grown, lineage, with, build}
 use Rattle.model.specs.declared.Model.{Model}
 use Rattle.model.specs.declared.Place.the-variants.{Step}
 use Rattle.model.specs.Records.{programOf}

@@ -4,8 +4,7 @@ use mathlib.Core.List.{List}
 use Prim.Native.Nat.{ℕ, suc}
 use Rattle.semantics.specs.Models.{Line, rule, new, next, other}
 use Rattle.semantics.specs.Runs.{Place}
-use Rattle.semantics.proofs.Leads.{places}
-use Rattle.semantics.proofs.Build.{lineage, with, build}
+use Rattle.semantics.specs.Building.{places, lineage, with, build}
 use Rattle.model.specs.declared.Model.{Model}
 use Rattle.model.specs.Records.{programOf}
 use Rattle.states.specs.declared.States.{States}

@@ -12,13 +12,13 @@ use lib.Seq.{getD-take, getD-drop, length-take-le}
 use Rattle.semantics.specs.Models.{elem, Body, vars, names, Program, Question}
 use Rattle.semantics.specs.Facts.{Database, state, In, Meets}
 use Rattle.semantics.specs.Runs.{named}
-use Rattle.semantics.specs.Tables.{Shows, entry, Hands}
-use Rattle.semantics.proofs.Tools.{either, same?, clash, named-own, seat, seat-ok}
+use Rattle.semantics.specs.Tables.{Shows, seat, entry, Hands}
+use Rattle.semantics.proofs.Tools.{either, same?, clash, named-own, seat-ok}
 use Rattle.semantics.proofs.Bodies.{holds-agree}
 use Rattle.semantics.proofs.Growth.{shows-meets}
 use Rattle.model.specs.declared.Stage.{Stage}
-use Rattle.model.specs.Records.{renamed, stageBody, numberIn}
-use Rattle.model.proofs.Renaming.{elem-map, elem-of-map, vars-renamed, holds-renamed, Injective, named-renamed}
+use Rattle.model.specs.Records.{renamed, Injective, stageBody, numberIn}
+use Rattle.model.proofs.Renaming.{elem-map, elem-of-map, vars-renamed, holds-renamed, named-renamed}
 use Rattle.table.specs.Table.{tableOf}
 use Rattle.states.proofs.Seats.{elem-getD, seat-in, seat-out}
 use Rattle.entries.specs.Entries.{entryOf, count, numbers, rowsOf, Listed, Proper}

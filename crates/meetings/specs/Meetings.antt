@@ -9,8 +9,7 @@ use Rattle.semantics.specs.Models.{elem, Body, vars, Program, Question}
 use Rattle.semantics.specs.Facts.{Database, state, Meets}
 use Rattle.semantics.specs.Tables.{Shows, SoundFacts}
 use Rattle.model.specs.declared.Stage.{Stage}
-use Rattle.model.specs.Records.{renamed, stageBody, numberIn}
-use Rattle.model.proofs.Renaming.{Injective}
+use Rattle.model.specs.Records.{renamed, Injective, stageBody, numberIn}
 use Rattle.table.specs.Table.{tableOf}
 use Rattle.shows.specs.Shows.{Evaluable}
 use Rattle.carry.specs.declared.Carried.{Carried}

@@ -11,10 +11,10 @@ use Rattle.semantics.specs.Tables.{SoundFacts}
 use Rattle.semantics.proofs.Tools.{same?}
 use Rattle.semantics.proofs.Bodies.{supported-vars}
 use Rattle.model.specs.declared.Model.{Model}
-use Rattle.model.specs.Records.{clauseLine, programOf, renamed, stageBody, numberIn, questionOf, clauseAt, stageAt}
+use Rattle.model.specs.Records.{clauseLine, programOf, renamed, Injective, stageBody, numberIn, questionOf, clauseAt, stageAt}
 use Rattle.model.specs.WellFormed.{WellFormed}
 use Rattle.model.proofs.Accepted.{on-line, stages, stage-here, stage-vars, stage-body, stage-different}
-use Rattle.model.proofs.Renaming.{elem-map, elem-of-map, vars-renamed, supported-renamed, Injective}
+use Rattle.model.proofs.Renaming.{elem-map, elem-of-map, vars-renamed, supported-renamed}
 use Rattle.table.specs.Table.{tableOf}
 use Rattle.states.specs.declared.States.{States}
 use Rattle.states.specs.States.{row}

@@ -17,8 +17,8 @@ use Rattle.body.specs.declared.Body.{Body}
 use Rattle.clause.specs.Clauses.{numberAt, finalNumber}
 use Rattle.clause.proofs.Laws.{final, final-none, body-short}
 use Rattle.asking.specs.Asking as asking
+use Rattle.asking.specs.Asking.{each}
 use Rattle.asking.specs.declared.Numbering.{Numbering}
-use Rattle.asking.proofs.Stages.{each}
 use Rattle.question.specs.Questions.{withStage, Stored, Holds, Addable, Added}
 use Rattle.question.specs.declared.Asking.{Asking}
 use Rattle.question.proofs.Laws.{fault-more, stored-more}

@@ -25,18 +25,20 @@ use Rattle.grammar.proofs.Words.{member-left, member-right, extend-append, exte
 use Rattle.grammar.proofs.Lower.{lower-first, lower-second, lower-assoc}
 use Rattle.grammar.proofs.Bodies.{body-stable}
 use Rattle.acceptance.specs.Represents.{HoldsStage}
+use Rattle.acceptance.specs.Growing.{Keeps}
 use Rattle.acceptance.proofs.Questions.{askWords, Within}
 use Rattle.acceptance.proofs.Records.{lineWords, stage-said, holds-stage}
-use Rattle.acceptance.proofs.Growth.{Keeps, held-stage, question-more}
+use Rattle.acceptance.proofs.Growth.{held-stage, question-more}
 use Rattle.scope.specs.Scopes as scopes
 use Rattle.scope.proofs.Laws.{counted}
 use Rattle.frame.specs.Frames as frames
 use Rattle.frame.specs.declared.Frame.{Frame}
 use Rattle.store.proofs.Laws.{copied, before}
 use Rattle.asking.specs.Asking as asking
+use Rattle.asking.specs.Asking.{own, each}
 use Rattle.asking.specs.declared.Table.{Table}
 use Rattle.asking.specs.declared.Numbering.{Numbering}
-use Rattle.asking.proofs.Stages.{own, each, each-words}
+use Rattle.asking.proofs.Stages.{each-words}
 use Rattle.question.specs.Questions.{newStage, withStage, Stored}
 
 -- ONE STAGE MORE, in words

@@ -17,8 +17,8 @@ use Rattle.frame.specs.Frames as frames
 use Rattle.frame.specs.declared.Frame.{Frame}
 use Rattle.body.specs.declared.Body.{Body}
 use Rattle.asking.specs.Asking as asking
+use Rattle.asking.specs.Asking.{each}
 use Rattle.asking.specs.declared.Table.{Table}
-use Rattle.asking.proofs.Stages.{each}
 use Rattle.question.specs.declared.Asking.{Asking}
 
 abbrev pub newStage : Model → Frame → List ℕ → Stage

@@ -13,8 +13,9 @@ use lib.Seq.{slice, getD-set-same, getD-set-other, ext-getD}
 use borrow.Author.Tests.{eqb-true, eqb-false, lt-ltb, le-ltb}
 use Rattle.grammar.specs.Bytes.{Word, same}
 use Rattle.grammar.specs.Declarations.{member, extend, place}
+use Rattle.grammar.specs.Words.{Distinct, allMarked}
 use Rattle.grammar.proofs.Tests.{either, clash}
-use Rattle.grammar.proofs.Words.{same-eq, member-append, member-last, member-left, place-hit, place-miss, place-none, place-below, Distinct, distinct-extend, marks, marks-new, marks-old, marks-append, allMarked, among, marks-all}
+use Rattle.grammar.proofs.Words.{same-eq, member-append, member-last, member-left, place-hit, place-miss, place-none, place-below, distinct-extend, marks, marks-new, marks-old, marks-append, among, marks-all}
 use Rattle.scan.proofs.Laws.{slice-part}
 use Rattle.names.specs.Rows.{listOf}
 use Rattle.names.proofs.Laws.{listOf-same, length-listOf, getD-listOf}

@@ -4,7 +4,7 @@ ghost use Prim.Native.Nat.{_≤_, _<_};
 ghost use lib.ListN.{length};
 ghost use lib.Seq.{slice};
 ghost use Rattle.grammar.specs.Declarations.{place};
-ghost use Rattle.grammar.proofs.Words.{allMarked};
+ghost use Rattle.grammar.specs.Words.{allMarked};
 ghost use Rattle.scope.specs.Scopes.{Valid, knownOf, marksOf, entered};
 
 // Variable i stands first from starts[i] to ends[i].

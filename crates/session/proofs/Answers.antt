@@ -9,7 +9,7 @@ use lib.ListN.{length, take, drop}
 use Rattle.semantics.specs.Models.{Program, Question}
 use Rattle.semantics.specs.Runs as runs
 use Rattle.semantics.specs.Runs.{Session, start, after, Plays}
-use Rattle.semantics.proofs.Leads.{Leads}
+use Rattle.semantics.specs.Building.{Leads}
 use Rattle.model.specs.Places.{placeOf}
 use Rattle.session.specs.declared.Answer.{Answer}
 use Rattle.session.specs.declared.Answer.the-variants.{Kept, Broken, Refused}

@@ -15,9 +15,9 @@ use Rattle.semantics.specs.Facts.{Database, state, Table}
 use Rattle.semantics.specs.Facts as facts
 use Rattle.semantics.specs.Steps.{Reachable}
 use Rattle.semantics.specs.Questions.{Reached}
-use Rattle.semantics.specs.Tables.{Within, Rows, Entry, Steady, Saturated}
+use Rattle.semantics.specs.Tables.{Within, seat, Rows, Entry, Steady, Saturated}
 use Rattle.semantics.specs.Tables as tables
-use Rattle.semantics.proofs.Tools.{either, same?, no-none, or-right, seat, seat-ok}
+use Rattle.semantics.proofs.Tools.{either, same?, no-none, or-right, seat-ok}
 use Rattle.semantics.proofs.Paper.{reached-kept}
 use Rattle.semantics.proofs.Complete.{steps-covered, complete}
 use Rattle.spent.specs.Passes.{Item, derived, found, carried, Have, Has, Carries, AllTrue, Shows, Hands, ByLine, clause, stage, Given, Pass}

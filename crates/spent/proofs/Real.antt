@@ -16,12 +16,13 @@ use Rattle.semantics.specs.Facts.{Database, state, Derived, Meets}
 use Rattle.semantics.specs.Facts as facts
 use Rattle.semantics.specs.Steps.{Reachable}
 use Rattle.semantics.specs.Questions.{Reached}
-use Rattle.semantics.specs.Tables.{Within, Rows, entry, Entry, From, Founded, Arrival, first, moved, met, Came, held, FoundedRows}
+use Rattle.semantics.specs.Tables.{Within, seat, Rows, entry, Entry, From, Founded, Arrival, first, moved, met, Came, held, FoundedRows}
 use Rattle.semantics.specs.Tables as tables
-use Rattle.semantics.proofs.Tools.{either, same?, clash, no-none, and-false, or-right, or-false, or-true-cases, elem-here, elem-left, elem-right, elem-cases, seat, seat-ok}
+use Rattle.semantics.specs.Building.{build}
+use Rattle.semantics.proofs.Tools.{either, same?, clash, no-none, and-false, or-right, or-false, or-true-cases, elem-here, elem-left, elem-right, elem-cases, seat-ok}
 use Rattle.semantics.proofs.Bodies.{supported-vars}
 use Rattle.semantics.proofs.Derived.{derived-closed}
-use Rattle.semantics.proofs.Build.{build, built}
+use Rattle.semantics.proofs.Build.{built}
 use Rattle.semantics.proofs.Shown.{shown}
 use Rattle.semantics.proofs.Paper.{kept-reached}
 use Rattle.semantics.proofs.Similar.{under-refl, under-append}

@@ -12,7 +12,8 @@ use lib.ListN.{length, take, drop, getD, length-drop}
 use lib.Seq.{take-all, take-suc, take-take, getD-take, length-take-le}
 use native.Mathlib.Numerals.{add-one}
 use Rattle.semantics.specs.Models.{elem}
-use Rattle.semantics.proofs.Tools.{either, or-false, or-right, elem-here, seat, seat-ok}
+use Rattle.semantics.specs.Tables.{seat}
+use Rattle.semantics.proofs.Tools.{either, or-false, or-right, elem-here, seat-ok}
 
 -- a number that is not in the row has no place
 pub seat-absent : (x : ℕ) (xs : List ℕ) → elem x xs ≡ false → seat x xs ≡ length xs

@@ -3,7 +3,7 @@ ghost use mathlib.Core.Path.{_≡_};
 ghost use Prim.Native.Nat.{_≤_, _<_};
 ghost use lib.ListN.{length, take};
 ghost use Rattle.semantics.specs.Models.{elem};
-ghost use Rattle.semantics.proofs.Tools.{seat};
+ghost use Rattle.semantics.specs.Tables.{seat};
 ghost use Rattle.states.specs.States.{row, nothing, appended, added, Proper};
 ghost use Rattle.states.specs.Rising.{Lists};
 

@@ -10,7 +10,8 @@ use lib.Dec.{eqb}
 use lib.ListN.{length, take, drop, getD, replicate, take-append-drop}
 use lib.Seq.{length-take-le, getD-take}
 use Rattle.semantics.specs.Models.{elem, Program, Question}
-use Rattle.semantics.proofs.Tools.{or-true-cases, or-right, elem-here, seat, seat-ok}
+use Rattle.semantics.specs.Tables.{seat}
+use Rattle.semantics.proofs.Tools.{or-true-cases, or-right, elem-here, seat-ok}
 use Rattle.states.specs.Rising.{Rising}
 use Rattle.verdict.specs.declared.Answer.{Answer}
 use Rattle.verdict.specs.declared.Answer.the-variants.{Reached, Unreached, Refused}

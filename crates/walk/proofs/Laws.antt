@@ -10,11 +10,11 @@ use lib.ListN.{length, set, getD, length-append}
 use lib.Seq.{getD-take, getD-drop}
 use Rattle.semantics.specs.Models.{Line, rule, new, next, other, line}
 use Rattle.semantics.specs.Runs.{step, Plays}
-use Rattle.semantics.specs.Tables.{entry, Moves, Hands, Came}
+use Rattle.semantics.specs.Tables.{entry, Moves, Hands, Came, rank}
 use Rattle.semantics.proofs.Tools.{same?, no-none}
 use Rattle.semantics.proofs.Leads.{leads-plays}
 use Rattle.semantics.proofs.Legs.{move-leads}
-use Rattle.semantics.proofs.Shown.{rank, rank-less, rank-most, level-zero}
+use Rattle.semantics.proofs.Shown.{rank-less, rank-most, level-zero}
 use Rattle.model.specs.declared.Model.{Model}
 use Rattle.model.specs.declared.Place.the-variants.{Step}
 use Rattle.model.specs.Places.{numberOf, numeral}

@@ -5,9 +5,8 @@ use mathlib.Core.Option.{Option, none, some}
 use Prim.Native.Nat.{ℕ, _+_, _*_, _≤_, _<_}
 use lib.ListN.{length, getD}
 use Rattle.semantics.specs.Runs.{Place, nobody, Plays}
-use Rattle.semantics.specs.Tables.{entry, FoundedRows}
-use Rattle.semantics.proofs.Leads.{session}
-use Rattle.semantics.proofs.Shown.{rank}
+use Rattle.semantics.specs.Tables.{entry, rank, FoundedRows}
+use Rattle.semantics.specs.Building.{session}
 use Rattle.model.specs.declared.Model.{Model}
 use Rattle.model.specs.Records.{programOf, questionOf}
 use Rattle.states.specs.declared.States.{States}

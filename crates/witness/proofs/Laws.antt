@@ -11,9 +11,10 @@ use Rattle.semantics.specs.Models.{Program, Question}
 use Rattle.semantics.specs.Steps.{Steps}
 use Rattle.semantics.specs.Runs.{Place, step, meet, Session, start, nobody, after, Plays, Kept}
 use Rattle.semantics.specs.PlayingOn.{PlayingOn}
-use Rattle.semantics.proofs.Leads.{session, Leads, leads-plays, steps-lead, kept-length}
+use Rattle.semantics.specs.Building.{session, Leads, build}
+use Rattle.semantics.proofs.Leads.{leads-plays, steps-lead, kept-length}
 use Rattle.semantics.proofs.Playing.{playing-on}
-use Rattle.semantics.proofs.Build.{build, built, length-build}
+use Rattle.semantics.proofs.Build.{built, length-build}
 use Rattle.model.specs.declared.Model.{Model}
 use Rattle.model.specs.Records.{programOf, questionOf}
 use Rattle.model.specs.WellFormed.{WellFormed}

@@ -2,7 +2,7 @@ use mathlib.Core.Path.{ap, _∙_}
 use mathlib.Core.List.{List}
 use Prim.Native.Nat.{ℕ, _*_}
 use lib.ListN.{take}
-use Rattle.semantics.proofs.Tools.{seat}
+use Rattle.semantics.specs.Tables.{seat}
 use Rattle.states.proofs.Seats.{rest-whole}
 use borrow.Author.Needs.{needs}
 use Rattle.entries.proofs.seek.Statement.{statement}

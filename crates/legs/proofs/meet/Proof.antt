@@ -4,7 +4,7 @@ use mathlib.Core.Option.{some}
 use Prim.Native.Nat.{ℕ, _-_, _≤_, _<_}
 use native.Mathlib.Omega.{arith}
 use lib.ListN.{getD}
-use Rattle.semantics.proofs.Tools.{seat}
+use Rattle.semantics.specs.Tables.{seat}
 use Rattle.model.specs.Records.{numberIn, stageAt}
 use Rattle.states.specs.States.{row}
 use Rattle.entries.specs.Entries.{entryOf}

@@ -3,7 +3,7 @@ use mathlib.Core.Bool.{true, false}
 use Prim.Native.Nat.{ℕ, _+_, _-_, _≤_}
 use native.Mathlib.Omega.{arith}
 use lib.ListN.{length, getD}
-use Rattle.grammar.proofs.Words.{allMarked}
+use Rattle.grammar.specs.Words.{allMarked}
 use Rattle.names.specs.Rows.{listOf}
 use Rattle.scope.specs.Scopes.{marksOf}
 use Rattle.scope.proofs.Laws.{marked-more, marked-none}
