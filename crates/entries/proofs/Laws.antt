@@ -1,4 +1,4 @@
--- Founded rows stay founded when an entry or a state is added.
+-- Founded rows stay founded when an entry is added.
 use mathlib.Core.Path.{_≡_, refl, sym, ap, _∙_, subst}
 use mathlib.Core.Logic.{_⊎_, inl, inr, ⊎-elim, _≢_}
 use mathlib.Core.Bool.{true, false, false≢true}
@@ -11,12 +11,11 @@ use borrow.Author.Tests.{eqb-true}
 use lib.Dec.{eqb}
 use lib.ListN.{length, getD, set, length-append, length-map, List·getD-append, List·getD-map}
 use lib.Seq.{getD-set-same, getD-set-other, getD-append-seam}
-use Rattle.semantics.specs.Models.{elem, Program, Question, Safe, Distinct}
+use Rattle.semantics.specs.Models.{elem, Program, Question, Distinct}
 use Rattle.semantics.specs.Facts.{Database}
 use Rattle.semantics.specs.Tables.{Within, seat, Rows, entry, Entry, Arrival, first, moved, met, Hands, Came, held, FoundedRows}
 use Rattle.semantics.proofs.Tools.{either, same?, clash, or-true-cases, or-right, elem-here, elem-cases, seat-ok}
-use Rattle.semantics.proofs.Similar.{Under}
-use Rattle.semantics.proofs.Growth.{came-grows, came-longer}
+use Rattle.semantics.proofs.Growth.{came-longer}
 use Rattle.states.proofs.Laws.{only-one}
 use Rattle.states.proofs.Seats.{elem-getD}
 use Rattle.entries.specs.declared.Levels.{Levels}
@@ -165,16 +164,6 @@ proper-added l proper k x ℓ p level small =
     (λ (e : elem x (numbers l k) ≡ true). rw e proper)
     (λ (e : elem x (numbers l k) ≡ false). rw e (proper-appended l proper k x ℓ p level (room l proper k x ℓ p level small e) small e))
     (either (elem x (numbers l k)))
-
--- MORE STATES keep the rows founded
-pub founded-grows : (P : Program) → Safe P → (Q : Question) (v : ℕ) (S S′ : Database) → Under S S′ → ((c : ℕ) → elem c S ≡ true → elem c S′ ≡ true)
-    → (rows : Rows) (came : ℕ → ℕ → Arrival) → FoundedRows P Q v S rows came → FoundedRows P Q v S′ rows came
-founded-grows P safe Q v S S′ under more rows came f =
-    record {
-      arrived = λ i j h. came-grows P safe Q v S S′ under rows i j (came i j) (f .arrived i j h);
-      distinct = f .distinct;
-      within = λ i c e. ⊎-elim (λ q. inl q) (λ q. inr (more c q)) (f .within i c e);
-    }
 
 -- ENTRIES AND NUMBERS of a level
 pub entry-of : (l : Levels) (k x : ℕ) → elem x (numbers l k) ≡ true → Entry (rowsOf l) k (entryOf x)
