@@ -1,10 +1,10 @@
--- THE NUMBER OF A REFUSAL can be read: refusals have numbers to 14, and lines below 65,536.
+-- NUMBERS OF ANSWERS can be read: refusals have numbers to 14, and lines below 65,536.
 use mathlib.Core.Path.{_≡_}
 use mathlib.Core.Logic.{_⊎_, inl, inr, ⊎-elim}
 use mathlib.Core.Bool.{Bool, true, false, cond, not, _&&_, _||_}
 use mathlib.Core.List.{List, [], _∷_}
 use mathlib.Core.Option.{Option, none, some}
-use Prim.Native.Nat.{ℕ, suc, _+_, _/_, _%_, _≤_}
+use Prim.Native.Nat.{ℕ, suc, _+_, _*_, _/_, _%_, _≤_, _<_}
 use native.Mathlib.Nat.{min-le-left}
 use native.Mathlib.Omega.{arith}
 use lib.Dec.{eqb, ltb}
@@ -21,7 +21,7 @@ use Rattle.grammar.specs.Texts.{Outcome, accepted, refused, Judged, bad, good, 
 use Rattle.semantics.proofs.Tools.{or-false}
 use Rattle.grammar.proofs.Tests.{either}
 use Rattle.calls.specs.Calls.{early, called}
-use Rattle.exports.specs.Codes.{refusal}
+use Rattle.exports.specs.Codes.{code}
 
 -- THE ROWS of a line
 lower-most : (k a b : ℕ) → a ≤ k → b ≤ k → lower a b ≤ k
@@ -182,6 +182,9 @@ called-range text short long = ⊎-elim (λ (q : eqb first 0 ≡ true). rw q (ou
     first : ℕ
     first = cond (eqb (length text) 0 || ltb 16384 (length text)) 1 (cond short 12 (cond long 14 0))
 
--- its number and line are read off the number of the refusal
-pub refusal-read : (n l : ℕ) → n ≤ 14 → l ≤ 16385 → (refusal n l / 4294967296 ≡ 2) × (refusal n l % 4294967296 / 65536 ≡ n) × (refusal n l % 65536 ≡ l)
+-- KIND AND VALUE are read off an answer's number, and a refusal's number and line off its value
+pub code-read : (kind value : ℕ) → value < 4294967296 → (code kind value / 4294967296 ≡ kind) × (code kind value % 4294967296 ≡ value)
+code-read kind value h = (omega arith, omega arith)
+
+pub refusal-read : (n l : ℕ) → n ≤ 14 → l ≤ 16385 → (n * 65536 + l < 4294967296) × ((n * 65536 + l) / 65536 ≡ n) × ((n * 65536 + l) % 65536 ≡ l)
 refusal-read n l h k = (omega arith, omega arith, omega arith)
