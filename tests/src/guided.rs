@@ -2,8 +2,9 @@
 
 use crate::guess::pair;
 use crate::meaning::{Facts, Model};
-use crate::random::Random;
+use crate::random::{self, Random, Shape};
 use crate::reader::{self, Kind, Outcome, Text};
+use std::collections::BTreeSet;
 
 /// A walk through the databases of a model, and the carried object.
 struct Walk<'a> {
@@ -17,6 +18,7 @@ struct Walk<'a> {
 type Named = (String, usize);
 
 impl Walk<'_> {
+    /// Plays some guessed pairs.
     fn go_on(&mut self, r: &mut Random, pairs: usize) {
         for _ in 0..pairs {
             let (line, object) = pair(r, self.m, self.db.len());
@@ -24,6 +26,27 @@ impl Walk<'_> {
                 self.db = after;
             }
         }
+    }
+
+    /// The databases in which an object is changed and not wiped by one line.
+    fn changes(&self, object: usize) -> Vec<Vec<u32>> {
+        let facts = self.m.facts(&self.db);
+        let after = self.m.clauses.iter().filter_map(|c| self.m.step(&self.db, &facts, c.line, object));
+        after.filter(|db| db.len() == self.db.len() && db[object] != self.db[object] && db[object] != 0).collect()
+    }
+
+    /// Relabels the carried object, if a line changes it.
+    fn move_carried(&mut self, r: &mut Random) {
+        let mut after = self.carried.map_or(Vec::new(), |object| self.changes(object));
+        if !after.is_empty() {
+            self.db = after.swap_remove(r.below(after.len()));
+        }
+    }
+
+    /// The object to carry, one that can change if there is one.
+    fn to_carry(&self, r: &mut Random, objects: &[usize]) -> usize {
+        let lively: Vec<usize> = objects.iter().copied().filter(|o| !self.changes(*o).is_empty()).collect();
+        r.pick(if lively.is_empty() { objects } else { &lively })
     }
 
     /// The declared names of a kind, in order.
@@ -73,12 +96,22 @@ impl Walk<'_> {
             named.push((format!("{letter}{number}"), r.pick(&objects)));
         }
         if carry {
-            let object = *self.carried.get_or_insert(r.pick(&objects));
+            let object = self.carried.unwrap_or_else(|| self.to_carry(r, &objects));
+            self.carried = Some(object);
             if self.db[object] != 0 {
                 named.insert(r.below(named.len() + 1), ("w".into(), object));
             }
         }
         named
+    }
+
+    /// Says of the carried object, if it is named, all that is true of it.
+    fn describe_carried(&self, named: &[Named], body: &mut Vec<String>) {
+        let carried: Vec<Named> = named.iter().filter(|(v, _)| v == "w").cloned().collect();
+        let (plain, negated) = self.state_literals(&carried);
+        body.extend(plain.into_iter().chain(negated));
+        body.sort();
+        body.dedup();
     }
 
     /// A stage of literals that hold now.
@@ -98,6 +131,9 @@ impl Walk<'_> {
             }
         }
         body.extend(negated.into_iter().take(r.below(3)));
+        if r.chance(85) {
+            self.describe_carried(&named, &mut body);
+        }
         (!body.is_empty() && body.len() <= 8).then(|| format!("({})", body.join(" ")))
     }
 }
@@ -131,24 +167,57 @@ fn is_accepted(text: &str) -> bool {
     matches!(reader::read(text.as_bytes()), Outcome::Accepted(_))
 }
 
-/// The accepted text with another question, which a run meets or nearly meets.
-pub fn asked(r: &mut Random, text: &str) -> String {
-    let Outcome::Accepted(read) = reader::read(text.as_bytes()) else { return text.into() };
-    let m = Model::new(&read);
-    let mut walk = Walk { text: &read, m: &m, db: Vec::new(), carried: None };
-    let carries = r.chance(75);
-    let mut stages = Vec::new();
-    for number in 0..1 + r.below(4) {
-        let pairs = if number == 0 { 8 } else { r.below(6) };
-        walk.go_on(r, pairs);
-        let carry = carries && r.chance(80);
-        stages.extend(walk.stage(r, number, carry));
+/// Whether a walk meets several atomic states.
+fn is_lively(r: &mut Random, text: &Text, m: &Model) -> bool {
+    let mut walk = Walk { text, m, db: Vec::new(), carried: None };
+    let mut states = BTreeSet::new();
+    for _ in 0..16 {
+        walk.go_on(r, 1);
+        states.extend(walk.db.iter().copied());
     }
+    states.len() > m.states.min(2)
+}
+
+/// The stages that a walk meets.
+fn stages(r: &mut Random, text: &Text, m: &Model) -> Vec<String> {
+    let mut walk = Walk { text, m, db: Vec::new(), carried: None };
+    let carries = r.chance(85);
+    let mut stages = Vec::new();
+    walk.go_on(r, 14);
+    for number in 0..r.pick(&[1, 2, 3, 4]) {
+        let carry = carries && r.chance(90);
+        stages.extend(walk.stage(r, number, carry));
+        let pairs = r.below(3);
+        walk.go_on(r, pairs);
+        for _ in 0..r.pick(&[0, 1, 1, 2]) {
+            walk.move_carried(r);
+        }
+    }
+    stages
+}
+
+/// A random model with a question that a run meets or nearly meets; of a few models the first whose objects change.
+pub fn model(r: &mut Random, shape: Shape) -> String {
+    let mut text = random::model(r, shape);
+    for _ in 0..20 {
+        let Outcome::Accepted(read) = reader::read(text.as_bytes()) else { return text };
+        let m = Model::new(&read);
+        if is_lively(r, &read, &m) {
+            let met = stages(r, &read, &m);
+            return asked(r, &text, met);
+        }
+        text = random::model(r, shape);
+    }
+    text
+}
+
+/// The text with a question of these stages, or of nearly these; with its own if there are none.
+fn asked(r: &mut Random, text: &str, mut stages: Vec<String>) -> String {
     if stages.is_empty() {
         return text.into();
     }
     let met = with_question(text, &stages);
-    if r.chance(40) {
+    if r.chance(45) {
         near_miss(r, &mut stages);
     }
     let missed = with_question(text, &stages);

@@ -34,9 +34,10 @@ fn covered_enough(report: &mut Report) {
         report.met_often(&format!("{call}: broken"), 500);
     }
     report.met_often("search: certain and reached", 400);
-    report.met_often("search: certain and unreached", 200);
+    report.met_often("search: certain and unreached", 150);
     report.met_often("models reached with a carried variable", 100);
-    report.met_often("models unreached with a carried variable", 50);
+    report.met_often("models unreached with a carried variable", 40);
+    report.met_often("shown runs that change the carried object between stages", 50);
     report.met_often("played on after other objects", 400);
 }
 

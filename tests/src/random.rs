@@ -132,11 +132,17 @@ impl Names {
         format!("(new {}{})", self.list(r, 0, 2), joined(&self.body(r, &VARIABLES[..count])))
     }
 
+    /// A line that relabels at random, or takes an object from one relation to another.
     fn next_line(&self, r: &mut Random) -> String {
         let count = r.pick(&[1, 1, 1, 2, 2, 3]);
-        let body = self.body(r, &VARIABLES[..count]);
-        let least = r.pick(&[0, 1, 1]);
-        format!("(next x {} {}{})", self.list(r, least, 2), self.list(r, 0, 2), joined(&body))
+        if r.chance(40) {
+            let body = self.body(r, &VARIABLES[..count]);
+            return format!("(next x {} {}{})", self.list(r, 0, 2), self.list(r, 0, 2), joined(&body));
+        }
+        let (from, to) = (r.pick(&self.states), r.pick(&self.states));
+        let left = if r.chance(60) { from } else { "" };
+        let helpers = self.body(r, &VARIABLES[1..count]);
+        format!("(next x ({to}) ({left}) ({from} x){})", joined(&helpers))
     }
 
     fn clause(&self, r: &mut Random) -> Option<String> {

@@ -4,7 +4,7 @@ use crate::calls::Answer;
 use crate::damage;
 use crate::guess;
 use crate::guided;
-use crate::meaning::{Action, Clause, Model};
+use crate::meaning::{sessions, Action, Clause, Model};
 use crate::playing::play_on;
 use crate::random::{model, Random, Shape};
 use crate::report::Report;
@@ -13,9 +13,9 @@ use crate::subject::{fresh, Subject};
 use std::collections::BTreeSet;
 
 /// How many models are tried.
-const MODELS: u64 = 600;
+const MODELS: u64 = 500;
 /// How many larger models are tried.
-const LARGE_MODELS: u64 = 50;
+const LARGE_MODELS: u64 = 30;
 /// The most objects that the plain search takes.
 const OBJECTS: usize = 8;
 /// The most sessions that the plain search looks at.
@@ -89,11 +89,20 @@ fn replay_both_ways(report: &mut Report, subject: &Subject, run: &[u32]) {
     report.check(agree, || format!("whole {whole:?}, place by place {broken:?}: {run:?} in\n{}", subject.show()));
 }
 
+/// Whether a run changes the carried object after it was met first.
+fn moves_carried(m: &Model, run: &[u32]) -> bool {
+    let all = sessions(m, run);
+    all.windows(2).any(|pair| pair[0].carried.is_some_and(|o| pair[0].db[o] != pair[1].db[o]))
+}
+
 /// Replays a shown run, the run damaged in one place, and plays it on.
 fn runs(report: &mut Report, r: &mut Random, subject: &Subject, m: &Model, run: &[u32]) {
     let kept = subject.replay(report, run) == Answer::Kept;
     report.check(kept, || format!("the shown run is not kept: {run:?} in\n{}", subject.show()));
     replay_both_ways(report, subject, run);
+    if moves_carried(m, run) {
+        report.cover("shown runs that change the carried object between stages");
+    }
     for i in 0..12 {
         let damaged = damage::run(r, run);
         if i % 4 == 0 {
@@ -148,16 +157,13 @@ fn shape(r: &mut Random, large: bool) -> Shape {
     if large {
         return Shape { states: 5, relations: 6, clauses: 20, stages: 4 };
     }
-    Shape { states: r.pick(&[1, 2, 3, 3]), relations: 3, clauses: 4 + r.below(10), stages: r.pick(&[1, 2, 3, 4]) }
+    Shape { states: r.pick(&[1, 2, 2, 3, 3, 3]), relations: 3, clauses: 4 + r.below(10), stages: r.pick(&[1, 2, 3, 4]) }
 }
 
 /// One seeded model: the verdict, the states, the shown run.
 fn seeded(report: &mut Report, r: &mut Random, large: bool) -> String {
     let shape = shape(r, large);
-    let mut text = model(r, shape);
-    if r.chance(65) {
-        text = guided::asked(r, &text);
-    }
+    let text = if r.chance(60) { guided::model(r, shape) } else { model(r, shape) };
     let subject = Subject::new(text.as_bytes());
     let a = subject.analyze(report);
     let Ok(m) = &subject.read else {
