@@ -118,17 +118,14 @@ fn errors_of_readers(report: &mut Report) {
     verdict(report, &format!("{pairs}(rule (E x y) (B x) (A y))\n(ask ((T x x) (A x)))\n"), true, &[1, 2]);
 }
 
-/// Facts handed from the last declared relation to the first, by rules in the opposite order, so that each waits for the next.
+/// Facts handed from the last declared relation to the first and on from there, by rules in the opposite order, so that each waits for the next.
 fn handed_down(report: &mut Report) {
-    let relations = ["N", "P", "Q", "R", "S", "T"];
-    let arities = [0, 1, 1, 2, 2, 2];
-    let heads = ["(N)", "(P x)", "(Q x)", "(R x y)", "(S x y)", "(T x y)"];
-    let bodies = ["(P x)", "(Q x)", "(R x y)", "(S y x)", "(T y x)", "(A x) (B y)"];
-    let mut text = String::from(AB);
-    text.extend(relations.iter().zip(arities).map(|(name, arity)| format!("(rel {name} {arity})\n")));
-    text.extend(heads.iter().zip(bodies).map(|(head, body)| format!("(rule {head} {body})\n")));
-    verdict(report, &format!("{text}(new (A B))\n(ask ((N)))\n"), true, &[3]);
+    let relations = "(rel N 0)\n(rel L 1)\n(rel P 1)\n(rel Q 1)\n(rel R 2)\n(rel S 2)\n(rel T 2)\n";
+    let rules = "(rule (L x) (N) (B x))\n(rule (N) (P x))\n(rule (P x) (Q x))\n(rule (Q x) (R x y))\n(rule (R x y) (S y x))\n(rule (S x y) (T y x))\n(rule (T x y) (A x) (B y))\n";
+    let text = format!("{AB}{relations}{rules}");
+    verdict(report, &format!("{text}(new (A B))\n(ask ((L x)))\n"), true, &[3]);
     verdict(report, &format!("{text}(new (A))\n(new (B))\n(ask ((N)))\n"), true, &[1, 2]);
+    verdict(report, &format!("{text}(new (A))\n(new (B))\n(ask ((L x) (B x)))\n"), true, &[1, 2]);
     verdict(report, &format!("{text}(new (A))\n(new (B))\n(ask ((Q x) (B x)))\n"), false, &[1, 2]);
     verdict(report, &format!("{text}(new (A))\n(new (B))\n(ask ((Q x) (A x)))\n"), true, &[1, 2]);
 }
