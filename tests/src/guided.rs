@@ -142,7 +142,7 @@ fn has_variable(literal: &str, variable: &str) -> bool {
     literal.contains(&format!(" {variable})")) || literal.contains(&format!(" {variable} "))
 }
 
-/// The stages with two of them changed for each other, or with one literal turned.
+/// Changes two stages for each other, drops a `not`, or puts one variable for another.
 fn near_miss(r: &mut Random, stages: &mut [String]) {
     if stages.len() > 1 && r.chance(50) {
         let i = r.below(stages.len() - 1);
@@ -152,7 +152,7 @@ fn near_miss(r: &mut Random, stages: &mut [String]) {
     let i = r.below(stages.len());
     stages[i] = match r.below(3) {
         0 => stages[i].replacen("(not (", "(", 1).replacen("))", ")", 1),
-        1 => stages[i].replacen('b', "a", 9),
+        1 => stages[i].replace('b', "a"),
         _ => stages[i].replacen('a', "b", 1),
     };
 }
