@@ -13,7 +13,7 @@ use std::fs;
 use std::process::{Command, Stdio};
 
 /// A stock engine is given up after so many seconds.
-const PATIENCE: u32 = 120;
+const PATIENCE: u32 = 20;
 
 /// The seconds of the best of three calls, or of one that takes long.
 fn best<T>(mut call: impl FnMut() -> T) -> (f64, T) {
