@@ -1,11 +1,11 @@
-/* Tumreslo's calls for C: the analysis of an EON text, the replay of a run, and the replay one place at a time.
+/* Tumreslo's calls for C: the analysis of an EON text, the replay of a run, the replay one place at a time, and the accepted lines.
  *
  * The library is written by `rt staticlib exports` as target/staticlib/libexports.a.
  *
  * A buffer is passed as a pointer and its number of elements. Buffers must not overlap, and a pointer must not be null,
  * not even where the number of elements is 0.
  *
- * Each call returns kind * 2^32 + value:
+ * Each call but the last returns kind * 2^32 + value:
  *
  *   kind 0  unreached                value 0
  *   kind 1  reached                  value: the number n of places of the run shown
@@ -63,6 +63,10 @@ uint64_t eon_replay(const uint8_t *text, size_t bytes, const uint32_t *run, size
  * the carried object (255 for none), and the number of places kept. The state before the first place has 255 for the carried object and 0 in
  * every other cell. It is updated if the place is kept, and left as it was after every other answer. */
 uint64_t eon_place(const uint8_t *text, size_t bytes, uint32_t *session, uint32_t place, uint8_t *work, size_t work_bytes);
+
+/* Clause i of an accepted text, from 0: its line * 4, and 1 for a rule, 2 for a `new` line, 3 for a `next` line. 0 where the text has no such clause,
+ * or is refused. */
+uint64_t eon_line(const uint8_t *text, size_t bytes, size_t i);
 
 #ifdef __cplusplus
 }

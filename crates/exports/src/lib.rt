@@ -5,6 +5,8 @@ ghost use mathlib.Core.Path.{_≡_};
 ghost use Prim.Native.Nat.{_+_, _≤_, _<_};
 ghost use lib.ListN.{length};
 ghost use lib.Seq.{paste};
+ghost use Rattle.grammar.specs.Texts.{outcome};
+ghost use Rattle.lines.specs.Lines.{lineAt};
 ghost use Rattle.exports.specs.Codes.{refusal as refusalCode, coded as codeOf, replied as replyCode};
 ghost use Rattle.exports.specs.Cells.{lastNumber, table as tableOf, stateOf, cellsOf};
 ghost use Rattle.exports.specs.Calls.{Analyzed, Replayed, Placed};
@@ -151,4 +153,12 @@ pub extern "C" fn eon_place(
     *session = left;
     let answer = reply.answer;
     replied(answer)
+}
+
+// The line of clause i of an accepted text, and what stands on it.
+#[no_mangle]
+pub extern "C" fn eon_line(text: &[u8], i: usize) -> u64
+    ensures { λ r. ⌜ r ≡ lineAt (outcome (now (text .entry))) i ⌝ }
+{
+    lines::line(text, i)
 }
