@@ -4,6 +4,7 @@ use libc::STDOUT_FILENO;
 use model::Model;
 use verdict::Analysis;
 use verdict::Answer;
+use wipe::WORK;
 ghost use Prim.Native.Nat.{_≤_};
 ghost use lib.ListN.{length, take};
 ghost use Rattle.io.specs.Counts.{Counts};
@@ -14,9 +15,7 @@ ghost use Rattle.eon.specs.Output.{Front, Ready, Shows, Output};
 // One byte more than a text may have, so that a longer one is refused by its first bytes.
 const TEXT: usize = 16_385;
 
-// The sizes of the work area and of the run table.
-const WORK: usize = 32_768;
-
+// The places of the run table.
 const RUN: usize = 8_640;
 
 // How many bytes were read, or that reading failed.
