@@ -3,6 +3,7 @@
 extern "C" {
     fn eon_analyze(text: *const u8, bytes: usize, work: *mut u8, area: usize, run: *mut u32, places: usize, out: *mut [u32; 129]) -> u64;
     fn eon_replay(text: *const u8, bytes: usize, run: *const u32, places: usize, work: *mut u8, area: usize) -> u64;
+    fn eon_line(text: *const u8, bytes: usize, i: usize) -> u64;
     fn eon_place(text: *const u8, bytes: usize, session: *mut Lent, place: u32, work: *mut u8, area: usize) -> u64;
 }
 
@@ -141,4 +142,9 @@ pub fn place(text: &[u8], lent: &mut Lent, place: u32, work: usize) -> Replay {
     let code = unsafe { eon_place(text.as_ptr(), text.len(), lent, place, area.pointer(), work) };
     let answer = Answer::decode(code);
     Replay { answer, area: area.is_right(&answer) }
+}
+
+/// The line of clause i and its kind, as one number.
+pub fn line(text: &[u8], i: usize) -> u64 {
+    unsafe { eon_line(text.as_ptr(), text.len(), i) }
 }

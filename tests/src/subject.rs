@@ -1,7 +1,7 @@
 //! A text under test: each call on it is compared with the plain reader and the plain meaning.
 
 use crate::calls::{self, Analysis, Answer, Lent, RUN, WORK};
-use crate::meaning::{broken_at, Model, Place, Session};
+use crate::meaning::{broken_at, Action, Clause, Model, Place, Session};
 use crate::reader::{self, Outcome};
 use crate::report::Report;
 
@@ -36,8 +36,19 @@ impl Subject {
         row.or(self.read.as_ref().err().copied())
     }
 
-    /// Analyzes the text with buffers that are large enough.
+    /// Compares the accepted lines, and one behind them, with the plain reader's.
+    fn lines(&self, report: &mut Report) {
+        let clauses: &[Clause] = self.read.as_ref().map_or(&[], |m| &m.clauses);
+        for i in 0..=clauses.len() {
+            let wanted = clauses.get(i).map_or(0, line_and_kind);
+            let given = calls::line(&self.text, i);
+            report.check(given == wanted, || format!("clause {i} is {given}, not {wanted}:\n{}", self.show()));
+        }
+    }
+
+    /// Analyzes the text with buffers that are large enough, and looks at its accepted lines.
     pub fn analyze(&self, report: &mut Report) -> Analysis {
+        self.lines(report);
         self.analyze_with(report, WORK + 9, RUN + 5)
     }
 
@@ -127,6 +138,16 @@ fn covered(answer: &Answer) -> String {
         Answer::Broken(_) => "broken".into(),
         Answer::Unknown(code) => format!("unknown {code}"),
     }
+}
+
+/// Line × 4, and 1 for a rule, 2 for a `new` line, 3 for a `next` line.
+fn line_and_kind(clause: &Clause) -> u64 {
+    let kind = match clause.action {
+        Action::Rule(..) => 1,
+        Action::New(..) => 2,
+        Action::Next(..) => 3,
+    };
+    u64::from(clause.line) * 4 + kind
 }
 
 /// A state before the first place.
