@@ -16,10 +16,10 @@ ghost use Rattle.semantics.specs.Tables.{Shows};
 ghost use Rattle.model.specs.Places.{numberOf};
 ghost use Rattle.model.specs.Records.{upFrom, bodyAt, numberIn, stageBody, stageAt};
 ghost use Rattle.table.specs.Table.{tableOf, Consistent, Rows};
-ghost use Rattle.levels.specs.Choices.{chosen};
+ghost use Rattle.levels.specs.Choices.{chosen, Own};
 ghost use Rattle.bodies.specs.Bodies.{Fixed};
 ghost use Rattle.states.specs.States.{row};
-ghost use Rattle.shows.specs.Shows.{Own, Evaluable};
+ghost use Rattle.shows.specs.Shows.{Evaluable};
 ghost use Rattle.entries.specs.Entries.{entryOf};
 ghost use Rattle.legs.specs.Legs.{Known, Meetable, Spots, meeting, standing, effort, Leg};
 
@@ -48,7 +48,7 @@ fn choice(
     part: Part,
     fixed: Choice,
 ) -> Choice
-    requires { ⌜ Consistent (now work) × Own (now slots) × (n ≤ 128) × Evaluable (now literals) part × ((S : List ℕ) × Rows S (now work) × (length S ≡ n) × ((σ : ℕ → ℕ) × Shows S (tableOf (now work)) σ (bodyAt (now literals) (part .first) (part .count)) × Fixed (part .variables) fixed σ)) ⌝ }
+    requires { ⌜ Consistent (now work) × Own 128 (now slots) × (n ≤ 128) × Evaluable (now literals) part × ((S : List ℕ) × Rows S (now work) × (length S ≡ n) × ((σ : ℕ → ℕ) × Shows S (tableOf (now work)) σ (bodyAt (now literals) (part .first) (part .count)) × Fixed (part .variables) fixed σ)) ⌝ }
     ensures { λ r. ⌜ ((S : List ℕ) → Rows S (now (work .entry)) → length S ≡ n → Shows S (tableOf (now (work .entry))) (chosen r) (bodyAt (now (literals .entry)) (part .first) (part .count)) × Fixed (part .variables) fixed (chosen r)) ⌝ }
 {
     let first = part.first;
@@ -96,7 +96,7 @@ fn number(k: usize, n: usize, c: Choice) -> u32
 
 // A choice of found states, with the fixed ones, that meets stage k + 1.
 fn choose(work: &[u8], slots: &[u8], m: Model, s: States, k: usize, fixed: Choice) -> Choice
-    requires { ⌜ Known m (now work) s × Own (now slots) × (k < m .stagecount) × ((σ : ℕ → ℕ) × Shows (row s) (tableOf (now work)) σ (stageBody (m .literals) (stageAt m k)) × Fixed (stageAt m k .variables) fixed σ) ⌝ }
+    requires { ⌜ Known m (now work) s × Own 128 (now slots) × (k < m .stagecount) × ((σ : ℕ → ℕ) × Shows (row s) (tableOf (now work)) σ (stageBody (m .literals) (stageAt m k)) × Fixed (stageAt m k .variables) fixed σ) ⌝ }
     ensures { λ r. ⌜ Shows (row s) (tableOf (now (work .entry))) (chosen r) (stageBody (m .literals) (stageAt m k)) × Fixed (stageAt m k .variables) fixed (chosen r) ⌝ }
 {
     let stage = m.stages[k];
@@ -118,7 +118,7 @@ fn meet_without(
     k: usize,
     at: usize,
 ) -> usize
-    requires { ⌜ Known m (now work) s × Own (now slots) × (k < m .stagecount) × ((y : ℕ) → y < stageAt m k .variables → numberIn (stageAt m k) y ≢ m .carried) × ((c d : Option ℕ) × Meetable m s k c d) × (at < length (now run)) ⌝ }
+    requires { ⌜ Known m (now work) s × Own 128 (now slots) × (k < m .stagecount) × ((y : ℕ) → y < stageAt m k .variables → numberIn (stageAt m k) y ≢ m .carried) × ((c d : Option ℕ) × Meetable m s k c d) × (at < length (now run)) ⌝ }
     ensures { λ r. ⌜ ((c d : Option ℕ) → Meetable m s k c d → Leg m (standing m s k c) (standing m s (suc k) d) (suc (effort (s .count) c d)) (now (run .entry)) at (now (run .exit)) r) ⌝ }
 {
     let stage = m.stages[k];
@@ -145,7 +145,7 @@ fn meet_with(
     slot: usize,
     at: usize,
 ) -> usize
-    requires { ⌜ Known m (now work) s × Own (now slots) × (k < m .stagecount) × (x < stageAt m k .variables) × (numberIn (stageAt m k) x ≡ m .carried) × (slot < s .count) × Meetable m s k (entryOf before) (some (getD (row s) slot 0)) × (at + s .count < length (now run)) ⌝ }
+    requires { ⌜ Known m (now work) s × Own 128 (now slots) × (k < m .stagecount) × (x < stageAt m k .variables) × (numberIn (stageAt m k) x ≡ m .carried) × (slot < s .count) × Meetable m s k (entryOf before) (some (getD (row s) slot 0)) × (at + s .count < length (now run)) ⌝ }
     ensures { λ r. ⌜ Leg m (standing m s k (entryOf before)) (standing m s (suc k) (some (getD (row s) slot 0))) (suc (effort (s .count) (entryOf before) (some (getD (row s) slot 0)))) (now (run .entry)) at (now (run .exit)) r ⌝ }
 {
     let stage = m.stages[k];
@@ -177,7 +177,7 @@ pub fn meet(
     after: u32,
     at: usize,
 ) -> usize
-    requires { ⌜ Known m (now work) s × Own (now slots) × (k < m .stagecount) × Meetable m s k (entryOf before) (entryOf after) × (at + s .count < length (now run)) ⌝ }
+    requires { ⌜ Known m (now work) s × Own 128 (now slots) × (k < m .stagecount) × Meetable m s k (entryOf before) (entryOf after) × (at + s .count < length (now run)) ⌝ }
     ensures { λ r. ⌜ Leg m (standing m s k (entryOf before)) (standing m s (suc k) (entryOf after)) (suc (effort (s .count) (entryOf before) (entryOf after))) (now (run .entry)) at (now (run .exit)) r ⌝ }
 {
     let stage = m.stages[k];

@@ -6,8 +6,9 @@ ghost use mathlib.Core.Path.{_≡_};
 ghost use Prim.Native.Nat.{_<_, _≤_};
 ghost use lib.ListN.{take};
 ghost use Rattle.model.specs.Records.{bodyAt, stageBody, numberIn};
+ghost use Rattle.levels.specs.Choices.{Own};
 ghost use Rattle.entries.specs.Entries.{Proper};
-ghost use Rattle.shows.specs.Shows.{Own, Evaluable};
+ghost use Rattle.shows.specs.Shows.{Evaluable};
 ghost use Rattle.moves.specs.Moves.{Over};
 ghost use Rattle.meetings.specs.Meetings.{PassesOn, HandedAt, Handed, MeetsFor, Meetable, Meeting};
 
@@ -46,7 +47,7 @@ fn meet_at(
     s: Carried,
     e: usize,
 ) -> Carried
-    requires { ⌜ Over (now work) (now states) n × Own (now slots) × Evaluable (now literals) part × (x < part .variables) × (k < 4) × Proper (s .levels) × (e < n) ⌝ }
+    requires { ⌜ Over (now work) (now states) n × Own 128 (now slots) × Evaluable (now literals) part × (x < part .variables) × (k < 4) × Proper (s .levels) × (e < n) ⌝ }
     ensures { λ r. ⌜ MeetsFor (now (work .entry)) (take n (now (states .entry))) k (bodyAt (now (literals .entry)) (part .first) (part .count)) x s r (HandedAt (now (work .entry)) (take n (now (states .entry))) k (bodyAt (now (literals .entry)) (part .first) (part .count)) x e) ⌝ }
 {
     if shows::at(work, slots, n, literals, part, x, e) {
@@ -67,7 +68,7 @@ fn meet_carried(
     k: usize,
     s: Carried,
 ) -> Carried
-    requires { ⌜ Over (now work) (now states) n × Own (now slots) × Evaluable (now literals) part × (x < part .variables) × (k < 4) × Proper (s .levels) ⌝ }
+    requires { ⌜ Over (now work) (now states) n × Own 128 (now slots) × Evaluable (now literals) part × (x < part .variables) × (k < 4) × Proper (s .levels) ⌝ }
     ensures { λ r. ⌜ MeetsFor (now (work .entry)) (take n (now (states .entry))) k (bodyAt (now (literals .entry)) (part .first) (part .count)) x s r (Handed (now (work .entry)) (take n (now (states .entry))) k (bodyAt (now (literals .entry)) (part .first) (part .count)) x) ⌝ }
 {
     let mut r = s;
@@ -92,7 +93,7 @@ pub fn meet(
     k: usize,
     s: Carried,
 ) -> Carried
-    requires { ⌜ Over (now work) (now states) n × Own (now slots) × Meetable (now literals) stage × (k < 4) × Proper (s .levels) ⌝ }
+    requires { ⌜ Over (now work) (now states) n × Own 128 (now slots) × Meetable (now literals) stage × (k < 4) × Proper (s .levels) ⌝ }
     ensures { λ r. ⌜ Meeting (now (work .entry)) (take n (now (states .entry))) k (stageBody (now (literals .entry)) stage) (numberIn stage) carried s r ⌝ }
 {
     let variables = stage.variables as usize;

@@ -8,8 +8,9 @@ ghost use Prim.Native.Nat.{_<_, _≤_};
 ghost use lib.ListN.{take};
 ghost use Rattle.semantics.specs.Models.{next};
 ghost use Rattle.model.specs.Records.{bodyAt, clauseLine};
+ghost use Rattle.levels.specs.Choices.{Own};
 ghost use Rattle.entries.specs.Entries.{Proper};
-ghost use Rattle.shows.specs.Shows.{Own, Evaluable};
+ghost use Rattle.shows.specs.Shows.{Evaluable};
 ghost use Rattle.reach.specs.Reach.{Takable};
 ghost use Rattle.moves.specs.Moves.{Over, KeepsAt, Keeps, Takes};
 
@@ -28,7 +29,7 @@ fn take_next_at(
     s: Carried,
     e: usize,
 ) -> Carried
-    requires { ⌜ Over (now work) (now states) n × Own (now slots) × Evaluable (now literals) part × (0 < part .variables) × (plus < 128) × (minus < 128) × (1 ≤ line) × (stages ≤ 4) × Proper (s .levels) × (e < n) ⌝ }
+    requires { ⌜ Over (now work) (now states) n × Own 128 (now slots) × Evaluable (now literals) part × (0 < part .variables) × (plus < 128) × (minus < 128) × (1 ≤ line) × (stages ≤ 4) × Proper (s .levels) × (e < n) ⌝ }
     ensures { λ r. ⌜ Takes (now (work .entry)) (take n (now (states .entry))) stages s line (next 0 plus minus (bodyAt (now (literals .entry)) (part .first) (part .count))) r (KeepsAt (now (work .entry)) (take n (now (states .entry))) stages plus minus (bodyAt (now (literals .entry)) (part .first) (part .count)) e) ⌝ }
 {
     if shows::at(work, slots, n, literals, part, 0, e) {
@@ -53,7 +54,7 @@ fn take_next(
     stages: usize,
     s: Carried,
 ) -> Carried
-    requires { ⌜ Over (now work) (now states) n × Own (now slots) × Evaluable (now literals) part × (0 < part .variables) × (plus < 128) × (minus < 128) × (1 ≤ line) × (stages ≤ 4) × Proper (s .levels) ⌝ }
+    requires { ⌜ Over (now work) (now states) n × Own 128 (now slots) × Evaluable (now literals) part × (0 < part .variables) × (plus < 128) × (minus < 128) × (1 ≤ line) × (stages ≤ 4) × Proper (s .levels) ⌝ }
     ensures { λ r. ⌜ Takes (now (work .entry)) (take n (now (states .entry))) stages s line (next 0 plus minus (bodyAt (now (literals .entry)) (part .first) (part .count))) r (Keeps (now (work .entry)) (take n (now (states .entry))) stages (next 0 plus minus (bodyAt (now (literals .entry)) (part .first) (part .count)))) ⌝ }
 {
     let mut r = s;
@@ -90,7 +91,7 @@ pub fn take(
     stages: usize,
     s: Carried,
 ) -> Carried
-    requires { ⌜ Over (now work) (now states) n × Own (now slots) × Takable (now literals) c × (1 ≤ c .line) × (stages ≤ 4) × Proper (s .levels) ⌝ }
+    requires { ⌜ Over (now work) (now states) n × Own 128 (now slots) × Takable (now literals) c × (1 ≤ c .line) × (stages ≤ 4) × Proper (s .levels) ⌝ }
     ensures { λ r. ⌜ Takes (now (work .entry)) (take n (now (states .entry))) stages s (c .line) (clauseLine (now (literals .entry)) c) r (Keeps (now (work .entry)) (take n (now (states .entry))) stages (clauseLine (now (literals .entry)) c)) ⌝ }
 {
     let part = Part {

@@ -7,8 +7,8 @@ ghost use mathlib.Core.Path.{_≡_};
 ghost use Prim.Native.Nat.{_≤_};
 ghost use lib.ListN.{take};
 ghost use Rattle.model.specs.WellFormed.{WellFormed};
+ghost use Rattle.levels.specs.Choices.{Own};
 ghost use Rattle.entries.specs.Entries.{Proper};
-ghost use Rattle.shows.specs.Shows.{Own};
 ghost use Rattle.moves.specs.Moves.{Over};
 ghost use Rattle.reachable.specs.Reachable.{Reaches};
 ghost use Rattle.passes.specs.Passes.{TakesClauses, MeetsStages, Fills};
@@ -22,7 +22,7 @@ fn take_clauses(
     m: Model,
     s: Carried,
 ) -> Carried
-    requires { ⌜ WellFormed m × Over (now work) (now states) n × Own (now slots) × Proper (s .levels) ⌝ }
+    requires { ⌜ WellFormed m × Over (now work) (now states) n × Own 128 (now slots) × Proper (s .levels) ⌝ }
     ensures { λ r. ⌜ TakesClauses m (now (work .entry)) (take n (now (states .entry))) s (m .clausecount) r ⌝ }
 {
     let mut r = s;
@@ -38,7 +38,7 @@ fn take_clauses(
 
 // Meets every stage once.
 fn meet_stages(work: &[u8], slots: &[u8], states: &[u32], n: usize, m: Model, s: Carried) -> Carried
-    requires { ⌜ WellFormed m × Over (now work) (now states) n × Own (now slots) × Proper (s .levels) ⌝ }
+    requires { ⌜ WellFormed m × Over (now work) (now states) n × Own 128 (now slots) × Proper (s .levels) ⌝ }
     ensures { λ r. ⌜ MeetsStages m (now (work .entry)) (take n (now (states .entry))) s (m .stagecount) r ⌝ }
 {
     let mut r = s;
@@ -57,7 +57,7 @@ pub fn fill(work: &[u8], m: Model, found: States) -> Levels
     requires { ⌜ WellFormed m × Reaches m (now work) found ⌝ }
     ensures { λ r. ⌜ Fills m (now (work .entry)) found r ⌝ }
 {
-    let slots = shows::slots();
+    let slots = levels::slots();
     let n = found.count;
     let mut levels = entries::start();
     loop {

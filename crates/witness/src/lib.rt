@@ -13,7 +13,7 @@ pub fn witness(run: &mut [u32], work: &[u8], m: Model, s: States, l: Levels) -> 
     requires { ⌜ Recorded m (now work) s l × (0 < count l (m .stagecount)) × (8640 ≤ length (now run)) ⌝ }
     ensures { λ r. ⌜ Shown m (now (run .entry)) (now (run .exit)) r ⌝ }
 {
-    let slots = shows::slots();
+    let slots = levels::slots();
     let n = walk::walk(run, work, &slots, m, s, l, 0);
     let r = lineage::build(run, m, s, n);
     runs::turn(run, r);

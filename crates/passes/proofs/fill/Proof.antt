@@ -1,6 +1,6 @@
 use mathlib.Core.Path.{_≡_, refl, sym}
 use borrow.Author.Tests.{not-true, not-false}
-use Rattle.shows.specs.Shows.{Own}
+use Rattle.levels.specs.Choices.{Own}
 use Rattle.entries.specs.Entries.{spare}
 use Rattle.passes.proofs.Laws.{Standing, over, standing-begun, standing-more, less-left, fills}
 use borrow.Author.Needs.{needs}
@@ -8,7 +8,7 @@ use Rattle.passes.proofs.fill.Statement.{statement}
 use Rattle.passes.proofs.fill.Tie as tie
 
 abbrev Inv-loop : tie.InvT-loop
-Inv-loop work m found slots n levels₀ levels = Own slots × (n ≡ found .count) × Standing m work found levels
+Inv-loop work m found slots n levels₀ levels = Own 128 slots × (n ≡ found .count) × Standing m work found levels
 
 abbrev μ-loop : tie.MeasureT-loop
 μ-loop work m found slots n levels₀ levels = spare (levels .counts)
