@@ -120,7 +120,7 @@ fn office_block() -> String {
         )
         .unwrap();
     }
-    t.push_str("(ask ((P x y) (A x)) ((Q x z) (B z)) ((R x y)) ((S x w) (not (A x)) (U w x)))\n");
+    t.push_str("(ask ((P x y) (A x)) ((Q x z) (B z)) ((R x v)) ((S x w) (not (A x)) (U w x)))\n");
     t
 }
 
