@@ -187,18 +187,23 @@ fn tangle(n: usize, shift: usize, pairs: &[&str]) -> String {
 }
 
 /// Six full pair relations over 127 states, and rules of eight literals and three variables over them.
-fn six_full() -> String {
+fn six_full(find: impl Fn(&mut String)) -> String {
     let mut t = declared(&["O"], &PAIRS);
-    all_states(&mut t);
-    every(&mut t, "O");
+    find(&mut t);
+    full_relations(&mut t, 43);
+    t.push_str("(ask ((P x y) (Q y z) (R z x)))\n");
+    t
+}
+
+/// Lines that fill the six pair relations, and so many rules of eight literals over them.
+fn full_relations(t: &mut String, rules: usize) {
+    every(t, "O");
     for p in PAIRS {
         writeln!(t, "(rule ({p} x y) (O x) (O y))").unwrap();
     }
-    for i in 0..43 {
+    for i in 0..rules {
         writeln!(t, "(rule ({} x y){})", PAIRS[i % 6], tangle(8, i, &PAIRS)).unwrap();
     }
-    t.push_str("(ask ((P x y) (Q y z) (R z x)))\n");
-    t
 }
 
 /// Lines that make pair relations between states that are alike in one relation, or between those that are not.
@@ -226,43 +231,15 @@ fn no_triangle(i: usize) -> String {
 }
 
 /// Half-full pair relations, and rules of eight literals and three variables that never hold.
-fn never() -> String {
+fn never(find: impl Fn(&mut String)) -> String {
     let mut t = declared(&["O"], &PAIRS);
-    all_states(&mut t);
+    find(&mut t);
     every(&mut t, "O");
     halves(&mut t, &["Q", "R", "S"], &["P", "T"]);
     for i in 0..39 {
         writeln!(t, "(rule (U x y){})", no_triangle(i)).unwrap();
     }
     t.push_str("(ask ((U x y)))\n");
-    t
-}
-
-/// The same, with the states found one at a time.
-fn never_slowly() -> String {
-    let mut t = declared(&["O"], &PAIRS);
-    counter(&mut t, true);
-    every(&mut t, "O");
-    halves(&mut t, &["Q", "R", "S"], &["P", "T"]);
-    for i in 0..39 {
-        writeln!(t, "(rule (U x y){})", no_triangle(i)).unwrap();
-    }
-    t.push_str("(ask ((U x y)))\n");
-    t
-}
-
-/// Six full pair relations, with the states found one at a time.
-fn six_full_slowly() -> String {
-    let mut t = declared(&["O"], &PAIRS);
-    counter(&mut t, true);
-    every(&mut t, "O");
-    for p in PAIRS {
-        writeln!(t, "(rule ({p} x y) (O x) (O y))").unwrap();
-    }
-    for i in 0..43 {
-        writeln!(t, "(rule ({} x y){})", PAIRS[i % 6], tangle(8, i, &PAIRS)).unwrap();
-    }
-    t.push_str("(ask ((P x y) (Q y z) (R z x)))\n");
     t
 }
 
@@ -334,13 +311,7 @@ fn longest_run() -> String {
 fn longest_run_full() -> String {
     let mut t = declared(&["O"], &PAIRS);
     cycle(&mut t, true);
-    every(&mut t, "O");
-    for p in PAIRS {
-        writeln!(t, "(rule ({p} x y) (O x) (O y))").unwrap();
-    }
-    for i in 0..42 {
-        writeln!(t, "(rule ({} x y){})", PAIRS[i % 6], tangle(8, i, &PAIRS)).unwrap();
-    }
+    full_relations(&mut t, 42);
     last_states(&mut t);
     t
 }
@@ -383,10 +354,10 @@ pub fn all() -> Vec<Text> {
         text("longest run, six full relations", longest_run_full()),
         text("one fact handed round", hand_round()),
         text("transitive closures", closures()),
-        text("six full relations", six_full()),
-        text("six full relations, slowly", six_full_slowly()),
-        text("never all three", never()),
-        text("never all three, slowly", never_slowly()),
+        text("six full relations", six_full(all_states)),
+        text("six full relations, slowly", six_full(|t| counter(t, true))),
+        text("never all three", never(all_states)),
+        text("never all three, slowly", never(|t| counter(t, true))),
         text("carried, one at a time", slow_levels()),
         text("longest text", longest_text()),
     ]
