@@ -65,7 +65,7 @@ fn column(time: Option<f64>) -> String {
 
 /// A ratio in a column.
 fn ratio(other: Option<f64>, own: f64) -> String {
-    other.map_or("-".to_string(), |t| format!("{:.2}", t / own))
+    other.map_or("-".to_string(), |t| format!("{:.3}", t / own))
 }
 
 /// A line of the table: what was timed, the product's time, and the others' with their ratios to it.
@@ -124,6 +124,6 @@ fn main() {
             }
         }
     }
-    println!("worst ratio {:.2}: {}", worst.0, worst.1.trim());
+    println!("worst ratio {:.3}: {}", worst.0, worst.1.trim());
     println!("slowest {}: {}", column(Some(slowest.0)), slowest.1);
 }
