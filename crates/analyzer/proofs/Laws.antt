@@ -1,5 +1,5 @@
 -- What is decided of the record of an accepted text is decided of its program and question.
-use mathlib.Core.Path.{_≡_, sym, subst}
+use mathlib.Core.Path.{_≡_}
 use mathlib.Core.List.{List}
 use Prim.Native.Nat.{ℕ}
 use Rattle.semantics.specs.Models.{Program, Question}

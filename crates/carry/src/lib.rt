@@ -1,6 +1,5 @@
 // Adding entries to the levels: the carried object is moved on its level, or a stage is met.
 use entries::Levels;
-ghost use mathlib.Core.Path.{_≡_};
 ghost use Prim.Native.Nat.{_<_, _≤_, _+_};
 ghost use Rattle.entries.specs.Entries.{Proper};
 ghost use Rattle.carry.specs.Carry.{FindsEntry, MovesAt, MovesTo, HandsOn};

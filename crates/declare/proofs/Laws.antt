@@ -1,9 +1,9 @@
 -- Laws of declarations.
-use mathlib.Core.Path.{_≡_, refl, sym, ap, _∙_}
+use mathlib.Core.Path.{_≡_, refl, sym, _∙_}
 use mathlib.Core.Logic.{_⊎_, ⊎-elim, inl, inr}
-use mathlib.Core.Bool.{Bool, true, false, cond, _&&_, _||_}
+use mathlib.Core.Bool.{Bool, true, false, cond, _&&_}
 use mathlib.Core.List.{List, [], _∷_, _++_}
-use mathlib.Core.Option.{Option, none, some}
+use mathlib.Core.Option.{none, some}
 use Prim.Native.Nat.{ℕ, zero, suc, _+_, _*_, _-_, _/_, _≤_, _<_}
 use native.Mathlib.Nat.{add-zero}
 use native.Mathlib.Numerals.{add-one}
@@ -20,7 +20,6 @@ use Rattle.grammar.specs.Declarations as grammar
 use Rattle.grammar.specs.Declarations.{lookup, count}
 use Rattle.grammar.specs.Rows.{lower, row, again, manyStates, manyRelations, fault}
 use Rattle.grammar.proofs.Tests.{either}
-use Rattle.grammar.proofs.Lower.{lower-first, lower-second, lower-under}
 use Rattle.scan.proofs.Laws.{next, nothing}
 use Rattle.names.specs.Names.{found, declaredOf, Valid, tally, added}
 use Rattle.names.specs.declared.Declared.{Declared}

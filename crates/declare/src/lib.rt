@@ -1,6 +1,6 @@
 // The declarations of the bracket text: `state` and `rel` lines after their first word.
 ghost use mathlib.Core.Path.{_≡_};
-ghost use Prim.Native.Nat.{ℕ, _+_, _≤_, _<_};
+ghost use Prim.Native.Nat.{_+_, _≤_, _<_};
 ghost use lib.ListN.{length, drop};
 ghost use lib.Seq.{slice};
 ghost use Rattle.grammar.specs.Shapes.{stateRest, relRest};

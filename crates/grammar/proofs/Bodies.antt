@@ -1,20 +1,13 @@
 -- Laws of bodies: one literal more, and variables that are numbered once.
-use mathlib.Core.Path.{_≡_, refl, sym, ap, _∙_, subst}
-use mathlib.Core.Logic.{⊎-elim}
-use mathlib.Core.Bool.{Bool, true, false, cond}
-use mathlib.Core.List.{List, [], _∷_, _++_, map, append-assoc, append-nil}
-use mathlib.Core.Option.{Option, none, some}
-use Prim.Native.Nat.{ℕ, zero, suc}
-use native.Mathlib.Omega.{arith}
-use lib.Dec.{eqb}
-use lib.ListN.{getD}
+use mathlib.Core.Path.{_≡_, refl, sym}
+use mathlib.Core.Bool.{true}
+use mathlib.Core.List.{List, [], _∷_, _++_, append-assoc, append-nil}
 use Rattle.semantics.specs.Models as meaning
-use Rattle.grammar.specs.Bytes.{Word, same}
-use Rattle.grammar.specs.Forms.{Atom, Literal, plain, negated}
-use Rattle.grammar.specs.Declarations.{isState, Declared, lookup, member, extend, place, variables, variablesOf, supports, supportsOf}
+use Rattle.grammar.specs.Bytes.{Word}
+use Rattle.grammar.specs.Forms.{Literal, plain, negated}
+use Rattle.grammar.specs.Declarations.{Declared, member, extend, variables, variablesOf, supports, supportsOf}
 use Rattle.grammar.specs.Rows.{lower, literalFault, bodyFault}
-use Rattle.grammar.specs.Models.{codeOf, numbers, literalOf, bodyOf}
-use Rattle.grammar.proofs.Tests.{either}
+use Rattle.grammar.specs.Models.{numbers, literalOf, bodyOf}
 use Rattle.grammar.proofs.Lower.{lower-second, lower-assoc}
 use Rattle.grammar.proofs.Words.{member-left, member-right, member-cons, same-refl, place-extend}
 

@@ -4,10 +4,10 @@ use mathlib.Core.Bool.{Bool, true, _&&_}
 use mathlib.Core.List.{List, [], _∷_}
 use Prim.Native.Nat.{ℕ}
 use Prim.Native.String.{String}
-use lib.Dec.{eqb, leb, ltb}
-use Rattle.semantics.specs.Labels.{setOf, union}
+use lib.Dec.{eqb}
+use Rattle.semantics.specs.Labels.{setOf}
 use Rattle.semantics.specs.Models as meaning
-use Rattle.grammar.specs.Bytes.{bytes, lines, alphanumeric, allowed, isName}
+use Rattle.grammar.specs.Bytes.{bytes, alphanumeric, allowed, isName}
 use Rattle.grammar.specs.Shapes.{name, rest, bracket, atom, literal, list, body, stage, stateRest, relRest, ruleRest, newRest, nextRest, askRest, line, formOf}
 use Rattle.grammar.specs.Declarations.{lookup, count, extend, place, variables, supports, stands, allVariables}
 use Rattle.grammar.specs.Rows.{lower, listFault, bodyFault, stagesFault, fault}

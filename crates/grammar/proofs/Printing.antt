@@ -1,18 +1,18 @@
 -- THE PRINTER'S LAW: reading what is printed of a form gives the form back.
-use mathlib.Core.Path.{_≡_, refl, sym, ap, _∙_, subst}
-use mathlib.Core.Logic.{_⊎_, inl, inr, ⊎-elim}
-use mathlib.Core.Bool.{Bool, true, false, cond, not, _&&_, _||_, false≢true}
+use mathlib.Core.Path.{_≡_, refl, sym, subst}
+use mathlib.Core.Logic.{_⊎_, ⊎-elim}
+use mathlib.Core.Bool.{Bool, true, false, not, _&&_}
 use mathlib.Core.List.{List, [], _∷_, _++_, append-assoc, append-nil}
-use mathlib.Core.Option.{Option, none, some}
+use mathlib.Core.Option.{none, some}
 use Prim.Native.Nat.{ℕ, zero, suc, _+_, _-_, _≤_}
 use native.Mathlib.Nat.{not-suc-le-zero, le-of-suc-le-suc}
 use native.Mathlib.Omega.{arith}
 use lib.Dec.{eqb, leb, ltb}
 use lib.ListN.{length, length-append}
 use borrow.Author.Tests.{eqb-true, ne-eqb, leb-true, le-leb}
-use Rattle.grammar.specs.Bytes.{bytes, letter, digit, alphanumeric, every, Word, same, isName}
+use Rattle.grammar.specs.Bytes.{bytes, letter, alphanumeric, every, Word, same, isName}
 use Rattle.grammar.specs.Forms.{Atom, Literal, plain, negated, Form, stateForm, relForm, ruleForm, newForm, nextForm, askForm, printRest, printBracket, printWord, printAtom, printLiteral, print, all, properAtom, properLiteral, properList, properBody, properStage, proper}
-use Rattle.grammar.specs.Shapes.{Read, after, word, afterWord, name, whether, rest, bracket, atom, literal, list, body, stage, arity, stateRest, relRest, ruleRest, newRest, nextRest, askRest, line, whole, formOf}
+use Rattle.grammar.specs.Shapes.{Read, after, word, afterWord, name, rest, bracket, atom, literal, list, body, stage, arity, stateRest, relRest, ruleRest, newRest, nextRest, askRest, line, formOf}
 use Rattle.grammar.proofs.Tests.{either, clash, and-left, and-right, not-true, eqb-same}
 
 -- the bytes begin with none that belongs to a word

@@ -2,8 +2,8 @@
 use mathlib.Core.Path.{_≡_, refl, sym, ap, _∙_, subst}
 use mathlib.Core.Logic.{⊎-elim}
 use mathlib.Core.Bool.{Bool, true, false, cond, _&&_, _||_, or-assoc, or-false, and-assoc, and-true}
-use mathlib.Core.List.{List, [], _∷_, _++_, map, append-assoc, append-nil}
-use Prim.Native.Nat.{ℕ, suc, _+_, _≤_, _<_}
+use mathlib.Core.List.{List, [], _∷_, _++_, map}
+use Prim.Native.Nat.{suc, _+_, _≤_, _<_}
 use native.Mathlib.Nat.{zero-add, add-zero, suc-add}
 use native.Mathlib.Omega.{arith}
 use lib.Dec.{eqb}

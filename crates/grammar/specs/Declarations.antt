@@ -1,10 +1,9 @@
 -- DECLARATIONS: the declared relations and their codes, and the variables of a line.
-use mathlib.Core.Bool.{Bool, true, false, cond, _||_}
+use mathlib.Core.Bool.{Bool, false, cond, _||_}
 use mathlib.Core.List.{List, [], _∷_, _++_}
 use mathlib.Core.Option.{Option, none, some}
 use Prim.Native.Nat.{ℕ, suc, _+_, _*_, _/_, _-_}
 use lib.Dec.{eqb, ltb}
-use lib.ListN.{length}
 use Rattle.grammar.specs.Bytes.{Word, same}
 use Rattle.grammar.specs.Forms.{Literal, plain, negated}
 

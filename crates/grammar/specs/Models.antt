@@ -7,7 +7,7 @@ use lib.ListN.{getD}
 use Rattle.semantics.specs.Labels.{setOf}
 use Rattle.semantics.specs.Models as meaning
 use Rattle.grammar.specs.Bytes.{Word}
-use Rattle.grammar.specs.Forms.{Atom, Literal, plain, negated, Form, stateForm, relForm, ruleForm, newForm, nextForm, askForm}
+use Rattle.grammar.specs.Forms.{Literal, plain, negated, Form, stateForm, relForm, ruleForm, newForm, nextForm, askForm}
 use Rattle.grammar.specs.Declarations.{isState, Declared, lookup, stateCode, relCode, extend, place, variables, allVariables}
 
 -- the declarations after the line

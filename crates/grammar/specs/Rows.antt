@@ -2,11 +2,11 @@
 use mathlib.Core.Bool.{Bool, true, false, cond, not, _&&_, _||_}
 use mathlib.Core.List.{List, [], _∷_, _++_}
 use mathlib.Core.Option.{Option, none, some}
-use Prim.Native.Nat.{ℕ, zero, suc, _+_, min}
-use lib.Dec.{eqb, leb, ltb}
+use Prim.Native.Nat.{ℕ, _+_, min}
+use lib.Dec.{eqb, leb}
 use lib.ListN.{length}
-use Rattle.grammar.specs.Bytes.{Word, same}
-use Rattle.grammar.specs.Forms.{Atom, Literal, plain, negated, Form, stateForm, relForm, ruleForm, newForm, nextForm, askForm, all}
+use Rattle.grammar.specs.Bytes.{Word}
+use Rattle.grammar.specs.Forms.{Literal, plain, negated, Form, stateForm, relForm, ruleForm, newForm, nextForm, askForm, all}
 use Rattle.grammar.specs.Declarations.{isState, arityOf, Declared, lookup, count, member, extend, variables, supports, stands, allVariables}
 
 -- the lower of two numbers, 0 standing for none

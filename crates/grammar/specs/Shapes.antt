@@ -1,5 +1,5 @@
 -- SHAPES: reading a line as a form (row 3). Each reader takes what it reads from the front of a list of bytes, and gives that and the bytes left.
-use mathlib.Core.Bool.{Bool, true, false, cond}
+use mathlib.Core.Bool.{cond}
 use mathlib.Core.List.{List, [], _∷_}
 use mathlib.Core.Option.{Option, none, some}
 use Prim.Native.Nat.{ℕ, zero, suc, _-_}

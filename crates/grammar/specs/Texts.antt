@@ -1,5 +1,5 @@
 -- TEXTS: what the table answers to a text, line by line.
-use mathlib.Core.Bool.{Bool, true, false, cond, not, _||_}
+use mathlib.Core.Bool.{cond, _||_}
 use mathlib.Core.List.{List, [], _∷_, _++_}
 use mathlib.Core.Option.{Option, none, some}
 use Prim.Native.Nat.{ℕ, suc}
@@ -7,7 +7,7 @@ use lib.Dec.{eqb, ltb}
 use lib.ListN.{length}
 use Rattle.semantics.specs.Models.{Program, Question}
 use Rattle.grammar.specs.Bytes.{every, allowed, Line, ended, unended, lines}
-use Rattle.grammar.specs.Forms.{Literal, Form, stateForm, relForm, ruleForm, newForm, nextForm, askForm}
+use Rattle.grammar.specs.Forms.{Form, stateForm, relForm, ruleForm, newForm, nextForm, askForm}
 use Rattle.grammar.specs.Shapes.{formOf}
 use Rattle.grammar.specs.Declarations.{Declared}
 use Rattle.grammar.specs.Rows.{fault}

@@ -1,6 +1,4 @@
 ghost use mathlib.Core.Path.{_≡_};
-ghost use mathlib.Core.Bool.{Bool, _||_, _&&_, not};
-ghost use Prim.Native.Nat.{ℕ};
 ghost use Rattle.semantics.specs.Labels.{has as member, relabel as relabeled};
 
 // Whether the atomic state has the relation.

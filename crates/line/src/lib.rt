@@ -1,11 +1,7 @@
 // One line of the bracket text that is no `ask` line.
-ghost use mathlib.Core.Path.{_≡_};
-ghost use mathlib.Core.List.{List};
-ghost use mathlib.Core.Option.{none};
-ghost use Prim.Native.Nat.{ℕ, _+_, _≤_, _<_};
-ghost use lib.ListN.{length, drop};
+ghost use Prim.Native.Nat.{_+_, _≤_, _<_};
+ghost use lib.ListN.{length};
 ghost use Rattle.semantics.specs.Models.{Program};
-ghost use Rattle.grammar.specs.Bytes.{bytes};
 ghost use Rattle.grammar.specs.Shapes.{Read};
 ghost use Rattle.grammar.specs.Forms.{Form};
 ghost use Rattle.names.specs.Names as names;

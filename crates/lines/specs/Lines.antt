@@ -1,6 +1,5 @@
 -- THE ACCEPTED LINES: on which line of the text a clause stands, and what it is.
 use mathlib.Core.Bool.{cond}
-use mathlib.Core.List.{List}
 use Prim.Native.Nat.{ℕ, _+_, _*_}
 use lib.Dec.{ltb}
 use lib.ListN.{length, getD}

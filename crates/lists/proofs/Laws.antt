@@ -1,25 +1,25 @@
 -- Laws of lists.
-use mathlib.Core.Path.{_≡_, refl, sym, ap, _∙_, subst}
+use mathlib.Core.Path.{_≡_, refl, sym, ap, _∙_}
 use mathlib.Core.Logic.{⊎-elim}
-use mathlib.Core.Bool.{Bool, true, false, cond, not, _||_, or-assoc}
+use mathlib.Core.Bool.{true, false, _||_, or-assoc}
 use mathlib.Core.List as seq
 use mathlib.Core.List.{[], _∷_, _++_, map, append-assoc, append-nil}
-use mathlib.Core.Option.{Option, none, some, Option·getD}
-use Prim.Native.Nat.{ℕ, zero, suc, _+_, _-_, _*_, _%_, _^_, _≤_, _<_}
+use mathlib.Core.Option.{none, some}
+use Prim.Native.Nat.{ℕ, _+_, _-_, _*_, _%_, _^_, _≤_, _<_}
 use native.Mathlib.Nat.{one-mul, mod-eq-of-lt}
 use native.Mathlib.Omega.{arith}
 use lib.Dec.{eqb}
-use lib.Bits.{bitOr, or-zero-r}
+use lib.Bits.{or-zero-r}
 use lib.ListN.{length, drop}
 use lib.Pow.{pow-lt}
 use lib.Seq.{slice}
-use borrow.Author.Tests.{eq-eqb, ne-eqb, lt-ltb, le-ltb}
-use Rattle.semantics.specs.Labels.{has, union, setOf}
+use borrow.Author.Tests.{ne-eqb, le-ltb}
+use Rattle.semantics.specs.Labels.{union, setOf}
 use Rattle.semantics.specs.Models.{elem}
 use Rattle.semantics.proofs.Sets.{has-union, has-ext, has-setOf}
 use Rattle.grammar.specs.Bytes.{bytes, Word}
 use Rattle.grammar.specs.Shapes.{after, name, rest, bracket, list}
-use Rattle.grammar.specs.Declarations.{isState, Declared, lookup}
+use Rattle.grammar.specs.Declarations.{Declared, lookup}
 use Rattle.grammar.specs.Rows.{lower, nameFault, listFault}
 use Rattle.grammar.specs.Models.{codeOf, codes}
 use Rattle.grammar.proofs.Lower.{lower-second, lower-assoc, lower-none}

@@ -1,6 +1,5 @@
 // The lists of state relations of `new` and `next` lines.
-ghost use mathlib.Core.Path.{_≡_};
-ghost use Prim.Native.Nat.{ℕ, _+_, _≤_, _<_};
+ghost use Prim.Native.Nat.{_+_, _≤_, _<_};
 ghost use lib.ListN.{length};
 ghost use Rattle.names.specs.Names as names;
 ghost use Rattle.lists.specs.Lists.{NameAdded, RestEnd, ListEnd};

@@ -2,8 +2,7 @@
 use carry::Carried;
 use model::Stage;
 use shows::Part;
-ghost use mathlib.Core.Path.{_≡_};
-ghost use Prim.Native.Nat.{_<_, _≤_};
+ghost use Prim.Native.Nat.{_<_};
 ghost use lib.ListN.{take};
 ghost use Rattle.model.specs.Records.{bodyAt, stageBody, numberIn};
 ghost use Rattle.levels.specs.Choices.{Own};

@@ -3,7 +3,6 @@ use carry::Carried;
 use model::Action;
 use model::Clause;
 use shows::Part;
-ghost use mathlib.Core.Path.{_≡_};
 ghost use Prim.Native.Nat.{_<_, _≤_};
 ghost use lib.ListN.{take};
 ghost use Rattle.semantics.specs.Models.{next};

@@ -3,8 +3,6 @@ use carry::Carried;
 use entries::Levels;
 use model::Model;
 use states::States;
-ghost use mathlib.Core.Path.{_≡_};
-ghost use Prim.Native.Nat.{_≤_};
 ghost use lib.ListN.{take};
 ghost use Rattle.model.specs.WellFormed.{WellFormed};
 ghost use Rattle.levels.specs.Choices.{Own};

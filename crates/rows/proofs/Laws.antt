@@ -1,7 +1,6 @@
 -- The numbers of rows 6 to 8 by cases.
 use mathlib.Core.Path.{_≡_}
 use Prim.Native.Nat.{ℕ, _≤_, _<_}
-use lib.Dec.{eqb}
 use borrow.Author.Tests.{eq-eqb, ne-eqb, lt-ltb, le-ltb}
 use Rattle.grammar.specs.Declarations.{arityOf}
 use Rattle.grammar.specs.Rows.{headFault, plainFault, negatedFault}

@@ -1,18 +1,18 @@
 -- Laws of places in a text, words and lines.
-use mathlib.Core.Path.{_≡_, refl, sym, ap, _∙_, subst}
+use mathlib.Core.Path.{_≡_, refl, sym, ap, _∙_}
 use mathlib.Core.Logic.{⊎-elim}
-use mathlib.Core.Bool.{Bool, true, false, cond, not, _&&_, _||_, and-true, and-false}
+use mathlib.Core.Bool.{Bool, true, false, not, _&&_, and-true, and-false}
 use mathlib.Core.List.{List, [], _∷_, _++_, append-nil, append-assoc}
-use mathlib.Core.Option.{Option, none, some}
+use mathlib.Core.Option.{none}
 use Prim.Native.Nat.{ℕ, zero, suc, _+_, _-_, _≤_, _<_}
 use native.Mathlib.Nat.{sub-zero, suc-sub-suc, le-of-suc-le-suc}
 use native.Mathlib.Numerals.{add-one}
 use native.Mathlib.Omega.{arith}
 use lib.Dec.{eqb, leb}
-use lib.ListN.{length, take, drop, getD, length-drop, length-take, drop-of-length-le}
+use lib.ListN.{length, take, drop, getD, length-drop, drop-of-length-le}
 use lib.Seq.{slice, slice-empty, slice-cons, length-slice, drop-cons, take-suc, length-take-le, drop-append-le, take-nil}
 use borrow.Author.Tests.{lt-leb, le-leb, eq-eqb, ne-eqb}
-use Rattle.grammar.specs.Bytes.{bytes, letter, digit, alphanumeric, allowed, every, Line, ended, unended, inFront, lines, Word, same, isName}
+use Rattle.grammar.specs.Bytes.{bytes, letter, alphanumeric, allowed, every, Line, ended, unended, inFront, lines, Word, same, isName}
 use Rattle.grammar.specs.Shapes.{after, word, afterWord, name}
 use Rattle.grammar.specs.Texts.{judge, bad}
 use Rattle.grammar.proofs.Tests.{either, clash, and-left, and-right, and-both, eqb-same}

@@ -3,10 +3,10 @@ use mathlib.Core.Path.{_≡_}
 use mathlib.Core.Bool.{Bool, true, false}
 use mathlib.Core.List.{List, [], _∷_}
 use mathlib.Core.Option.{none, some}
-use Prim.Native.Nat.{ℕ, suc, _+_, _≤_, _<_}
+use Prim.Native.Nat.{ℕ, _+_, _≤_, _<_}
 use lib.ListN.{length, drop}
 use lib.Seq.{slice}
-use Rattle.grammar.specs.Bytes.{alphanumeric, allowed, every, Line, ended, lines}
+use Rattle.grammar.specs.Bytes.{allowed, every, Line, ended, lines}
 use Rattle.grammar.specs.Shapes.{after, word, afterWord, name}
 use Rattle.grammar.specs.Texts.{judge, bad}
 

@@ -1,13 +1,13 @@
 -- Laws of the table of variables.
 use mathlib.Core.Path.{_≡_, refl, sym, ap, _∙_, subst}
 use mathlib.Core.Logic.{⊎-elim}
-use mathlib.Core.Bool.{Bool, true, false, cond, _&&_, _||_, or-false, or-true, and-true, and-false, and-assoc}
+use mathlib.Core.Bool.{Bool, true, false, cond, _&&_, or-false, or-true, and-true, and-false, and-assoc}
 use mathlib.Core.List.{List, [], _∷_, _++_}
 use Prim.Native.Nat.{ℕ, zero, suc, _+_, _-_, _≤_, _<_}
 use native.Mathlib.Nat.{add-zero}
 use native.Mathlib.Numerals.{add-one}
 use native.Mathlib.Omega.{arith}
-use lib.Dec.{eqb, ltb}
+use lib.Dec.{eqb}
 use lib.ListN.{length, take, drop, getD, set, length-set}
 use lib.Seq.{slice, getD-set-same, getD-set-other, ext-getD}
 use borrow.Author.Tests.{eqb-true, eqb-false, lt-ltb, le-ltb}
@@ -15,7 +15,7 @@ use Rattle.grammar.specs.Bytes.{Word, same}
 use Rattle.grammar.specs.Declarations.{member, extend, place}
 use Rattle.grammar.specs.Words.{Distinct, allMarked}
 use Rattle.grammar.proofs.Tests.{either, clash}
-use Rattle.grammar.proofs.Words.{same-eq, member-append, member-last, member-left, place-hit, place-miss, place-none, place-below, distinct-extend, marks, marks-new, marks-old, marks-append, among, marks-all}
+use Rattle.grammar.proofs.Words.{same-eq, member-append, member-last, member-left, place-hit, place-miss, place-none, place-below, marks, marks-new, marks-old, marks-append}
 use Rattle.scan.proofs.Laws.{slice-part}
 use Rattle.names.specs.Rows.{listOf}
 use Rattle.names.proofs.Laws.{listOf-same, length-listOf, getD-listOf}

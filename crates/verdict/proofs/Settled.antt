@@ -7,7 +7,7 @@ use Prim.Native.Nat.{ℕ, suc, _-_, _≤_, _<_}
 use native.Mathlib.Omega.{arith}
 use borrow.Author.Tests.{eqb-true}
 use lib.Dec.{eqb}
-use lib.ListN.{length, take, drop, getD, replicate, take-append-drop}
+use lib.ListN.{length, take, drop, replicate, take-append-drop}
 use lib.Seq.{length-take-le, getD-take}
 use Rattle.semantics.specs.Models.{elem, Program, Question}
 use Rattle.semantics.specs.Tables.{seat}

@@ -1,10 +1,9 @@
-use mathlib.Core.Path.{_≡_, refl, sym, _∙_}
+use mathlib.Core.Path.{refl, sym, _∙_}
 use mathlib.Core.Logic.{inr}
 use native.Mathlib.Omega.{arith}
 use denote.Ref.{now}
 use lib.Seq.{slice}
 use Rattle.grammar.specs.Shapes.{relRest}
-use Rattle.names.specs.Names.{declaredOf}
 use Rattle.declare.proofs.Laws.{room, unshaped, rel-few, rel-unclosed, rel-part, rel-faulty, rel-added}
 use borrow.Author.Needs.{needs}
 use Rattle.declare.proofs.read_rel.Statement.{statement}

@@ -1,9 +1,8 @@
-use mathlib.Core.Path.{_≡_, refl, sym, _∙_}
+use mathlib.Core.Path.{refl, sym, _∙_}
 use native.Mathlib.Omega.{arith}
 use denote.Ref.{now}
 use lib.Seq.{slice}
 use Rattle.grammar.specs.Shapes.{stateRest}
-use Rattle.names.specs.Names.{declaredOf}
 use Rattle.declare.proofs.Laws.{room, unshaped, state-part, state-faulty, state-added, state-few}
 use mathlib.Core.Logic.{inl}
 use borrow.Author.Needs.{needs}

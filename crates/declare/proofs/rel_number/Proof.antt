@@ -9,7 +9,6 @@ use borrow.Author.Tests.{ne-eqb, lt-leb}
 use Rattle.names.specs.Names.{declaredOf}
 use Rattle.names.proofs.Laws.{tally-count}
 use Rattle.declare.proofs.Laws.{tally-le, rel-crowded, rel-pairs, rel-free, rel-again}
-use borrow.Author.Needs.{needs}
 use Rattle.declare.proofs.rel_number.Statement.{statement}
 use Rattle.declare.proofs.rel_number.Tie as tie
 

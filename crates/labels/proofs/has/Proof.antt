@@ -1,5 +1,5 @@
 -- `labels::has` meets its contract: a masked shift is the bit, and a number of 32 bits has no bit from 32 up.
-use mathlib.Core.Path.{_≡_, sym, ap}
+use mathlib.Core.Path.{sym, ap}
 use Prim.Native.Nat.{ℕ, _^_, _/_}
 use native.Mathlib.Omega.{arith}
 use lib.Bits.{and-mask}

@@ -1,5 +1,4 @@
-use mathlib.Core.Path.{_≡_, sym, _∙_, subst}
-use Prim.Native.Nat.{ℕ}
+use mathlib.Core.Path.{sym, subst}
 use denote.Ref.{now}
 use Rattle.model.specs.declared.Model.{Model}
 use Rattle.line.specs.Lines.{Stepped}

@@ -1,6 +1,4 @@
-use mathlib.Core.Path.{_≡_, sym, _∙_, ap}
-use Prim.Native.Nat.{ℕ, _^_, _*_, _%_}
-use native.Mathlib.Omega.{arith}
+use mathlib.Core.Path.{_∙_, ap}
 use Rattle.semantics.specs.Labels.{union}
 use Rattle.lists.proofs.Laws.{state-added, other-added, bit-of}
 use lib.Bits.{bitOr}

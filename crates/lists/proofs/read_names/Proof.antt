@@ -1,7 +1,5 @@
-use mathlib.Core.Path.{_≡_}
-use Prim.Native.Nat.{ℕ, _-_, _≤_}
+use Prim.Native.Nat.{_-_}
 use native.Mathlib.Omega.{arith}
-use lib.ListN.{length}
 use Rattle.grammar.proofs.Reading.{reading-full, reading-ends, reading-fails}
 use Rattle.names.specs.Names.{declaredOf, Valid}
 use Rattle.lists.proofs.Laws.{NamesSo, names-start, names-more, names-closed, names-none}

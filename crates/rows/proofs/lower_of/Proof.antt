@@ -1,4 +1,4 @@
-use mathlib.Core.Path.{sym, _∙_}
+use mathlib.Core.Path.{sym}
 use native.Mathlib.Omega.{arith}
 use Rattle.grammar.proofs.Lower.{lower-first, lower-second, lower-both}
 use Rattle.rows.proofs.lower_of.Statement.{statement}

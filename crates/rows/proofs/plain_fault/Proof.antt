@@ -1,5 +1,5 @@
 use mathlib.Core.Path.{sym, _∙_}
-use borrow.Author.Tests.{lt-ltb, le-ltb, eq-eqb, ne-eqb}
+use borrow.Author.Tests.{eq-eqb}
 use Rattle.rows.proofs.Laws.{plain-right, plain-wrong}
 use borrow.Author.Needs.{needs}
 use Rattle.rows.proofs.plain_fault.Statement.{statement}

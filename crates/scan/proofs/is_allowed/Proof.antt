@@ -1,4 +1,4 @@
-use mathlib.Core.Path.{_≡_, refl, sym, ap, _∙_}
+use mathlib.Core.Path.{sym, _∙_}
 use Rattle.scan.proofs.Laws.{allowed-word, allowed-space, allowed-open, allowed-rest}
 use borrow.Author.Needs.{needs}
 use Rattle.scan.proofs.is_allowed.Statement.{statement}

@@ -1,6 +1,5 @@
-use mathlib.Core.Path.{_≡_, refl, sym, ap, _∙_}
+use mathlib.Core.Path.{sym}
 use Rattle.scan.proofs.Laws.{letter-low, letter-upper, letter-between, letter-rest}
-use borrow.Author.Needs.{needs}
 use Rattle.scan.proofs.is_letter.Statement.{statement}
 use Rattle.scan.proofs.is_letter.Tie as tie
 use Rattle.scan.proofs.is_letter.Reads as reads

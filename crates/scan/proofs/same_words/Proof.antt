@@ -1,6 +1,5 @@
-use mathlib.Core.Path.{_≡_, refl, sym, _∙_}
-use Prim.Native.Nat.{ℕ, _+_, _-_, _≤_}
-use native.Mathlib.Omega.{arith}
+use mathlib.Core.Path.{_≡_, sym, _∙_}
+use Prim.Native.Nat.{_-_, _≤_}
 use denote.Ref.{now}
 use lib.ListN.{length, drop}
 use Rattle.grammar.specs.Bytes.{same}
