@@ -140,11 +140,8 @@ fn low_steps(x: &str, y: &str) -> Vec<String> {
         .collect()
 }
 
-/// Four pair relations hand one fact round over all pairs of 127 states: some 65,000 passes, each of which adds one fact.
-/// P holds if the four high relations of the second state count one more than those of the first, Q if they are the same.
-fn hand_round() -> String {
-    let mut t = declared(&["First", "Low", "Row", "Next"], &PAIRS);
-    all_states(&mut t);
+/// Rules for P, which holds if the four high relations of the second state count one more than those of the first, and for Q, if they are the same.
+fn high_steps(t: &mut String) {
     for s in &STATES[..3] {
         writeln!(t, "(rule (Low x) ({s} x){})", (3..7).map(|i| bit(false, i, "x")).collect::<String>()).unwrap();
     }
@@ -156,6 +153,13 @@ fn hand_round() -> String {
         writeln!(t, "(rule (P x y){body})").unwrap();
     }
     t.push_str("(rule (Q x y) (P z x) (P z y))\n(rule (Q x y) (P x z) (P y z))\n");
+}
+
+/// Four pair relations hand one fact round over all pairs of 127 states: some 65,000 passes, each of which adds one fact.
+fn hand_round() -> String {
+    let mut t = declared(&["First", "Low", "Row", "Next"], &PAIRS);
+    all_states(&mut t);
+    high_steps(&mut t);
     writeln!(t, "(rule (First x) (A x){})", (1..7).map(|i| bit(false, i, "x")).collect::<String>()).unwrap();
     t.push_str("(rule (R x y) (S x y))\n(rule (S x y) (T x y))\n(rule (T x y) (U x y))\n");
     for body in low_steps("z", "y") {
@@ -247,17 +251,7 @@ fn never(find: impl Fn(&mut String)) -> String {
 fn closures() -> String {
     let mut t = declared(&["Low"], &PAIRS);
     all_states(&mut t);
-    for s in &STATES[..3] {
-        writeln!(t, "(rule (Low x) ({s} x){})", (3..7).map(|i| bit(false, i, "x")).collect::<String>()).unwrap();
-    }
-    writeln!(t, "(rule (P x y) (Low x){})", (3..7).map(|i| bit(i == 3, i, "y")).collect::<String>()).unwrap();
-    for n in 1..15 {
-        let body: String = (0..4)
-            .map(|i| bit(n >> i & 1 == 1, 3 + i, "x") + &bit((n + 1) >> i & 1 == 1, 3 + i, "y"))
-            .collect();
-        writeln!(t, "(rule (P x y){body})").unwrap();
-    }
-    t.push_str("(rule (Q x y) (P z x) (P z y))\n(rule (Q x y) (P x z) (P y z))\n");
+    high_steps(&mut t);
     for body in low_steps("x", "y") {
         writeln!(t, "(rule (R x y) (Q x y){body})").unwrap();
     }
