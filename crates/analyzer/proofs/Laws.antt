@@ -12,8 +12,8 @@ use Rattle.text.specs.declared.Acceptance.the-variants.{Accepted}
 use Rattle.text.specs.declared.Reading.{Reading}
 use Rattle.text.specs.Reading.{Reads}
 use Rattle.text.proofs.Laws.{is-accepted, read-well-formed, read-program, read-question}
-use Rattle.verdict.specs.declared.Analysis.{Analysis}
-use Rattle.verdict.specs.Judging.{Judges}
+use Rattle.analyzer_verdict.specs.declared.Analysis.{Analysis}
+use Rattle.analyzer_verdict.specs.Judging.{Judges}
 use Rattle.analyzer.specs.Analyzing.{Leaves}
 
 module _ (text : List ℕ) (r : Reading) (h : Reads (outcome text) text r) (e : r .answer ≡ Accepted) where

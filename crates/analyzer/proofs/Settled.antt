@@ -6,9 +6,9 @@ use Prim.Native.Nat.{ℕ}
 use lib.ListN.{length}
 use Rattle.grammar.specs.Texts.{Outcome, accepted, refused}
 use Rattle.calls.specs.Calls.{called}
-use Rattle.verdict.specs.declared.Analysis.{Analysis}
-use Rattle.verdict.proofs.Settled as verdict
-use Rattle.verdict.proofs.Settled.{Same}
+use Rattle.analyzer_verdict.specs.declared.Analysis.{Analysis}
+use Rattle.analyzer_verdict.proofs.Settled as verdict
+use Rattle.analyzer_verdict.proofs.Settled.{Same}
 use Rattle.analyzer.specs.Analyzing.{short, Leaves, Analyzes}
 
 left-settled : (o : Outcome) (work run : List ℕ) (a b : Analysis) (w w′ r r′ : List ℕ) → length (a .states) ≡ 127 → length (b .states) ≡ 127

@@ -9,9 +9,9 @@ use Rattle.grammar.specs.Texts.{Outcome, accepted, refused}
 use Rattle.acceptance.specs.Sound.{carriedOf}
 use Rattle.spent.specs.Passes.{Spent}
 use Rattle.calls.specs.Calls.{called}
-use Rattle.verdict.specs.declared.Answer.the-variants.{Refused}
-use Rattle.verdict.specs.declared.Analysis.{Analysis}
-use Rattle.verdict.specs.Judging.{Judges}
+use Rattle.analyzer_verdict.specs.declared.Answer.the-variants.{Refused}
+use Rattle.analyzer_verdict.specs.declared.Analysis.{Analysis}
+use Rattle.analyzer_verdict.specs.Judging.{Judges}
 
 -- row 12: "work area under 32,768 bytes, or a run table lent for writing under 8,640 places"
 abbrev pub short : ℕ → ℕ → Bool

@@ -1,8 +1,8 @@
 // The analysis of a text.
+use analyzer_verdict::Analysis;
+use analyzer_verdict::Answer;
+use calls::WORK;
 use text::Acceptance;
-use verdict::Analysis;
-use verdict::Answer;
-use wipe::WORK;
 ghost use mathlib.Core.Path.{_≡_};
 ghost use Rattle.analyzer.specs.Analyzing.{short as tooShort, refusal, Analyzes};
 
@@ -44,5 +44,5 @@ pub fn analyze(text: &[u8], work: &mut [u8], run: &mut [u32]) -> Analysis
         return refuse(number, line);
     }
     let m = reading.model;
-    verdict::decide(m, work, run)
+    analyzer_verdict::decide(m, work, run)
 }

@@ -1,6 +1,12 @@
-// The refusals that a call over a text gives before the text's lines are read.
+// What every call over a text does: the refusals that come before the text's lines are read, and the work bytes left zero.
 ghost use mathlib.Core.Path.{_≡_};
+ghost use Prim.Native.Nat.{_≤_};
+ghost use lib.ListN.{length};
 ghost use Rattle.calls.specs.Calls.{early as earlyRow};
+ghost use Rattle.calls.specs.Wiping.{wiped};
+
+// How many work bytes are used.
+pub const WORK: usize = 32_768;
 
 // The row that refuses a call before its lines are read, or 0: the text's bytes, a lent buffer that is too short, a run that is too long.
 pub fn early(bytes: usize, short: bool, long: bool) -> u32
@@ -19,4 +25,16 @@ pub fn early(bytes: usize, short: bool, long: bool) -> u32
         return 14;
     }
     0
+}
+
+// Sets the work bytes to zero.
+pub fn wipe(work: &mut [u8])
+    requires { ⌜ 32768 ≤ length (now work) ⌝ }
+    ensures { λ _. ⌜ now (work .exit) ≡ wiped (now (work .entry)) ⌝ }
+{
+    let mut i = 0;
+    while i < WORK {
+        work[i] = 0;
+        i += 1;
+    }
 }

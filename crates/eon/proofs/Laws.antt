@@ -21,15 +21,15 @@ use Rattle.acceptance.proofs.Acceptance.{accepted-sound}
 use Rattle.acceptance.proofs.WellFormed.{accepted-well-formed}
 use Rattle.text.specs.declared.Reading.{Reading}
 use Rattle.text.specs.Reading.{Names, Reads}
-use Rattle.states.specs.Rising.{Rising}
-use Rattle.verdict.specs.declared.Answer.{Answer}
-use Rattle.verdict.specs.declared.Answer.the-variants.{Reached, Unreached, Refused}
-use Rattle.verdict.specs.declared.Analysis.{Analysis}
-use Rattle.verdict.specs.Judging.{Answered, Listed}
+use Rattle.search_states.specs.Rising.{Rising}
+use Rattle.analyzer_verdict.specs.declared.Answer.{Answer}
+use Rattle.analyzer_verdict.specs.declared.Answer.the-variants.{Reached, Unreached, Refused}
+use Rattle.analyzer_verdict.specs.declared.Analysis.{Analysis}
+use Rattle.analyzer_verdict.specs.Judging.{Answered, Listed}
 use Rattle.calls.specs.Calls.{early, called}
 use Rattle.analyzer.specs.Analyzing.{short, Leaves, Analyzes}
-use Rattle.listing.specs.Lines.{Named}
-use Rattle.report.specs.Report.{Listable}
+use Rattle.listing_lines.specs.Lines.{Named}
+use Rattle.listing.specs.Report.{Listable}
 use Rattle.eon.specs.Output.{Ready, Shows, Lists, Output}
 
 -- a name has at most 16 bytes

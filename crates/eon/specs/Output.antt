@@ -15,12 +15,12 @@ use Rattle.grammar.specs.Declarations.{Declared}
 use Rattle.grammar.specs.Texts.{Outcome, accepted, refused}
 use Rattle.acceptance.specs.Represents.{Represents}
 use Rattle.text.specs.Reading.{Names}
-use Rattle.states.specs.Rising.{Rising}
-use Rattle.verdict.specs.declared.Answer.{Answer}
-use Rattle.verdict.specs.declared.Answer.the-variants.{Reached, Unreached, Refused}
-use Rattle.writing.specs.Writing.{WritesLine}
-use Rattle.listing.specs.Lines.{refusedLine, listingOf}
-use Rattle.report.specs.Report.{Listable, WritesListing}
+use Rattle.search_states.specs.Rising.{Rising}
+use Rattle.analyzer_verdict.specs.declared.Answer.{Answer}
+use Rattle.analyzer_verdict.specs.declared.Answer.the-variants.{Reached, Unreached, Refused}
+use Rattle.listing_bytes.specs.Writing.{WritesLine}
+use Rattle.listing_lines.specs.Lines.{refusedLine, listingOf}
+use Rattle.listing.specs.Report.{Listable, WritesListing}
 use Rattle.eon.specs.declared.Input.{Input}
 use Rattle.eon.specs.declared.Input.the-variants.{Bytes, Failed}
 

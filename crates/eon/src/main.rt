@@ -1,15 +1,15 @@
 // The program: reads a text from standard input and writes its listing to standard output.
+use analyzer_verdict::Analysis;
+use analyzer_verdict::Answer;
+use calls::WORK;
 use libc::STDIN_FILENO;
 use libc::STDOUT_FILENO;
 use model::Model;
-use verdict::Analysis;
-use verdict::Answer;
-use wipe::WORK;
 ghost use Prim.Native.Nat.{_≤_};
 ghost use lib.ListN.{length, take};
 ghost use Rattle.io.specs.Counts.{Counts};
 ghost use Rattle.grammar.specs.Texts.{outcome};
-ghost use Rattle.report.specs.Report.{size};
+ghost use Rattle.listing.specs.Report.{size};
 ghost use Rattle.eon.specs.Output.{Front, Ready, Shows, Output};
 
 // One byte more than a text may have, so that a longer one is refused by its first bytes.
@@ -53,10 +53,10 @@ fn list(out: &mut [u8], text: &[u8], m: Model, a: Analysis, run: &[u32]) -> usiz
     let k = a.count;
     match answer {
         Answer::Reached { places, last: _ } => {
-            report::put_listing(out, text, m, true, &states, k, run, places)
+            listing::put_listing(out, text, m, true, &states, k, run, places)
         }
-        Answer::Unreached => report::put_listing(out, text, m, false, &states, k, run, 0),
-        Answer::Refused { number, line } => listing::refused_line(out, number, line),
+        Answer::Unreached => listing::put_listing(out, text, m, false, &states, k, run, 0),
+        Answer::Refused { number, line } => listing_lines::refused_line(out, number, line),
     }
 }
 
@@ -75,7 +75,7 @@ fn mark(text: &[u8], work: &mut [u8], run: &mut [u32], out: &mut [u8]) -> usize
 fn answer(text: &[u8]) {
     let mut work = [0u8; WORK];
     let mut run = [0u32; RUN];
-    let mut out = [0u8; report::SIZE];
+    let mut out = [0u8; listing::SIZE];
     let n = mark(text, &mut work, &mut run, &mut out);
     if !io::write_all(STDOUT_FILENO, &out[..n]) {
         os::fail(b"write");

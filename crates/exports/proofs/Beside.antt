@@ -8,11 +8,11 @@ use lib.ListN.{length, replicate}
 use Rattle.grammar.specs.Texts.{Outcome, accepted, refused}
 use Rattle.calls.specs.Calls.{called}
 use Rattle.analyzer.specs.Analyzing.{short, Leaves}
-use Rattle.verdict.specs.declared.Analysis.{Analysis}
-use Rattle.session.specs.declared.Answer.{Answer}
-use Rattle.session.specs.declared.Answer.the-variants.{Kept}
-use Rattle.session.specs.declared.Session.{Session}
-use Rattle.replayer.specs.Replies.{placeOutcome, Put}
+use Rattle.analyzer_verdict.specs.declared.Analysis.{Analysis}
+use Rattle.replay_session.specs.declared.Answer.{Answer}
+use Rattle.replay_session.specs.declared.Answer.the-variants.{Kept}
+use Rattle.replay_session.specs.declared.Session.{Session}
+use Rattle.replay.specs.Replies.{placeOutcome, Put}
 use Rattle.exports.specs.Cells.{lastNumber, table, stateOf, cellsOf}
 use Rattle.exports.specs.Calls.{Analyzed, Placed}
 use Rattle.exports.proofs.Cells.{zero-beside-refusal, cells-left}

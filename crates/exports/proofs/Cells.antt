@@ -5,9 +5,9 @@ use Prim.Native.Nat.{ℕ, _+_}
 use native.Mathlib.Omega.{arith}
 use lib.ListN.{length, take, drop, getD, set, replicate, take-append-drop}
 use lib.Seq.{paste, take-all, drop-cons, drop-length, length-take-le}
-use Rattle.verdict.specs.declared.Analysis.{Analysis}
+use Rattle.analyzer_verdict.specs.declared.Analysis.{Analysis}
 use Rattle.analyzer.specs.Analyzing as analyzing
-use Rattle.session.specs.declared.Session.{Session}
+use Rattle.replay_session.specs.declared.Session.{Session}
 use Rattle.exports.specs.Cells.{table, stateOf, cellsOf}
 
 -- beside an answer of the analysis

@@ -19,19 +19,19 @@ use Rattle.grammar.proofs.Tests.{either}
 use Rattle.acceptance.proofs.Acceptance.{accepted-sound}
 use Rattle.calls.specs.Calls.{early, called}
 use Rattle.calls.proofs.Laws.{called-early, called-lines, sizes}
-use Rattle.verdict.specs.declared.Answer.{Answer}
-use Rattle.verdict.specs.declared.Answer.the-variants.{Reached, Unreached, Refused}
-use Rattle.verdict.specs.declared.Analysis.{Analysis}
-use Rattle.verdict.specs.Judging as judging
-use Rattle.verdict.specs.Judging.{Answered}
+use Rattle.analyzer_verdict.specs.declared.Answer.{Answer}
+use Rattle.analyzer_verdict.specs.declared.Answer.the-variants.{Reached, Unreached, Refused}
+use Rattle.analyzer_verdict.specs.declared.Analysis.{Analysis}
+use Rattle.analyzer_verdict.specs.Judging as judging
+use Rattle.analyzer_verdict.specs.Judging.{Answered}
 use Rattle.analyzer.specs.Analyzing.{Leaves}
-use Rattle.session.specs.declared.Answer as session
-use Rattle.session.specs.declared.Answer.the-variants as reply
-use Rattle.session.specs.declared.Session.{Session}
-use Rattle.session.specs.Sessions.{Fits, stepped, taken}
-use Rattle.session.specs.Replays.{Replays}
-use Rattle.replay.specs.Replies.{PlaceReply}
-use Rattle.replayer.specs.Replies.{Replayed, Put}
+use Rattle.replay_session.specs.declared.Answer as session
+use Rattle.replay_session.specs.declared.Answer.the-variants as reply
+use Rattle.replay_session.specs.declared.Session.{Session}
+use Rattle.replay_session.specs.Sessions.{Fits, stepped, taken}
+use Rattle.replay_session.specs.Replays.{Replays}
+use Rattle.replay_runs.specs.Replies.{PlaceReply}
+use Rattle.replay.specs.Replies.{Replayed, Put}
 use Rattle.exports.specs.Ranges.{ShortRun, Shown, LowPlace, Small}
 
 -- AN ACCEPTED CALL is of an accepted text, and its buffers and its run have their sizes

@@ -2,12 +2,12 @@
 use mathlib.Core.Path.{_≡_}
 use mathlib.Core.List.{List}
 use Prim.Native.Nat.{ℕ}
-use Rattle.verdict.specs.declared.Analysis.{Analysis}
+use Rattle.analyzer_verdict.specs.declared.Analysis.{Analysis}
 use Rattle.analyzer.specs.Analyzing.{Analyzes}
-use Rattle.session.specs.declared.Answer.{Answer}
-use Rattle.session.specs.declared.Session.{Session}
-use Rattle.replayer.specs.Replies as replies
-use Rattle.replayer.specs.Replies.{runOutcome, placeOutcome, Put}
+use Rattle.replay_session.specs.declared.Answer.{Answer}
+use Rattle.replay_session.specs.declared.Session.{Session}
+use Rattle.replay.specs.Replies as replies
+use Rattle.replay.specs.Replies.{runOutcome, placeOutcome, Put}
 use Rattle.exports.specs.Codes.{coded, replied}
 use Rattle.exports.specs.Cells.{lastNumber, table, stateOf, cellsOf}
 

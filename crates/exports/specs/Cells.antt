@@ -2,10 +2,10 @@
 use mathlib.Core.List.{List, [], _∷_, _++_}
 use Prim.Native.Nat.{ℕ, _-_}
 use lib.ListN.{take, getD}
-use Rattle.verdict.specs.declared.Answer.{Answer}
-use Rattle.verdict.specs.declared.Answer.the-variants.{Reached, Unreached, Refused}
-use Rattle.verdict.specs.declared.Analysis.{Analysis}
-use Rattle.session.specs.declared.Session.{Session}
+use Rattle.analyzer_verdict.specs.declared.Answer.{Answer}
+use Rattle.analyzer_verdict.specs.declared.Answer.the-variants.{Reached, Unreached, Refused}
+use Rattle.analyzer_verdict.specs.declared.Analysis.{Analysis}
+use Rattle.replay_session.specs.declared.Session.{Session}
 
 -- the number of the shown run's last place, 0 where there is no run
 abbrev pub lastNumber : Answer → List ℕ → ℕ

@@ -1,9 +1,9 @@
 -- THE NUMBERS OF ANSWERS: kind × 2^32 + value.
 use Prim.Native.Nat.{ℕ, _+_, _*_}
-use Rattle.verdict.specs.declared.Answer.{Answer}
-use Rattle.verdict.specs.declared.Answer.the-variants.{Reached, Unreached, Refused}
-use Rattle.session.specs.declared.Answer as session
-use Rattle.session.specs.declared.Answer.the-variants as reply
+use Rattle.analyzer_verdict.specs.declared.Answer.{Answer}
+use Rattle.analyzer_verdict.specs.declared.Answer.the-variants.{Reached, Unreached, Refused}
+use Rattle.replay_session.specs.declared.Answer as session
+use Rattle.replay_session.specs.declared.Answer.the-variants as reply
 
 abbrev pub code : ℕ → ℕ → ℕ
 code kind value = kind * 4294967296 + value

@@ -1,10 +1,10 @@
 -- NUMBERS THAT FIT their cells and codes.
 use Prim.Native.Nat.{ℕ, _≤_, _<_}
-use Rattle.verdict.specs.declared.Answer.{Answer}
-use Rattle.verdict.specs.declared.Answer.the-variants.{Reached, Unreached, Refused}
-use Rattle.session.specs.declared.Answer as session
-use Rattle.session.specs.declared.Answer.the-variants as reply
-use Rattle.session.specs.declared.Session.{Session}
+use Rattle.analyzer_verdict.specs.declared.Answer.{Answer}
+use Rattle.analyzer_verdict.specs.declared.Answer.the-variants.{Reached, Unreached, Refused}
+use Rattle.replay_session.specs.declared.Answer as session
+use Rattle.replay_session.specs.declared.Answer.the-variants as reply
+use Rattle.replay_session.specs.declared.Session.{Session}
 
 -- a run has at most 8,640 places
 abbrev pub ShortRun : Answer → Type 0

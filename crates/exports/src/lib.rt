@@ -1,6 +1,6 @@
 // The public calls for C and Rust: answers as numbers, records as rows of cells (include/eon.h).
-use session::Session;
-use verdict::Analysis;
+use analyzer_verdict::Analysis;
+use replay_session::Session;
 ghost use mathlib.Core.Path.{_≡_};
 ghost use Prim.Native.Nat.{_+_, _≤_};
 ghost use lib.ListN.{length};
@@ -32,38 +32,38 @@ fn refusal(number: u32, line: u32) -> u64
 }
 
 // The number of an analysis's answer.
-fn coded(answer: verdict::Answer) -> u64
+fn coded(answer: analyzer_verdict::Answer) -> u64
     requires { ⌜ ShortRun answer ⌝ }
     ensures { λ r. ⌜ r ≡ codeOf answer ⌝ }
 {
     match answer {
-        verdict::Answer::Unreached => 0,
-        verdict::Answer::Reached { places, last: _ } => 4_294_967_296 + places as u64,
-        verdict::Answer::Refused { number, line } => refusal(number, line),
+        analyzer_verdict::Answer::Unreached => 0,
+        analyzer_verdict::Answer::Reached { places, last: _ } => 4_294_967_296 + places as u64,
+        analyzer_verdict::Answer::Refused { number, line } => refusal(number, line),
     }
 }
 
 // The number of a replay's answer.
-fn replied(answer: session::Answer) -> u64
+fn replied(answer: replay_session::Answer) -> u64
     requires { ⌜ LowPlace answer ⌝ }
     ensures { λ r. ⌜ r ≡ replyCode answer ⌝ }
 {
     match answer {
-        session::Answer::Kept => 3 * 4_294_967_296,
-        session::Answer::Broken { place } => 4 * 4_294_967_296 + place as u64,
-        session::Answer::Refused { number, line } => refusal(number, line),
+        replay_session::Answer::Kept => 3 * 4_294_967_296,
+        replay_session::Answer::Broken { place } => 4 * 4_294_967_296 + place as u64,
+        replay_session::Answer::Refused { number, line } => refusal(number, line),
     }
 }
 
 // The number of the shown run's last place, 0 where there is no run.
-fn last_number(answer: verdict::Answer, run: &[u32]) -> u32
+fn last_number(answer: analyzer_verdict::Answer, run: &[u32]) -> u32
     requires { ⌜ Shown (length (now run)) answer ⌝ }
     ensures { λ r. ⌜ r ≡ lastNumber answer (now (run .entry)) ⌝ }
 {
     match answer {
-        verdict::Answer::Reached { places, last: _ } => run[places - 1],
-        verdict::Answer::Unreached => 0,
-        verdict::Answer::Refused { number: _, line: _ } => 0,
+        analyzer_verdict::Answer::Reached { places, last: _ } => run[places - 1],
+        analyzer_verdict::Answer::Unreached => 0,
+        analyzer_verdict::Answer::Refused { number: _, line: _ } => 0,
     }
 }
 
@@ -133,7 +133,7 @@ pub extern "C" fn eon_analyze(
 pub extern "C" fn eon_replay(text: &[u8], run: &[u32], work: &mut [u8]) -> u64
     ensures { λ r. ⌜ Replayed (now (text .entry)) (now (run .entry)) (now (work .entry)) r (now (work .exit)) ⌝ }
 {
-    replied(replayer::replay(text, run, work))
+    replied(replay::replay(text, run, work))
 }
 
 // Puts one place to a lent state.
@@ -147,7 +147,7 @@ pub extern "C" fn eon_place(
     ensures { λ r. ⌜ Placed (now (text .entry)) (now (session .entry)) place (now (work .entry)) r (now (session .exit)) (now (work .exit)) ⌝ }
 {
     let cells = *session;
-    let reply = replayer::place(text, unpack(cells), place, work);
+    let reply = replay::place(text, unpack(cells), place, work);
     let after = reply.session;
     let left = pack(after);
     *session = left;

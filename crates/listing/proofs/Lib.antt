@@ -1,2 +1,2 @@
-pub mod Items
-pub mod Office
+pub mod Lengths
+pub mod Laws

@@ -1,139 +1,94 @@
-// The bytes of each line of the listing.
-use labels::has;
+// The listing of a verdict, written into a lent slice.
+use listing_lines::LONGEST;
+use listing_lines::atomic_line;
+use listing_lines::place_line;
+use listing_lines::states_line;
+use listing_lines::verdict_line;
 use model::Model;
-use model::Place;
-use model::place_of;
-use writing::put_bytes;
-use writing::put_end;
-use writing::put_name;
-use writing::put_number;
-use writing::put_pair;
-ghost use mathlib.Core.List.{[], _∷_, map};
-ghost use Prim.Native.Nat.{_+_, _≤_};
-ghost use lib.ListN.{length};
-ghost use Rattle.semantics.specs.Runs.{step, meet};
-ghost use Rattle.model.specs.Places.{objects, placeOf};
+ghost use mathlib.Core.List.{_++_};
+ghost use Prim.Native.Nat.{_+_, _*_, _≤_};
+ghost use lib.ListN.{length, take};
+ghost use Rattle.model.specs.Places.{placeOf};
 ghost use Rattle.model.specs.WellFormed.{GoodRelations};
-ghost use Rattle.writing.specs.Numerals.{decimal};
-ghost use Rattle.writing.specs.Forms.{items};
-ghost use Rattle.writing.specs.Writing.{Writes, WritesLine};
-ghost use Rattle.listing.specs.Lines.{verdictLine, statesLine, Named, namesIn, atomicLine, placeLine, lineFor, refusedLine, longest};
+ghost use Rattle.listing_bytes.specs.Writing.{Writes};
+ghost use Rattle.listing_lines.specs.Lines.{verdictLine, statesLine, atomicLine, lineFor, Named, longest};
+ghost use Rattle.listing.specs.Report.{stateLines, runLines, size, Listable, WritesListing};
 
-// How many bytes the longest line has.
-pub const LONGEST: usize = 128;
+// Bytes that have room for every listing.
+pub const SIZE: usize = 262_144;
 
-// Writes the names of the set's relations as items, in order of declaration.
-fn put_names(out: &mut [u8], at: usize, text: &[u8], m: Model, set: u32) -> usize
-    requires { ⌜ GoodRelations m × Named (now text) m × (at + 119 ≤ length (now out)) ⌝ }
-    ensures { λ r. ⌜ Writes (now (out .entry)) at (items (namesIn (now (text .entry)) m set (m .relations .count))) r (now (out .exit)) ⌝ }
+// Writes the lines of the verdict and of the number of states.
+fn put_summary(out: &mut [u8], reached: bool, n: u32) -> usize
+    requires { ⌜ 2 * longest ≤ length (now out) ⌝ }
+    ensures { λ r. ⌜ Writes (now (out .entry)) 0 (verdictLine reached ++ statesLine n) r (now (out .exit)) × (r ≤ 40) ⌝ }
 {
-    let relations = m.relations;
-    let n = relations.count;
+    let first = verdict_line(out, reached);
+    let second = states_line(&mut out[first..], n);
+    first + second
+}
+
+// Writes the line of an atomic state from place `at` on.
+fn put_state(out: &mut [u8], at: usize, text: &[u8], m: Model, set: u32) -> usize
+    requires { ⌜ GoodRelations m × Named (now text) m × (at + longest ≤ length (now out)) ⌝ }
+    ensures { λ r. ⌜ Writes (now (out .entry)) at (atomicLine (now (text .entry)) m set) r (now (out .exit)) × (r ≤ at + longest) ⌝ }
+{
+    let end = at + LONGEST;
+    let n = atomic_line(&mut out[at..end], text, m, set);
+    at + n
+}
+
+// Writes the lines of the first n states from place `at` on.
+fn put_states(out: &mut [u8], at: usize, text: &[u8], m: Model, states: &[u32], n: usize) -> usize
+    requires { ⌜ GoodRelations m × Named (now text) m × (n ≤ length (now states)) × (at + n * longest ≤ length (now out)) ⌝ }
+    ensures { λ r. ⌜ Writes (now (out .entry)) at (stateLines (now (text .entry)) m (take n (now (states .entry)))) r (now (out .exit)) × (r ≤ at + n * longest) ⌝ }
+{
     let mut next = at;
     let mut i = 0;
     while i < n {
-        if has(set, relations.codes[i]) {
-            let a = m.names[i] as usize;
-            let e = a + m.lengths[i] as usize;
-            next = put_name(out, next, text, a, e);
-        }
+        next = put_state(out, next, text, m, states[i]);
         i += 1;
     }
     next
 }
 
-// Writes the objects of a meeting as items, up to the first 255.
-fn put_objects(out: &mut [u8], at: usize, first: u32, second: u32, third: u32) -> usize
-    requires { ⌜ at + 33 ≤ length (now out) ⌝ }
-    ensures { λ r. ⌜ Writes (now (out .entry)) at (items (map decimal (objects (first ∷ second ∷ third ∷ [])))) r (now (out .exit)) ⌝ }
+// Writes the line of the place that n stands for from place `at` on.
+fn put_place(out: &mut [u8], at: usize, n: u32) -> usize
+    requires { ⌜ at + longest ≤ length (now out) ⌝ }
+    ensures { λ r. ⌜ Writes (now (out .entry)) at (lineFor (placeOf n)) r (now (out .exit)) × (r ≤ at + 24) ⌝ }
 {
-    if first == 255 {
-        return at;
+    let k = place_line(&mut out[at..], n);
+    at + k
+}
+
+// Writes the lines of the first n places of the run from place `at` on.
+fn put_run(out: &mut [u8], at: usize, run: &[u32], n: usize) -> usize
+    requires { ⌜ (n ≤ length (now run)) × (at + n * 24 + longest ≤ length (now out)) ⌝ }
+    ensures { λ r. ⌜ Writes (now (out .entry)) at (runLines (take n (now (run .entry)))) r (now (out .exit)) ⌝ }
+{
+    let mut next = at;
+    let mut i = 0;
+    while i < n {
+        next = put_place(out, next, run[i]);
+        i += 1;
     }
-    let one = put_number(out, at, first);
-    if second == 255 {
-        return one;
-    }
-    let two = put_number(out, one, second);
-    if third == 255 {
-        return two;
-    }
-    put_number(out, two, third)
+    next
 }
 
-// Writes the line of the verdict.
-pub fn verdict_line(out: &mut [u8], reached: bool) -> usize
-    requires { ⌜ longest ≤ length (now out) ⌝ }
-    ensures { λ r. ⌜ WritesLine (now (out .entry)) (verdictLine reached) r (now (out .exit)) ⌝ }
+// Writes the listing of a verdict, of the first k states and of the first n places of the run, and says how many bytes it has.
+pub fn put_listing(
+    out: &mut [u8],
+    text: &[u8],
+    m: Model,
+    reached: bool,
+    states: &[u32],
+    k: usize,
+    run: &[u32],
+    n: usize,
+) -> usize
+    requires { ⌜ Listable (now text) m (now states) k (now run) n × (size ≤ length (now out)) ⌝ }
+    ensures { λ r. ⌜ WritesListing (now (out .entry)) (now (text .entry)) m reached (now (states .entry)) k (now (run .entry)) n r (now (out .exit)) ⌝ }
 {
-    if reached {
-        return put_bytes(out, 0, b"(verdict reached)\n");
-    }
-    put_bytes(out, 0, b"(verdict unreached)\n")
-}
-
-// Writes the line of the number of reachable atomic states.
-pub fn states_line(out: &mut [u8], n: u32) -> usize
-    requires { ⌜ longest ≤ length (now out) ⌝ }
-    ensures { λ r. ⌜ WritesLine (now (out .entry)) (statesLine n) r (now (out .exit)) ⌝ }
-{
-    let word = put_bytes(out, 0, b"(states");
-    let number = put_number(out, word, n);
-    put_end(out, number)
-}
-
-// Writes the line of an atomic state.
-pub fn atomic_line(out: &mut [u8], text: &[u8], m: Model, set: u32) -> usize
-    requires { ⌜ GoodRelations m × Named (now text) m × (longest ≤ length (now out)) ⌝ }
-    ensures { λ r. ⌜ WritesLine (now (out .entry)) (atomicLine (now (text .entry)) m set) r (now (out .exit)) ⌝ }
-{
-    let word = put_bytes(out, 0, b"(atomic");
-    let names = put_names(out, word, text, m, set);
-    put_end(out, names)
-}
-
-// Writes the line of a step.
-fn step_line(out: &mut [u8], line: u32, object: u32) -> usize
-    requires { ⌜ longest ≤ length (now out) ⌝ }
-    ensures { λ r. ⌜ WritesLine (now (out .entry)) (placeLine (step line object)) r (now (out .exit)) ⌝ }
-{
-    let word = put_bytes(out, 0, b"(step");
-    put_pair(out, word, line, object)
-}
-
-// Writes the line of a meeting; from the first 255 on there is no object.
-fn meet_line(out: &mut [u8], stage: u32, first: u32, second: u32, third: u32) -> usize
-    requires { ⌜ longest ≤ length (now out) ⌝ }
-    ensures { λ r. ⌜ WritesLine (now (out .entry)) (placeLine (meet stage (objects (first ∷ second ∷ third ∷ [])))) r (now (out .exit)) ⌝ }
-{
-    let word = put_bytes(out, 0, b"(meet");
-    let number = put_number(out, word, stage);
-    let named = put_objects(out, number, first, second, third);
-    put_end(out, named)
-}
-
-// Writes the line of the place that n stands for, and nothing where it stands for none.
-pub fn place_line(out: &mut [u8], n: u32) -> usize
-    requires { ⌜ longest ≤ length (now out) ⌝ }
-    ensures { λ r. ⌜ WritesLine (now (out .entry)) (lineFor (placeOf n)) r (now (out .exit)) ⌝ }
-{
-    match place_of(n) {
-        Place::Step { line, object } => step_line(out, line, object),
-        Place::Meeting {
-            stage,
-            first,
-            second,
-            third,
-        } => meet_line(out, stage, first, second, third),
-        Place::Malformed => 0,
-    }
-}
-
-// Writes the line of a refusal.
-pub fn refused_line(out: &mut [u8], number: u32, line: u32) -> usize
-    requires { ⌜ longest ≤ length (now out) ⌝ }
-    ensures { λ r. ⌜ WritesLine (now (out .entry)) (refusedLine number line) r (now (out .exit)) ⌝ }
-{
-    let word = put_bytes(out, 0, b"(refused");
-    put_pair(out, word, number, line)
+    let summary = put_summary(out, reached, k as u32);
+    let listed = put_states(out, summary, text, m, states, k);
+    put_run(out, listed, run, n)
 }

@@ -1,43 +1,40 @@
--- WHAT THE REPLAY REPLIES over a text's program P and question Q.
+-- WHAT THE REPLAY ANSWERS to a text: "after every answer that is no refusal, a single place's included, the first 32,768 work bytes are zero and the rest untouched".
 use mathlib.Core.Path.{_≡_}
-use mathlib.Core.Logic.{_⊎_}
-use mathlib.Core.Option.{some}
+use mathlib.Core.Bool.{Bool}
+use mathlib.Core.List.{List, []}
 use Prim.Native.Nat.{ℕ}
-use lib.ListN.{replicate}
-use Rattle.semantics.specs.Models.{Program, Question}
-use Rattle.semantics.specs.Runs as runs
-use Rattle.semantics.specs.Runs.{Allowed}
-use Rattle.model.specs.Places.{placeOf}
-use Rattle.session.specs.declared.Answer.{Answer}
-use Rattle.session.specs.declared.Answer.the-variants.{Kept, Broken}
-use Rattle.session.specs.declared.Session.{Session}
-use Rattle.session.specs.Sessions.{sessionOf, Fits, taken}
-use Rattle.session.specs.Replays.{Allows}
+use lib.Dec.{eqb, ltb}
+use lib.ListN.{length}
+use Rattle.semantics.specs.Runs.{start}
+use Rattle.grammar.specs.Declarations.{count}
+use Rattle.grammar.specs.Texts.{Outcome, accepted, refused}
+use Rattle.acceptance.specs.Sound.{carriedOf}
+use Rattle.calls.specs.Calls.{called}
+use Rattle.calls.specs.Wiping.{wiped}
+use Rattle.replay_session.specs.declared.Answer.{Answer}
+use Rattle.replay_session.specs.declared.Answer.the-variants.{Refused}
+use Rattle.replay_session.specs.declared.Session.{Session}
+use Rattle.replay_session.specs.Replays.{Replays}
+use Rattle.replay_runs.specs.Replies.{PlaceReply}
 
--- the state before the first place: no objects, no stage met, none carried, no place kept
-abbrev pub fresh : Session
-fresh = record { states = replicate 255 0; objects = 0; met = 0; carried = 255; kept = 0 }
+-- row 12, "work area under 32,768 bytes"
+abbrev pub narrow : List ℕ → Bool
+narrow work = ltb (length work) 32768
 
--- ONE PLACE put to a lent state: "kept then means that one place, and a broken place is answered broken at the count of places kept and leaves it as before".
--- The text declares so many state relations, and c is its carried variable.
-module _ (declared : ℕ) (P : Program) (Q : Question) (c : ℕ) where
-  -- a state that doesn't fit the text "is answered broken at 0 and left too"
-  pub record Misfit (s : Session) (a : Answer) (t : Session) : Type 0 where
-    pub misfit : Fits declared Q s → ⊥
-    pub answer : a ≡ Broken 0
-    pub left : t ≡ s
+-- A WHOLE RUN: row 14, "a replay of a run over 8,640 places"
+abbrev pub runOutcome : List ℕ → List ℕ → List ℕ → Outcome
+runOutcome text run work = called text (narrow work) (ltb 8640 (length run))
 
-  pub record KeptPlace (s : Session) (n : ℕ) (a : Answer) (t : Session) : Type 0 where
-    pub place : runs.Place
-    pub form : placeOf n ≡ some place
-    pub allowed : Allowed P Q (sessionOf c s) place
-    pub answer : a ≡ Kept
-    pub taken : t ≡ taken P Q c s place
+-- the answer, and the work area after it
+abbrev pub Replayed : Outcome → List ℕ → List ℕ → Answer → List ℕ → Type 0
+Replayed (refused n l) run work a after = (a ≡ Refused n l) × (after ≡ work)
+Replayed (accepted D P Q) run work a after = Replays P Q (start []) run 0 a × (after ≡ wiped work)
 
-  pub record BrokenPlace (s : Session) (n : ℕ) (a : Answer) (t : Session) : Type 0 where
-    pub disallowed : Allows P Q (sessionOf c s) n → ⊥
-    pub answer : a ≡ Broken (s .kept)
-    pub left : t ≡ s
+-- ONE PLACE: row 14, "a place put to a lent state that has kept 8,640"
+abbrev pub placeOutcome : List ℕ → Session → List ℕ → Outcome
+placeOutcome text s work = called text (narrow work) (eqb (s .kept) 8640)
 
-  abbrev pub PlaceReply : Session → ℕ → Answer → Session → Type 0
-  PlaceReply s n a t = Misfit s a t ⊎ (Fits declared Q s × (KeptPlace s n a t ⊎ BrokenPlace s n a t))
+-- the answer, the state after the place, and the work area after it; "refusals leave it"
+abbrev pub Put : Outcome → Session → ℕ → List ℕ → Answer → Session → List ℕ → Type 0
+Put (refused n l) s place work a t after = (a ≡ Refused n l) × (t ≡ s) × (after ≡ work)
+Put (accepted D P Q) s place work a t after = PlaceReply (count 0 D) P Q (carriedOf Q) s place a t × (after ≡ wiped work)

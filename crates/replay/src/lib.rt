@@ -1,122 +1,59 @@
-// The replay over an accepted model: a whole run, and one place put to a lent state by value.
-use model::Model;
-use play::Outcome;
-use session::Answer;
-use session::Session;
-use wipe::WORK;
+// The replay over a text: a whole run, and one place put to a state by value.
+use calls::WORK;
+use replay_runs::Reply;
+use replay_session::Answer;
+use replay_session::Session;
+use text::Acceptance;
 ghost use mathlib.Core.Path.{_≡_};
-ghost use mathlib.Core.Logic.{_≢_};
-ghost use mathlib.Core.List.{[]};
-ghost use Prim.Native.Nat.{_≤_};
-ghost use lib.ListN.{length};
-ghost use Rattle.semantics.specs.Runs.{start as beginning};
-ghost use Rattle.model.specs.Records.{programOf, questionOf};
-ghost use Rattle.model.specs.WellFormed.{declaredIn, WellFormed};
-ghost use Rattle.session.specs.Replays.{Replays};
-ghost use Rattle.wipe.specs.Wiping.{wiped};
-ghost use Rattle.replay.specs.Replies.{fresh, PlaceReply};
+ghost use Rattle.replay_session.specs.declared.Answer.the-variants.{Refused};
+ghost use Rattle.replay.specs.Replies.{runOutcome, Replayed, placeOutcome, Put};
 
-// The answer to one place, and the state after it.
-pub struct Reply {
-    pub answer: Answer,
-    pub session: Session,
-}
+// The most places that a run has.
+const PLACES: usize = 8640;
 
-// The state before the first place.
-fn start() -> Session
-    ensures { λ r. ⌜ r ≡ fresh ⌝ }
+// A refusal leaves the state.
+fn refuse(s: Session, number: u32, line: u32) -> Reply
+    ensures { λ r. ⌜ (r .answer ≡ Refused number line) × (r .session ≡ s) ⌝ }
 {
-    Session {
-        states: [0u32; 255],
-        objects: 0,
-        met: 0,
-        carried: 255,
-        kept: 0,
-    }
-}
-
-// Replays a run from the empty database.
-fn play_run(m: Model, run: &[u32], work: &mut [u8]) -> Answer
-    requires { ⌜ WellFormed m × (length (now run) ≤ 8640) × (26624 ≤ length (now work)) ⌝ }
-    ensures { λ r. ⌜ Replays (programOf m) (questionOf m) (beginning []) (now (run .entry)) 0 r × (length (now (work .exit)) ≡ length (now (work .entry))) ⌝ }
-{
-    let mut s = start();
-    let mut v = place::look(m, s, work);
-    let mut i = 0;
-    while i < run.len() {
-        let outcome = place::put(m, s, v, work, run[i]);
-        if !outcome.allowed {
-            return Answer::Broken { place: i };
-        }
-        let t = outcome.session;
-        s = t;
-        v = place::follow(m, s, v, work);
-        i += 1;
-    }
-    if s.met == m.stagecount {
-        return Answer::Kept;
-    }
-    Answer::Broken { place: i }
-}
-
-// Replays a run over a model, and leaves the work bytes zero.
-pub fn replay_model(m: Model, run: &[u32], work: &mut [u8]) -> Answer
-    requires { ⌜ WellFormed m × (length (now run) ≤ 8640) × (32768 ≤ length (now work)) ⌝ }
-    ensures { λ r. ⌜ Replays (programOf m) (questionOf m) (beginning []) (now (run .entry)) 0 r × (now (work .exit) ≡ wiped (now (work .entry))) ⌝ }
-{
-    let answer = play_run(m, run, &mut work[..WORK]);
-    wipe::wipe(work);
-    answer
-}
-
-// Puts one place to a lent state.
-fn play_place(m: Model, s: Session, n: u32, work: &mut [u8]) -> Reply
-    requires { ⌜ WellFormed m × (s .kept ≢ 8640) × (26624 ≤ length (now work)) ⌝ }
-    ensures { λ r. ⌜ PlaceReply (declaredIn m 0) (programOf m) (questionOf m) (m .carried) s n (r .answer) (r .session) × (length (now (work .exit)) ≡ length (now (work .entry))) ⌝ }
-{
-    if !session::fits(m, s) {
-        return Reply {
-            answer: Answer::Broken { place: 0 },
-            session: s,
-        };
-    }
-    let v = place::look(m, s, work);
-    let outcome = place::put(m, s, v, work, n);
-    let t = outcome.session;
-    if !outcome.allowed {
-        return Reply {
-            answer: Answer::Broken { place: s.kept },
-            session: s,
-        };
-    }
     Reply {
-        answer: Answer::Kept,
-        session: t,
+        answer: Answer::Refused { number, line },
+        session: s,
     }
 }
 
-// Puts one place to a lent state over a model, and leaves the work bytes zero.
-pub fn place_model(m: Model, s: Session, n: u32, work: &mut [u8]) -> Reply
-    requires { ⌜ WellFormed m × (s .kept ≢ 8640) × (32768 ≤ length (now work)) ⌝ }
-    ensures { λ r. ⌜ PlaceReply (declaredIn m 0) (programOf m) (questionOf m) (m .carried) s n (r .answer) (r .session) × (now (work .exit) ≡ wiped (now (work .entry))) ⌝ }
+// Replays a run over a text.
+pub fn replay(text: &[u8], run: &[u32], work: &mut [u8]) -> Answer
+    ensures { λ r. ⌜ Replayed (runOutcome (now (text .entry)) (now (run .entry)) (now (work .entry))) (now (run .entry)) (now (work .entry)) r (now (work .exit)) ⌝ }
 {
-    let reply = play_place(m, s, n, &mut work[..WORK]);
-    wipe::wipe(work);
-    reply
+    let row = calls::early(text.len(), work.len() < WORK, run.len() > PLACES);
+    if row != 0 {
+        return Answer::Refused {
+            number: row,
+            line: 0,
+        };
+    }
+    let reading = text::read(text);
+    let acceptance = reading.answer;
+    if let Acceptance::Refused { number, line } = acceptance {
+        return Answer::Refused { number, line };
+    }
+    let m = reading.model;
+    replay_runs::replay_model(m, run, work)
 }
 
-// The answer of a reply.
-pub fn answer_of(reply: Reply) -> Answer
-    ensures { λ r. ⌜ r ≡ reply .answer ⌝ }
+// Puts one place to a state over a text.
+pub fn place(text: &[u8], s: Session, n: u32, work: &mut [u8]) -> Reply
+    ensures { λ r. ⌜ Put (placeOutcome (now (text .entry)) s (now (work .entry))) s n (now (work .entry)) (r .answer) (r .session) (now (work .exit)) ⌝ }
 {
-    let answer = reply.answer;
-    answer
-}
-
-// The state of a reply.
-pub fn session_of(reply: Reply) -> Session
-    ensures { λ r. ⌜ r ≡ reply .session ⌝ }
-{
-    let session = reply.session;
-    session
+    let row = calls::early(text.len(), work.len() < WORK, s.kept == PLACES);
+    if row != 0 {
+        return refuse(s, row, 0);
+    }
+    let reading = text::read(text);
+    let acceptance = reading.answer;
+    if let Acceptance::Refused { number, line } = acceptance {
+        return refuse(s, number, line);
+    }
+    let m = reading.model;
+    replay_runs::place_model(m, s, n, work)
 }

@@ -22,18 +22,18 @@ use Rattle.model.specs.Records.{clauseLine, programOf, stageOf, questionOf, cla
 use Rattle.model.specs.WellFormed.{WellFormed}
 use Rattle.model.proofs.Lines.{every-line}
 use Rattle.model.proofs.Accepted.{on-line, stages, stage-here}
-use Rattle.table.specs.Table.{tableOf}
-use Rattle.states.specs.declared.States.{States}
-use Rattle.states.specs.States.{row, by, from}
-use Rattle.reach.specs.Reach.{Lists}
-use Rattle.reachable.specs.Reachable.{Reaches}
-use Rattle.entries.specs.declared.Levels.{Levels}
-use Rattle.entries.specs.Entries.{count, rowsOf, cameOf}
-use Rattle.entries.proofs.Blocks.{length-rows}
-use Rattle.entries.proofs.Laws.{entry-of, of-entry}
-use Rattle.carry.specs.declared.Carried.{Carried}
-use Rattle.moves.specs.Moves.{Keeps}
-use Rattle.passes.specs.Passes.{Onward, Fills}
+use Rattle.facts_table.specs.Table.{tableOf}
+use Rattle.search_states.specs.declared.States.{States}
+use Rattle.search_states.specs.States.{row, by, from}
+use Rattle.search_clauses.specs.Reach.{Lists}
+use Rattle.search_reachable.specs.Reachable.{Reaches}
+use Rattle.search_entries.specs.declared.Levels.{Levels}
+use Rattle.search_entries.specs.Entries.{count, rowsOf, cameOf}
+use Rattle.search_entries.proofs.Blocks.{length-rows}
+use Rattle.search_entries.proofs.Laws.{entry-of, of-entry}
+use Rattle.search_carried.specs.declared.Carried.{Carried}
+use Rattle.search_moves.specs.Moves.{Keeps}
+use Rattle.search_levels.specs.Passes.{Onward, Fills}
 
 module _ (m : Model) (wf : WellFormed m) (w : List ℕ) (s : States) (l : Levels) (reaches : Reaches m w s) (fills : Fills m w s l) where
   abbrev here : Carried

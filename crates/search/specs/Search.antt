@@ -10,13 +10,13 @@ use Rattle.semantics.specs.Questions.{Verdict}
 use Rattle.semantics.specs.Tables.{Saturated, FoundedRows}
 use Rattle.model.specs.declared.Model.{Model}
 use Rattle.model.specs.Records.{programOf, questionOf}
-use Rattle.table.specs.Table.{tableOf, Consistent}
+use Rattle.facts_table.specs.Table.{tableOf, Consistent}
 use Rattle.facts.specs.Facts.{Exact}
-use Rattle.states.specs.States as states
-use Rattle.states.specs.States.{row, Discovered}
-use Rattle.states.specs.Rising.{Lists}
-use Rattle.entries.specs.Entries as entries
-use Rattle.entries.specs.Entries.{count, rowsOf, cameOf}
+use Rattle.search_states.specs.States as states
+use Rattle.search_states.specs.States.{row, Discovered}
+use Rattle.search_states.specs.Rising.{Lists}
+use Rattle.search_entries.specs.Entries as entries
+use Rattle.search_entries.specs.Entries.{count, rowsOf, cameOf}
 use Rattle.search.specs.declared.Found.{Found}
 
 -- w is the work area as the search leaves it

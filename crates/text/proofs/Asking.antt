@@ -17,16 +17,16 @@ use Rattle.grammar.specs.Shapes.{whole, formOf, askRest}
 use Rattle.grammar.specs.Models.{questionOf}
 use Rattle.grammar.specs.Texts.{accepted, refused, finish}
 use Rattle.grammar.proofs.Tests.{either}
-use Rattle.names.specs.Names.{Valid, entry, declaredOf}
-use Rattle.names.specs.declared.Declared.{Declared}
-use Rattle.names.proofs.Laws.{getD-listOf, slice-prefix}
-use Rattle.ask.specs.Asks.{Asks, AskEnd}
-use Rattle.ask.specs.declared.Asked.{Asked}
-use Rattle.ask.proofs.Represented.{represents}
-use Rattle.line.proofs.Going.{reads-unshaped, reads-faulty, reads-ask, ask-line}
-use Rattle.scan.proofs.Laws.{nothing}
-use Rattle.opening.specs.Openings.{fitted}
-use Rattle.opening.proofs.Laws.{length-declared, before}
+use Rattle.text_names.specs.Names.{Valid, entry, declaredOf}
+use Rattle.text_names.specs.declared.Declared.{Declared}
+use Rattle.text_names.proofs.Laws.{getD-listOf, slice-prefix}
+use Rattle.text_ask.specs.Asks.{Asks, AskEnd}
+use Rattle.text_ask.specs.declared.Asked.{Asked}
+use Rattle.text_ask.proofs.Represented.{represents}
+use Rattle.text_lines.proofs.Going.{reads-unshaped, reads-faulty, reads-ask, ask-line}
+use Rattle.text_scan.proofs.Laws.{nothing}
+use Rattle.text_opening.specs.Openings.{fitted}
+use Rattle.text_opening.proofs.Laws.{length-declared, before}
 use Rattle.text.specs.declared.Acceptance.the-variants.{Accepted}
 use Rattle.text.specs.Reading.{Names, Reads}
 use Rattle.text.specs.Reached.{Reached, onwards, AskLine}

@@ -17,15 +17,15 @@ use Rattle.grammar.specs.Bytes.{bytes, Line, ended, unended, inFront, lines}
 use Rattle.grammar.specs.Shapes.{after, line, formOf}
 use Rattle.grammar.specs.Texts.{refused, readLines, outcome}
 use Rattle.grammar.proofs.Tests.{either}
-use Rattle.names.specs.Names.{Valid, declaredOf}
-use Rattle.names.specs.declared.Declared.{Declared}
-use Rattle.scan.specs.Found as scan
-use Rattle.scan.proofs.Laws.{nothing}
-use Rattle.line.specs.Lines.{Stepped, Aside}
-use Rattle.line.specs.declared.Step.{Step}
-use Rattle.line.proofs.Going.{valid-longer, declared-longer, reads-bad, reads-unshaped, reads-faulty, reads-on, other-form}
-use Rattle.opening.specs.Openings.{blank}
-use Rattle.opening.proofs.Laws.{blank-program, blank-holds}
+use Rattle.text_names.specs.Names.{Valid, declaredOf}
+use Rattle.text_names.specs.declared.Declared.{Declared}
+use Rattle.text_scan.specs.Found as scan
+use Rattle.text_scan.proofs.Laws.{nothing}
+use Rattle.text_lines.specs.Lines.{Stepped, Aside}
+use Rattle.text_lines.specs.declared.Step.{Step}
+use Rattle.text_lines.proofs.Going.{valid-longer, declared-longer, reads-bad, reads-unshaped, reads-faulty, reads-on, other-form}
+use Rattle.text_opening.specs.Openings.{blank}
+use Rattle.text_opening.proofs.Laws.{blank-program, blank-holds}
 use Rattle.text.specs.Reached.{Reached, onwards, LineAt}
 
 -- THE LINES of a text that is not empty

@@ -11,10 +11,10 @@ use Rattle.model.specs.declared.Model.{Model}
 use Rattle.grammar.specs.Bytes.{bytes, every, allowed, ended, lines}
 use Rattle.grammar.specs.Shapes.{after}
 use Rattle.grammar.specs.Texts.{Outcome, readLines}
-use Rattle.names.specs.Names.{Valid, declaredOf}
-use Rattle.names.specs.declared.Declared.{Declared}
-use Rattle.declare.specs.Declares.{Limited}
-use Rattle.store.specs.Stored as stored
+use Rattle.text_names.specs.Names.{Valid, declaredOf}
+use Rattle.text_names.specs.declared.Declared.{Declared}
+use Rattle.text_declarations.specs.Declares.{Limited}
+use Rattle.text_record.specs.Stored as stored
 
 -- before line n, which begins at byte `at`: the declarations and the record of the lines before it
 pub record Reached (text : List ℕ) (at n : ℕ) (d : Declared) (m : Model) : Type 0 where

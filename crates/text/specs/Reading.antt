@@ -10,7 +10,7 @@ use Rattle.grammar.specs.Declarations.{Declared}
 use Rattle.grammar.specs.Texts.{Outcome, accepted, refused}
 use Rattle.acceptance.specs.Sound.{nameAt}
 use Rattle.acceptance.specs.Represents.{Represents}
-use Rattle.opening.specs.Openings.{blank}
+use Rattle.text_opening.specs.Openings.{blank}
 use Rattle.text.specs.declared.Acceptance.the-variants.{Accepted, Refused}
 use Rattle.text.specs.declared.Reading.{Reading}
 

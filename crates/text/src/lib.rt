@@ -5,12 +5,12 @@ ghost use Prim.Native.Nat.{_≤_};
 ghost use lib.ListN.{length};
 ghost use Rattle.grammar.specs.Bytes.{lines};
 ghost use Rattle.grammar.specs.Texts.{readLines, outcome};
-ghost use Rattle.opening.specs.Openings.{blank};
+ghost use Rattle.text_opening.specs.Openings.{blank};
 ghost use Rattle.text.specs.declared.Acceptance.the-variants.{Refused};
 ghost use Rattle.text.specs.Reading.{Reads};
 ghost use Rattle.text.specs.Reached.{Reached, onwards, AskLine};
 use model::Model;
-use names::Declared;
+use text_names::Declared;
 
 // Whether the text is accepted; if not, the refusal's number and line.
 pub enum Acceptance {
@@ -30,7 +30,7 @@ fn refusal(number: u32, line: u32) -> Reading
 {
     Reading {
         answer: Acceptance::Refused { number, line },
-        model: opening::blank(),
+        model: text_opening::blank(),
     }
 }
 
@@ -39,8 +39,8 @@ fn read_question(text: &[u8], at: usize, e: usize, d: Declared, m: Model, line: 
     requires { ⌜ (length (now text) ≤ 16384) × Reached (now text) at line d m × AskLine (now text) at e ⌝ }
     ensures { λ r. ⌜ Reads (onwards (now (text .entry)) at line d m) (now (text .entry)) r ⌝ }
 {
-    let f = opening::fit(m, d, line);
-    let r = ask::read_ask(&text[..e], d, at + 5, f);
+    let f = text_opening::fit(m, d, line);
+    let r = text_ask::read_ask(&text[..e], d, at + 5, f);
     if r.number != 0 {
         return refusal(r.number, line);
     }
@@ -59,19 +59,19 @@ fn read_lines(text: &[u8]) -> Reading
     requires { ⌜ length (now text) ≤ 16384 ⌝ }
     ensures { λ r. ⌜ Reads (readLines 1 [] [] (lines (now (text .entry)))) (now (text .entry)) r ⌝ }
 {
-    let mut d = names::none();
-    let mut m = opening::blank();
+    let mut d = text_names::none();
+    let mut m = text_opening::blank();
     let mut at = 0;
     let mut line: u32 = 1;
     while at < text.len() {
-        let e = scan::line_end(text, at);
+        let e = text_scan::line_end(text, at);
         if e == text.len() {
             return refusal(2, line);
         }
-        if scan::at_bytes(&text[..e], at, b"(ask ") {
+        if text_scan::at_bytes(&text[..e], at, b"(ask ") {
             return read_question(text, at, e, d, m, line);
         }
-        let s = line::read_line(&text[..e], at, d, m, line);
+        let s = text_lines::read_line(&text[..e], at, d, m, line);
         if s.number != 0 {
             return refusal(s.number, line);
         }

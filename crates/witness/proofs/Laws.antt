@@ -20,15 +20,15 @@ use Rattle.model.specs.Records.{programOf, questionOf}
 use Rattle.model.specs.WellFormed.{WellFormed}
 use Rattle.model.specs.Places.{numberOf, placeOf}
 use Rattle.model.proofs.Accepted.{stages}
-use Rattle.states.specs.declared.States.{States}
-use Rattle.states.specs.States.{row, by, from}
-use Rattle.states.proofs.Laws.{length-row}
-use Rattle.runs.specs.Runs.{numbers, AllNumerable, backwards}
-use Rattle.runs.proofs.Laws.{length-backwards, backwards-on, turned, numerable-append, decoded-numbers}
-use Rattle.lineage.specs.Lineage.{building}
-use Rattle.lineage.proofs.Making.{length-steps, numerable-building}
-use Rattle.legs.specs.Legs.{Known}
-use Rattle.walk.specs.Walk.{Walked}
+use Rattle.search_states.specs.declared.States.{States}
+use Rattle.search_states.specs.States.{row, by, from}
+use Rattle.search_states.proofs.Laws.{length-row}
+use Rattle.witness_table.specs.Runs.{numbers, AllNumerable, backwards}
+use Rattle.witness_table.proofs.Laws.{length-backwards, backwards-on, turned, numerable-append, decoded-numbers}
+use Rattle.witness_lineage.specs.Lineage.{building}
+use Rattle.witness_lineage.proofs.Making.{length-steps, numerable-building}
+use Rattle.witness_meetings.specs.Legs.{Known}
+use Rattle.witness_walk.specs.Walk.{Walked}
 use Rattle.witness.specs.Witness.{Shown}
 
 -- what is played to its end ends with the meeting of the last stage

@@ -8,7 +8,7 @@ use Rattle.semantics.specs.Runs.{Place, meet, Kept}
 use Rattle.model.specs.declared.Model.{Model}
 use Rattle.model.specs.Records.{programOf, questionOf}
 use Rattle.model.specs.Places.{placeOf}
-use Rattle.runs.specs.Runs.{numbers}
+use Rattle.witness_table.specs.Runs.{numbers}
 
 -- The first r numbers of the table are those of a kept run, which they stand for; the others are as they were. Its last place is the meeting of the last stage.
 pub record Shown (m : Model) (run run′ : List ℕ) (r : ℕ) : Type 0 where

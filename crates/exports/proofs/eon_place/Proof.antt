@@ -3,7 +3,7 @@ use borrow.Author.Needs.{needs}
 use mathlib.Core.Path.{refl}
 use lib.Dec.{eqb}
 use denote.Ref.{now}
-use Rattle.replayer.specs.Replies.{narrow, placeOutcome}
+use Rattle.replay.specs.Replies.{narrow, placeOutcome}
 use Rattle.exports.proofs.Fitting.{place-fits}
 use Rattle.exports.proofs.eon_place.Statement.{statement}
 use Rattle.exports.proofs.eon_place.Tie as tie

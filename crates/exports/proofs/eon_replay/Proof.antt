@@ -2,7 +2,7 @@
 use borrow.Author.Needs.{needs}
 use mathlib.Core.Path.{refl}
 use denote.Ref.{now}
-use Rattle.replayer.specs.Replies.{narrow, runOutcome}
+use Rattle.replay.specs.Replies.{narrow, runOutcome}
 use Rattle.exports.proofs.Fitting.{replay-fits}
 use Rattle.exports.proofs.eon_replay.Statement.{statement}
 use Rattle.exports.proofs.eon_replay.Tie as tie

@@ -1,4 +1,4 @@
--- `lent::put` meets its contract: a walk of its MIR, by hand. The borrow of the state is opened, the state is copied out and passed with the text, the number and the work area to `replayer::place`;
+-- `lent::put` meets its contract: a walk of its MIR, by hand. The borrow of the state is opened, the state is copied out and passed with the text, the number and the work area to `replay::place`;
 -- the state of the reply is stored back, the borrow is closed at it, and the reply's answer is returned. The work area is given up to `place` for good.
 use mathlib.Core.Path.{_≡_, refl}
 use mathlib.Core.List.{[], _∷_, List}
@@ -41,28 +41,28 @@ use denote.Triple.Table.{entered, cited}
 use denote.Triple.Clauses.{ensured, lasts}
 use denote.Triple.Walked.{says, Stays, stay-ref, stay-none, stay-none-slice, gave-slice, walkOf, AllGo, goes-none, goes-none-slice, goes-ref, goes-gave-slice, Walks, ends-at, walked, walk-meets}
 use denote.Exit.{yes}
-use Rattle.session.specs.declared.Answer.{Answer}
-use Rattle.session.specs.declared.Session.{Session}
-use Rattle.session.proofs.Answer as TA
-use Rattle.session.proofs.Answer.Laws as TA′
-use Rattle.session.proofs.Session as T
-use Rattle.session.proofs.Session.Laws as T′
-use Rattle.replay.specs.declared.Reply.{Reply}
-use Rattle.replay.proofs.Reply as TR
-use Rattle.replay.proofs.Reply.Laws as TR′
-use Rattle.replay.proofs.session_of as so
-use Rattle.replay.proofs.session_of.Symbol as so-def
-use Rattle.replay.proofs.session_of.Symbol.{name as #replay·session-of}
-use Rattle.replay.proofs.session_of.Met as so-thm
-use Rattle.replay.proofs.answer_of as ao
-use Rattle.replay.proofs.answer_of.Symbol as ao-def
-use Rattle.replay.proofs.answer_of.Symbol.{name as #replay·answer-of}
-use Rattle.replay.proofs.answer_of.Met as ao-thm
-use Rattle.replayer.specs.Replies.{placeOutcome, Put}
-use Rattle.replayer.proofs.place as pl
-use Rattle.replayer.proofs.place.Symbol as pl-def
-use Rattle.replayer.proofs.place.Symbol.{name as #replayer·place}
-use Rattle.replayer.proofs.place.Met as pl-thm
+use Rattle.replay_session.specs.declared.Answer.{Answer}
+use Rattle.replay_session.specs.declared.Session.{Session}
+use Rattle.replay_session.proofs.Answer as TA
+use Rattle.replay_session.proofs.Answer.Laws as TA′
+use Rattle.replay_session.proofs.Session as T
+use Rattle.replay_session.proofs.Session.Laws as T′
+use Rattle.replay_runs.specs.declared.Reply.{Reply}
+use Rattle.replay_runs.proofs.Reply as TR
+use Rattle.replay_runs.proofs.Reply.Laws as TR′
+use Rattle.replay_runs.proofs.session_of as so
+use Rattle.replay_runs.proofs.session_of.Symbol as so-def
+use Rattle.replay_runs.proofs.session_of.Symbol.{name as #replay_runs·session-of}
+use Rattle.replay_runs.proofs.session_of.Met as so-thm
+use Rattle.replay_runs.proofs.answer_of as ao
+use Rattle.replay_runs.proofs.answer_of.Symbol as ao-def
+use Rattle.replay_runs.proofs.answer_of.Symbol.{name as #replay_runs·answer-of}
+use Rattle.replay_runs.proofs.answer_of.Met as ao-thm
+use Rattle.replay.specs.Replies.{placeOutcome, Put}
+use Rattle.replay.proofs.place as pl
+use Rattle.replay.proofs.place.Symbol as pl-def
+use Rattle.replay.proofs.place.Symbol.{name as #replay·place}
+use Rattle.replay.proofs.place.Met as pl-thm
 use Rattle.lent.proofs.put.Key.{name as #lent·put}
 use Rattle.lent.proofs.put as put
 use Rattle.lent.proofs.put.Statement as stated
@@ -163,8 +163,8 @@ module _ {M : Type 1} (𝓤 : URA M) (H : Heap 𝓤) (A : Atoms 𝓤) (W : Given
     told : (r : Reply) (a : Answer) (t : Session) (zs : List ℕ) → Puts (r .answer) (r .session) zs → t ≡ r .session → a ≡ r .answer → Puts a t zs
     told r a t zs e et ea = rw (et, ea) e
 
-    module _ (C : Calls 𝓤 H) (Λ : Loops 𝓤 H) (fm : FmC 𝓤 H (W .laws) C) (known-pl : Triple 𝓤 (C #replayer·place) (PL 𝓤 H A at-mem run)) (known-so : Triple 𝓤 (C #replay·session-of) (SO 𝓤 H A at-mem run))
-        (known-ao : Triple 𝓤 (C #replay·answer-of) (AO 𝓤 H A at-mem run)) where
+    module _ (C : Calls 𝓤 H) (Λ : Loops 𝓤 H) (fm : FmC 𝓤 H (W .laws) C) (known-pl : Triple 𝓤 (C #replay·place) (PL 𝓤 H A at-mem run)) (known-so : Triple 𝓤 (C #replay_runs·session-of) (SO 𝓤 H A at-mem run))
+        (known-ao : Triple 𝓤 (C #replay_runs·answer-of) (AO 𝓤 H A at-mem run)) where
       walk : Is (ShrSlice (named 0) κ₀ u8) text (bytes ∷ []) → Room u8 (length ys)
           → ent 𝓤 (onEntry 𝓤 H A put.signature (κ₀, (κ₁, (κ₂, tt))) (q₀, (q₁, (q₂, tt))) x at) (WpFn 𝓤 H C Λ code.function (bytes ∷ vptr b o ∷ vint w32 n ∷ slice ∷ []) Post)
       walk isText room =
@@ -215,7 +215,7 @@ module _ {M : Type 1} (𝓤 : URA M) (H : Heap 𝓤) (A : Atoms 𝓤) (W : Given
           keep ! (0 ∷ 1 ∷ 2 ∷ 3 ∷ 4 ∷ 5 ∷ 9 ∷ []) $ by ! (exits y a t (zs .1 .1 .1 .0) (told r a t (zs .1 .1 .1 .0) e et ea) l))))))))))))))))))))))))))
 
 module _ {M : Type 1} (𝓤 : URA M) (H : Heap 𝓤) (A : Atoms 𝓤) (W : Given 𝓤 H A) (at-mem : Memory → SProp 𝓤) (run : Routine → Fun 𝓤) where
-  put-walks : (C : Calls 𝓤 H) (Λ : Loops 𝓤 H) → FmC 𝓤 H (W .laws) C → Triple 𝓤 (C #replayer·place) (PL 𝓤 H A at-mem run) → Triple 𝓤 (C #replay·session-of) (SO 𝓤 H A at-mem run) → Triple 𝓤 (C #replay·answer-of) (AO 𝓤 H A at-mem run)
+  put-walks : (C : Calls 𝓤 H) (Λ : Loops 𝓤 H) → FmC 𝓤 H (W .laws) C → Triple 𝓤 (C #replay·place) (PL 𝓤 H A at-mem run) → Triple 𝓤 (C #replay_runs·session-of) (SO 𝓤 H A at-mem run) → Triple 𝓤 (C #replay_runs·answer-of) (AO 𝓤 H A at-mem run)
       → Walks 𝓤 H A put.ended stayed (WpFn 𝓤 H C Λ code.function) (put.clauses 𝓤 H A at-mem run)
   put-walks C Λ fm known-pl known-so known-ao = walked 𝓤 H A put.ended stayed (put.clauses 𝓤 H A at-mem run) (WpFn 𝓤 H C Λ code.function)
       (λ κs. (slice-vals, (ptr-vals, (uint-vals w32, (slice-vals, tt))))) (λ κs. (shr-slice-tells (named 0) (κs .0) u8, (mut-tells (named 1) (κs .1 .0) T.the-row, (uint-tells w32, (mut-slice-tells (named 2) (κs .1 .1 .0) u8, tt)))))
@@ -227,7 +227,7 @@ module _ {M : Type 1} (𝓤 : URA M) (H : Heap 𝓤) (A : Atoms 𝓤) (W : Given
   goes = (goes-none-slice 𝓤 H A W 3 (0 ∷ []) tt (plain (λ _. u8)) yes, (goes-ref 𝓤 H A W 3 1 tt (plain (λ _. T.the-row)), (goes-none 𝓤 H A W 3 (λ _. u32) yes (λ κs x f. refl), (goes-gave-slice 𝓤 H A W 3 2 tt (plain (λ _. u8)), tt))))
 
 put-meets : {M : Type 1} (𝓤 : URA M) (H : Heap 𝓤) (A : Atoms 𝓤) (W : Given 𝓤 H A) (at-mem : Memory → SProp 𝓤) (run : Routine → Fun 𝓤) (𝓣 : Tables 𝓤 H)
-    → Triple 𝓤 (𝓣 .C #replayer·place) (PL 𝓤 H A at-mem run) → Triple 𝓤 (𝓣 .C #replay·session-of) (SO 𝓤 H A at-mem run) → Triple 𝓤 (𝓣 .C #replay·answer-of) (AO 𝓤 H A at-mem run)
+    → Triple 𝓤 (𝓣 .C #replay·place) (PL 𝓤 H A at-mem run) → Triple 𝓤 (𝓣 .C #replay_runs·session-of) (SO 𝓤 H A at-mem run) → Triple 𝓤 (𝓣 .C #replay_runs·answer-of) (AO 𝓤 H A at-mem run)
     → Meets 𝓤 H A put.signature (WpFn 𝓤 H (𝓣 .C) (𝓣 .Λ) code.function) (put.spec 𝓤 H A at-mem run)
 put-meets 𝓤 H A W at-mem run 𝓣 known-pl known-so known-ao = walk-meets 𝓤 H A put.ended stayed W (goes 𝓤 H A W at-mem run) (put.clauses 𝓤 H A at-mem run) (WpFn 𝓤 H (𝓣 .C) (𝓣 .Λ) code.function) (WpFn-mono 𝓤 H (W .laws) 𝓣 code.function)
     (put-walks 𝓤 H A W at-mem run (𝓣 .C) (𝓣 .Λ) (fmOf 𝓤 H (W .laws) 𝓣) known-pl known-so known-ao)
@@ -238,6 +238,6 @@ put-spec 𝓤 H 𝓜 𝓖 𝓡 =
     entered 𝓤 H (tripleOf 𝓤 H (𝓖 .A) put.signature (put.spec 𝓤 H (𝓖 .A) (𝓜 .mem) (𝓡 .run)))
     (tables 𝓤 H 𝓜 𝓡 code.env .C) (tables 𝓤 H 𝓜 𝓡 code.env .Λ) #lent·put code.function (code.unfolded 𝓤 H 𝓜 𝓡)
     (put-meets 𝓤 H (𝓖 .A) (givenOf 𝓤 H 𝓜 𝓖) (𝓜 .mem) (𝓡 .run) (tablesOf 𝓤 H 𝓜 (tables 𝓤 H 𝓜 𝓡 code.env))
-    (cited 𝓤 H (PL 𝓤 H (𝓖 .A) (𝓜 .mem) (𝓡 .run)) 𝓜 𝓡 code.env #replayer·place pl-def.routine code.calls-replayer·place (pl-thm.met 𝓤 H 𝓜 𝓖 𝓡))
-    (cited 𝓤 H (SO 𝓤 H (𝓖 .A) (𝓜 .mem) (𝓡 .run)) 𝓜 𝓡 code.env #replay·session-of so-def.routine code.calls-replay·session-of (so-thm.met 𝓤 H 𝓜 𝓖 𝓡))
-    (cited 𝓤 H (AO 𝓤 H (𝓖 .A) (𝓜 .mem) (𝓡 .run)) 𝓜 𝓡 code.env #replay·answer-of ao-def.routine code.calls-replay·answer-of (ao-thm.met 𝓤 H 𝓜 𝓖 𝓡)))
+    (cited 𝓤 H (PL 𝓤 H (𝓖 .A) (𝓜 .mem) (𝓡 .run)) 𝓜 𝓡 code.env #replay·place pl-def.routine code.calls-replay·place (pl-thm.met 𝓤 H 𝓜 𝓖 𝓡))
+    (cited 𝓤 H (SO 𝓤 H (𝓖 .A) (𝓜 .mem) (𝓡 .run)) 𝓜 𝓡 code.env #replay_runs·session-of so-def.routine code.calls-replay-runs·session-of (so-thm.met 𝓤 H 𝓜 𝓖 𝓡))
+    (cited 𝓤 H (AO 𝓤 H (𝓖 .A) (𝓜 .mem) (𝓡 .run)) 𝓜 𝓡 code.env #replay_runs·answer-of ao-def.routine code.calls-replay-runs·answer-of (ao-thm.met 𝓤 H 𝓜 𝓖 𝓡)))

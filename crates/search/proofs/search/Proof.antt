@@ -1,5 +1,5 @@
 use mathlib.Core.Path.{refl}
-use Rattle.entries.specs.Entries.{count}
+use Rattle.search_entries.specs.Entries.{count}
 use Rattle.search.proofs.Laws.{saturated, reachable, verdict}
 use borrow.Author.Needs.{needs}
 use borrow.Author.Tests.{ltb-true}

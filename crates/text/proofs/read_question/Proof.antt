@@ -1,7 +1,7 @@
 use mathlib.Core.Path.{sym}
 use native.Mathlib.Omega.{arith}
 use lib.Seq.{length-take-le}
-use Rattle.opening.proofs.Laws.{fitted-empty}
+use Rattle.text_opening.proofs.Laws.{fitted-empty}
 use Rattle.text.proofs.Lines.{valid-there}
 use Rattle.text.proofs.Asking.{ask-refused, ask-followed, ask-last}
 use borrow.Author.Needs.{needs}

@@ -1,7 +1,7 @@
 use mathlib.Core.Path.{ap}
 use native.Mathlib.Omega.{arith}
 use lib.ListN.{length}
-use Rattle.runs.proofs.Laws.{length-backwards}
+use Rattle.witness_table.proofs.Laws.{length-backwards}
 use Rattle.witness.proofs.Laws.{building-few, turn-fits, shown}
 use borrow.Author.Needs.{needs}
 use Rattle.witness.proofs.witness.Statement.{statement}

@@ -1,0 +1,68 @@
+-- What the search and the written run give of the answer.
+use mathlib.Core.Path.{_≡_, refl, sym, ap, _∙_}
+use mathlib.Core.List.{List, [], _∷_, _++_}
+use mathlib.Core.Option.{some}
+use Prim.Native.Nat.{ℕ, _-_}
+use lib.ListN.{length, drop, getD, length-map}
+use lib.Seq.{drop-at}
+use Rattle.semantics.specs.Runs.{meet}
+use Rattle.model.specs.declared.Model.{Model}
+use Rattle.model.specs.declared.Place.{Place}
+use Rattle.model.specs.Records.{programOf, questionOf}
+use Rattle.model.specs.WellFormed.{WellFormed}
+use Rattle.model.specs.Places.{numberOf, placed, standsFor, placeOf}
+use Rattle.model.proofs.Accepted.{stages}
+use Rattle.search.specs.declared.Found.{Found}
+use Rattle.search.specs.Search.{Searched}
+use Rattle.witness_table.specs.Runs.{numbers}
+use Rattle.witness_walk.specs.Walk.{Recorded}
+use Rattle.witness.specs.Witness as witness
+use Rattle.witness.proofs.Laws.{last-place, played-on}
+use Rattle.analyzer_verdict.specs.Judging.{Shown, Listed}
+
+-- the place of a number is the one that its parts stand for
+parts : (k : ℕ) → standsFor (placed k) ≡ placeOf k
+unfolding placeOf
+parts k = refl
+
+module _ (m : Model) (wf : WellFormed m) where
+  module _ (w : List ℕ) (r : Found) (h : Searched m w r) where
+    -- what the search recorded
+    pub recorded : Recorded m w (r .states) (r .levels)
+    recorded =
+        record {
+          known = record { model = wf; proper = h .proper; found = h .found; agree = h .agree; exact = h .exact };
+          levels = h .levels;
+          rows = h .rows;
+        }
+
+    -- the states by rising number
+    pub listed : Listed (programOf m) (r .listing .states) (r .listing .count)
+    listed =
+        record {
+          count = h .listing .count;
+          rising = h .listing .rising;
+          reachable = λ t. ((λ e. h .listing .same t .1 (h .reachable t .0 e)), λ e. h .reachable t .1 (h .listing .same t .0 e));
+          rest = h .listing .rest;
+        }
+
+  -- the run written, and its last place
+  pub shown : (run run′ : List ℕ) (n : ℕ) (place : Place) → witness.Shown m run run′ n → place ≡ placed (getD run′ (n - 1) 0) → Shown (programOf m) (questionOf m) run run′ n place
+  shown run run′ n place h e =
+      record {
+        places = h .places;
+        count = h .index;
+        written = h .decoded;
+        rest = ap (drop n) (h .written) ∙ drop-at (numbers (h .places)) (drop n run) n (length-map (h .places) numberOf ∙ sym (h .index));
+        fits = h .few;
+        kept = h .kept;
+        before = h .last .0;
+        objects = h .last .1;
+        ends = h .last .2 ∙ ap (λ (i : ℕ). h .last .0 ++ (meet i (h .last .1) ∷ [])) (sym (stages m wf));
+        meeting = meets;
+        last = e;
+        playing = played-on m run run′ n h wf;
+      }
+    where
+      meets : standsFor place ≡ some (meet (length (questionOf m)) (h .last .1))
+      meets = ap standsFor e ∙ parts (getD run′ (n - 1) 0) ∙ last-place m run run′ n h .1 ∙ ap (λ (i : ℕ). some (meet i (h .last .1))) (sym (stages m wf))

@@ -1,0 +1,60 @@
+-- WHAT THE ANALYSIS OF A PROGRAM AND A QUESTION ANSWERS, and what it leaves in the work area and the run table.
+use mathlib.Core.Path.{_≡_}
+use mathlib.Core.Logic.{_↔_}
+use mathlib.Core.Bool.{true}
+use mathlib.Core.List.{List, [], _∷_, _++_, map}
+use mathlib.Core.Option.{some}
+use Prim.Native.Nat.{ℕ, _-_, _≤_}
+use lib.ListN.{length, take, drop, getD, replicate}
+use Rattle.semantics.specs.Models.{elem, Program, Question}
+use Rattle.semantics.specs.Steps.{Reachable}
+use Rattle.semantics.specs.Questions as questions
+use Rattle.semantics.specs.Runs as runs
+use Rattle.semantics.specs.Runs.{meet, Kept}
+use Rattle.semantics.specs.PlayingOn.{PlayingOn}
+use Rattle.model.specs.declared.Place.{Place}
+use Rattle.model.specs.Places.{placed, standsFor, placeOf}
+use Rattle.search_states.specs.Rising.{Rising}
+use Rattle.calls.specs.Wiping.{wiped}
+use Rattle.analyzer_verdict.specs.declared.Answer.{Answer}
+use Rattle.analyzer_verdict.specs.declared.Answer.the-variants.{Reached, Unreached, Refused}
+use Rattle.analyzer_verdict.specs.declared.Analysis.{Analysis}
+
+-- THE RUN SHOWN, with its n and its last place: these may differ from one correct program to another
+pub record Shown (P : Program) (Q : Question) (run run′ : List ℕ) (n : ℕ) (place : Place) : Type 0 where
+  -- the first n numbers of the table stand for the places of the run, and "only its first n places" are written
+  pub places : List runs.Place
+  pub count : n ≡ length places
+  pub written : map placeOf (take n run′) ≡ map some places
+  pub rest : drop n run′ ≡ drop n run
+  -- it fits a table of 8,640 places
+  pub fits : n ≤ 8640
+  -- demand 2: the replay keeps it
+  pub kept : Kept P Q places
+  -- "inside a reached answer stands the kind of its last place, a meeting with its stage and objects": that of the last number, and of the last stage
+  pub before : List runs.Place
+  pub objects : List ℕ
+  pub ends : places ≡ before ++ (meet (length Q) objects ∷ [])
+  pub meeting : standsFor place ≡ some (meet (length Q) objects)
+  pub last : place ≡ placed (getD run′ (n - 1) 0)
+  -- demand 3
+  pub playing : PlayingOn P Q 8640 places
+
+-- THE VERDICT is right, and the run table "is written only for reached"
+abbrev pub Answered : Program → Question → List ℕ → List ℕ → Answer → Type 0
+Answered P Q run run′ (Reached n last) = questions.Reached P Q × Shown P Q run run′ n last
+Answered P Q run run′ Unreached = (questions.Reached P Q → ⊥) × (run′ ≡ run)
+Answered P Q run run′ (Refused n l) = ⊥
+
+-- THE STATES beside a verdict: "the reachable atomic states and their number, in the listing's order"; the numbers behind them are zero
+pub record Listed (P : Program) (states : List ℕ) (n : ℕ) : Type 0 where
+  pub count : n ≤ 127
+  pub rising : Rising states n
+  pub reachable : (s : ℕ) → Reachable P s ↔ (elem s (take n states) ≡ true)
+  pub rest : drop n states ≡ replicate (127 - n) 0
+
+-- THE ANALYSIS a of a program and a question, with the work area and the run table before and after it
+pub record Judges (P : Program) (Q : Question) (work run : List ℕ) (a : Analysis) (work′ run′ : List ℕ) : Type 0 where
+  pub verdict : Answered P Q run run′ (a .answer)
+  pub states : Listed P (a .states) (a .count)
+  pub area : work′ ≡ wiped work

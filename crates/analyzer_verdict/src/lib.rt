@@ -1,0 +1,57 @@
+// The analysis of an accepted model: the verdict with the run of a reached question, and the reachable states.
+use calls::WORK;
+use model::Model;
+use model::Place;
+use search::Found;
+ghost use Prim.Native.Nat.{_≤_};
+ghost use lib.ListN.{length};
+ghost use Rattle.model.specs.Records.{programOf, questionOf};
+ghost use Rattle.model.specs.WellFormed.{WellFormed};
+ghost use Rattle.search.specs.Search.{Searched};
+ghost use Rattle.analyzer_verdict.specs.Judging.{Answered, Judges};
+
+// Reached with the number of places of the shown run and its last place, unreached, or a refusal with its number and line.
+pub enum Answer {
+    Reached { places: usize, last: Place },
+    Unreached,
+    Refused { number: u32, line: u32 },
+}
+
+// An answer, and beside a verdict the reachable atomic states by rising number and how many they are.
+pub struct Analysis {
+    pub answer: Answer,
+    pub states: [u32; 127],
+    pub count: usize,
+}
+
+// The answer that a search gives; the run of a reached question is written.
+fn conclude(m: Model, work: &[u8], run: &mut [u32], found: Found) -> Answer
+    requires { ⌜ WellFormed m × Searched m (now work) found × (8640 ≤ length (now run)) ⌝ }
+    ensures { λ r. ⌜ Answered (programOf m) (questionOf m) (now (run .entry)) (now (run .exit)) r ⌝ }
+{
+    if !found.reached {
+        return Answer::Unreached;
+    }
+    let states = found.states;
+    let levels = found.levels;
+    let places = witness::witness(run, work, m, states, levels);
+    let last = model::place_of(run[places - 1]);
+    Answer::Reached { places, last }
+}
+
+// Searches a well-formed model, writes the run of a reached question, and leaves the work bytes zero.
+pub fn decide(m: Model, work: &mut [u8], run: &mut [u32]) -> Analysis
+    requires { ⌜ WellFormed m × (32768 ≤ length (now work)) × (8640 ≤ length (now run)) ⌝ }
+    ensures { λ r. ⌜ Judges (programOf m) (questionOf m) (now (work .entry)) (now (run .entry)) r (now (work .exit)) (now (run .exit)) ⌝ }
+{
+    let found = search::search(&mut work[..WORK], m);
+    let answer = conclude(m, &work[..WORK], run, found);
+    calls::wipe(work);
+    let listing = found.listing;
+    let states = listing.states;
+    Analysis {
+        answer,
+        states,
+        count: listing.count,
+    }
+}

@@ -1,0 +1,80 @@
+use mathlib.Core.Path.{refl, sym, _∙_}
+use denote.Ref.{now}
+use lib.Dec.{ltb}
+use lib.ListN.{length}
+use borrow.Author.Needs.{needs}
+use borrow.Author.Tests.{ltb-false}
+use Rattle.grammar.specs.Texts.{outcome}
+use Rattle.calls.proofs.Laws.{called-early, called-lines, sizes}
+use Rattle.replay.specs.Replies.{narrow}
+use Rattle.text.proofs.Laws.{is-refused}
+use Rattle.replay.proofs.Laws.{good-model, replayed}
+use Rattle.replay.proofs.replay.Statement.{statement}
+use Rattle.replay.proofs.replay.Tie as tie
+
+early-requires : tie.Need-early-requires
+early-requires c κs = search needs
+
+returns : tie.Need-returns
+returns c =
+    let a = c .before .before .before .before .before .args in
+    let e = c .before .early .ensures in
+    rw (called-early (now (a .text)) (narrow (now (a .work))) (ltb 8640 (length (now (a .run)))) (λ z. c .if1 .taken (e ∙ z)), e) (refl, refl)
+
+read-requires : tie.Need-read-requires
+read-requires c κs = search needs
+
+enum-known-acceptance : tie.Need-enum-known-acceptance
+enum-known-acceptance c = search needs
+
+returns-2 : tie.Need-returns-2
+returns-2 c =
+    let a = c .before .before .before .before .before .before .before .before .before .args in
+    let e = c .before .before .before .before .before .early .ensures in
+    let r = c .before .before .before .read in
+    let v = c .before .acceptance .given in
+    rw (
+      called-lines (now (a .text)) (narrow (now (a .work))) (ltb 8640 (length (now (a .run)))) (sym e ∙ c .before .before .before .before .if1 .left),
+      is-refused (now (a .text)) (r .result) (outcome (now (a .text))) (v .0 .0) (v .0 .1 .0) (r .ensures) (v .1),
+    ) (refl, refl)
+
+enum-told : tie.Need-enum-told
+enum-told c = search needs
+
+replay-model-requires : tie.Need-replay-model-requires
+replay-model-requires c κs =
+    let a = c .before .before .before .before .before .before .before .before .before .before .args in
+    let e = c .before .before .before .before .before .before .early .ensures in
+    let r = c .before .before .before .before .read in
+    let l = sizes (length (now (a .text))) (narrow (now (a .work))) (ltb 8640 (length (now (a .run)))) (sym e ∙ c .before .before .before .before .before .if1 .left) in (
+      good-model (now (a .text)) (r .result) (r .ensures) (c .before .before .enum-told .given .1),
+      ltb-false 8640 (length (now (a .run))) (l .1),
+      ltb-false (length (now (a .work))) 32768 (l .0),
+    )
+
+same-length : tie.Need-same-length
+same-length c = search needs
+
+returns-3 : tie.Need-returns-3
+returns-3 c =
+    let a = c .before .before .before .before .before .before .before .before .before .before .before .before .before .args in
+    let e = c .before .before .before .before .before .before .before .before .before .early .ensures in
+    let r = c .before .before .before .before .before .before .before .read in
+    let p = c .before .before .replay-model in
+    rw (called-lines (now (a .text)) (narrow (now (a .work))) (ltb 8640 (length (now (a .run)))) (sym e ∙ c .before .before .before .before .before .before .before .before .if1 .left))
+    (replayed (now (a .text)) (r .result) (r .ensures) (c .before .before .before .before .before .enum-told .given .1)
+    (now (a .run)) (now (a .work)) (p .last .1 .1 .0) (p .result) (p .ensures .0) (p .ensures .1))
+
+pub replay-spec : {M : Type 1} → statement M
+replay-spec =
+    tie.close
+    (tie.spec
+    early-requires
+    returns
+    read-requires
+    enum-known-acceptance
+    returns-2
+    enum-told
+    replay-model-requires
+    same-length
+    returns-3)

@@ -1,0 +1,177 @@
+-- The meeting of a stage: whether it is allowed, and the state after it.
+use mathlib.Core.Path.{_≡_, refl, sym, ap, _∙_, subst}
+use mathlib.Core.Logic.{_⊎_, inl, inr, ⊎-elim, _≢_}
+use mathlib.Core.Bool.{true, false}
+use mathlib.Core.List.{List, [], _∷_}
+use mathlib.Core.Option.{some, Option·none-ne-some, Option·some-injective}
+use Prim.Native.Nat.{ℕ, suc, _≤_, _<_}
+use native.Mathlib.Omega.{arith}
+use borrow.Author.Tests.{eqb-true, eq-eqb, ne-eqb}
+use lib.Dec.{eqb}
+use lib.ListN.{length, take, getD}
+use Rattle.semantics.specs.Models.{elem, Body, vars, supported, names, Supported}
+use Rattle.semantics.specs.Facts.{Derived, Meets}
+use Rattle.semantics.specs.Runs.{meet, pick, named, Allowed}
+use Rattle.semantics.proofs.Tools.{either, same?, clash}
+use Rattle.semantics.proofs.Bodies.{holds-agree, supported-vars}
+use Rattle.model.specs.declared.Model.{Model}
+use Rattle.model.specs.declared.Stage.{Stage}
+use Rattle.model.specs.Records.{programOf, questionOf, stageBody, stageOf, numberIn, stageAt}
+use Rattle.model.specs.Places.{objects}
+use Rattle.model.specs.WellFormed.{WellFormed}
+use Rattle.model.proofs.Renaming.{elem-map, elem-of-map, vars-renamed, supported-renamed, meets-renamed, named-renamed}
+use Rattle.model.proofs.Accepted.{stages, stage-here, stage-vars, stage-different, stage-count}
+use Rattle.facts_candidates.specs.Choices.{chosen}
+use Rattle.replay_session.specs.declared.Session.{Session}
+use Rattle.replay_session.specs.Sessions.{met}
+use Rattle.replay_session.specs.Records.{sessionOf, carriedBy}
+use Rattle.replay_view.specs.declared.View.{View}
+use Rattle.replay_steps.specs.Tries.{Ready, Holding, Tried}
+use Rattle.replay_meetings.specs.Carried.{Named, Agrees, carriedOn}
+use Rattle.replay_meetings.proofs.Objects.{pick-place, choice, objects-chosen, chosen-small}
+
+-- the object named for the carried variable fits a byte
+pub named-small : (g : Stage) (v a b c r : ℕ) → a < 256 → b < 256 → c < 256 → Named g v (choice a b c) r → r < 256
+named-small g v a b c r ha hb hc = ⊎-elim (λ f. rw (f .3) (chosen-small a b c (f .0) ha hb hc)) (λ f. rw (f .1) (omega arith))
+
+-- a stage's body can be handed to the evaluator
+module _ (m : Model) (w : WellFormed m) (i : ℕ) (h : i < m .stagecount) where
+  pub part-within : stageAt m i .first ≤ 544
+  part-within = let p = w .stage i h .part .within in let l = w .literalcount in omega arith
+
+  pub part-supported : Supported (vars (stageBody (m .literals) (stageAt m i))) (stageBody (m .literals) (stageAt m i))
+  part-supported x e =
+      let f = numberIn (stageAt m i) in
+      let b = stageBody (m .literals) (stageAt m i) in
+      let safe = subst (λ (body : Body). Supported (vars body) body) (stage-here m w i h) (w .safely i) (f x) (rw (vars-renamed f b) (elem-map f x (vars b) e)) in
+      let y = elem-of-map f (f x) (supported b) (rw (supported-renamed f b) at safe) in
+      rw (stage-different m w i h x (y .0) e (supported-vars (y .0) b (y .1)) (y .2)) (y .1)
+
+module _ (m : Model) (s : Session) (v : View) (w : List ℕ) (ready : Ready m s v w) (left : s .met < m .stagecount) (a b c : ℕ) where
+  abbrev os : List ℕ
+  os = objects (a ∷ b ∷ c ∷ [])
+
+  abbrev g : Stage
+  g = stageAt m (s .met)
+
+  abbrev local : Body
+  local = stageBody (m .literals) g
+
+  abbrev stage : Body
+  stage = stageOf (m .literals) g
+
+  here : getD (questionOf m) (s .met) [] ≡ stage
+  here = stage-here m (ready .accepted) (s .met) left
+
+  -- THE MEETING of the next stage, with its body as the record has it
+  abbrev Meeting : ℕ → Body → Type 0
+  Meeting i body = (s .met < length (questionOf m)) × (i ≡ suc (s .met)) × (length os ≡ length (names body))
+      × Meets (programOf m) (take (s .objects) (s .states)) (named body os) body
+      × ((x d : ℕ) → sessionOf m s .carried x ≡ some d → elem x (vars body) ≡ true → named body os x ≡ d)
+
+  to-meeting : (i : ℕ) → Allowed (programOf m) (questionOf m) (sessionOf m s) (meet i os) → Meeting i stage
+  to-meeting i h = subst (Meeting i) here h
+
+  from-meeting : (i : ℕ) → Meeting i stage → Allowed (programOf m) (questionOf m) (sessionOf m s) (meet i os)
+  from-meeting i h = subst (Meeting i) (sym here) h
+
+  -- another stage, or another number of objects
+  pub other-stage : (i : ℕ) → i ≢ suc (s .met) → Tried m s (meet i os) false s
+  other-stage i n = ((λ h. n (h .1)), refl)
+
+  pub other-count : (i : ℕ) → length os ≢ g .variables → Tried m s (meet i os) false s
+  other-count i n = ((λ h. n (to-meeting i h .2 ∙ stage-count m (ready .accepted) (s .met) left)), refl)
+
+  module _ (i : ℕ) (next : i ≡ suc (s .met)) (count : length os ≡ g .variables) where
+    -- the object of the stage's variable x
+    object : (x : ℕ) → x < g .variables → named stage os (numberIn g x) ≡ chosen (choice a b c) x
+    object x l =
+        named-renamed (numberIn g) local (stage-different m (ready .accepted) (s .met) left) os x (stage-vars m (ready .accepted) (s .met) left x .1 l)
+        ∙ ap (λ (ns : List ℕ). pick ns os 0 x) (ready .accepted .stage (s .met) left .numbered)
+        ∙ pick-place 0 (g .variables) os x x (omega arith) l count
+        ∙ objects-chosen a b c x (omega arith) .0
+
+    object-named : (x : ℕ) → x < g .variables → chosen (choice a b c) x ≢ 255
+    object-named x l = objects-chosen a b c x (omega arith) .1
+
+    -- THE STAGE HOLDS for the objects named exactly if its body in the literal row does
+    abbrev Held : Type 0
+    Held = Holding m s local (g .variables) (choice a b c)
+
+    to-held : Meets (programOf m) (take (s .objects) (s .states)) (named stage os) stage → Held
+    to-held h = ((λ x. named stage os (numberIn g x)), meets-renamed (numberIn g) (programOf m) (take (s .objects) (s .states)) (named stage os) local .0 h, λ x l n. object x l)
+
+    from-held : Held → Meets (programOf m) (take (s .objects) (s .states)) (named stage os) stage
+    from-held h =
+        meets-renamed (numberIn g) (programOf m) (take (s .objects) (s .states)) (named stage os) local .1
+        (holds-agree (take (s .objects) (s .states)) (Derived (programOf m) (take (s .objects) (s .states))) (h .0) (λ x. named stage os (numberIn g x)) local agree (h .1))
+      where
+        agree : (x : ℕ) → elem x (vars local) ≡ true → h .0 x ≡ named stage os (numberIn g x)
+        agree x e = let l = stage-vars m (ready .accepted) (s .met) left x .0 e in h .2 x l (object-named x l) ∙ sym (object x l)
+
+    pub not-held : (Held → ⊥) → Tried m s (meet i os) false s
+    not-held n = ((λ h. n (to-held (to-meeting i h .3))), refl)
+
+    -- THE CARRIED VARIABLE
+    module _ (o : ℕ) (found : Named g (m .carried) (choice a b c) o) where
+      -- the stage has the carried variable, and o is its object; or it has not, and o is 255
+      abbrev Has : Type 0
+      Has = ((elem (m .carried) (vars stage) ≡ true) × (named stage os (m .carried) ≡ o) × (o ≢ 255)) ⊎ ((elem (m .carried) (vars stage) ≡ false) × (o ≡ 255))
+
+      has : Has
+      has = ⊎-elim
+          (λ (f : (x : ℕ) × (x < g .variables) × (numberIn g x ≡ m .carried) × (o ≡ chosen (choice a b c) x)).
+          inl (
+            subst (λ (y : ℕ). elem y (vars stage) ≡ true) (f .2) (rw (vars-renamed (numberIn g) local) (elem-map (numberIn g) (f .0) (vars local) (stage-vars m (ready .accepted) (s .met) left (f .0) .1 (f .1)))),
+            ap (named stage os) (sym (f .2)) ∙ object (f .0) (f .1) ∙ sym (f .3),
+            (λ e. object-named (f .0) (f .1) (sym (f .3) ∙ e)),
+          ))
+          (λ f. inr (
+            ⊎-elim
+                (λ e. let y = elem-of-map (numberIn g) (m .carried) (vars local) (rw (vars-renamed (numberIn g) local) at e) in
+                absurd (f .0 (y .0) (stage-vars m (ready .accepted) (s .met) left (y .0) .0 (y .1)) (sym (y .2))))
+                (λ e. e)
+                (either (elem (m .carried) (vars stage))),
+            f .1,
+          ))
+          found
+
+      -- a carried object that differs
+      pub disagrees : (Agrees (s .carried) o → ⊥) → Tried m s (meet i os) false s
+      disagrees n = ((λ h. n (λ p q. ⊎-elim (λ f. sym (f .1) ∙ to-meeting i h .4 (m .carried) (s .carried) (carries p) (f .0)) (λ f. absurd (q (f .1))) has)), refl)
+        where
+          carries : s .carried ≢ 255 → sessionOf m s .carried (m .carried) ≡ some (s .carried)
+          carries p = rw (eq-eqb (m .carried) (m .carried) refl, ne-eqb (s .carried) 255 p)
+
+      -- the carried object is the one that the meeting names
+      one-object : Agrees (s .carried) o → (x d : ℕ) → sessionOf m s .carried x ≡ some d → elem x (vars stage) ≡ true → named stage os x ≡ d
+      one-object agree x d e h = go (either (eqb x (m .carried))) (same? (s .carried) 255)
+        where
+          go : (eqb x (m .carried) ≡ true) ⊎ (eqb x (m .carried) ≡ false) → (s .carried ≡ 255) ⊎ (s .carried ≢ 255) → named stage os x ≡ d
+          go (inr q) c = absurd (Option·none-ne-some d (rw q at e))
+          go (inl q) (inl c) = absurd (Option·none-ne-some d (rw (q, eq-eqb (s .carried) 255 c) at e))
+          go (inl q) (inr c) =
+              let p = eqb-true x (m .carried) q in
+              let f = Option·some-injective (s .carried) d (rw (q, ne-eqb (s .carried) 255 c) at e) in
+              ⊎-elim
+              (λ k. ap (named stage os) p ∙ k .1 ∙ agree c (k .2) ∙ f)
+              (λ k. clash (subst (λ (y : ℕ). elem y (vars stage) ≡ true) p h) (k .0))
+              has
+
+      carried-after : carriedOn (s .carried) o ≡ carriedBy m s stage os
+      carried-after = ⊎-elim
+          (λ f. rw (f .0, ne-eqb o 255 (f .2)) (sym (f .1)))
+          (λ f. rw (f .0, eq-eqb o 255 (f .1)))
+          has
+
+      pub meeting-kept : Agrees (s .carried) o → Held → Tried m s (meet i os) true (met s (carriedOn (s .carried) o))
+      meeting-kept agree h = (
+        from-meeting i (
+          (let q = stages m (ready .accepted) in omega arith),
+          next,
+          count ∙ sym (stage-count m (ready .accepted) (s .met) left),
+          from-held h,
+          one-object agree,
+        ),
+        ap (met s) (carried-after ∙ ap (λ (y : Body). carriedBy m s y os) (sym here)),
+      )

@@ -1,0 +1,117 @@
+// The meeting of a stage put to the replay's state.
+use facts_candidates::Choice;
+use model::Model;
+use model::Stage;
+use replay_session::Session;
+use replay_steps::Outcome;
+use replay_view::View;
+ghost use mathlib.Core.Path.{_≡_};
+ghost use mathlib.Core.List.{[], _∷_};
+ghost use Prim.Native.Nat.{_≤_, _<_};
+ghost use lib.ListN.{length};
+ghost use Rattle.semantics.specs.Runs.{meet};
+ghost use Rattle.model.specs.Places.{objects};
+ghost use Rattle.replay_session.specs.Sessions.{Says};
+ghost use Rattle.replay_steps.specs.Tries.{Ready, Tried};
+ghost use Rattle.replay_meetings.specs.Carried.{Named, Agrees, carriedOn};
+
+// Stands for no object.
+const NONE: u32 = 255;
+
+// How many objects a meeting names.
+fn count(first: u32, second: u32, third: u32) -> u32
+    ensures { λ r. ⌜ r ≡ length (objects (first ∷ second ∷ third ∷ [])) ⌝ }
+{
+    if first == NONE {
+        return 0;
+    }
+    if second == NONE {
+        return 1;
+    }
+    if third == NONE {
+        return 2;
+    }
+    3
+}
+
+// The object that a choice has for the stage's variable of a number, or NONE.
+fn named(g: Stage, number: u32, c: Choice) -> usize
+    requires { ⌜ g .variables ≤ 3 ⌝ }
+    ensures { λ r. ⌜ Named g number c r ⌝ }
+{
+    let n = g.variables as usize;
+    let mut x = 0;
+    while x < n {
+        if g.numbers[x] == number {
+            return facts_candidates::element(c, x);
+        }
+        x += 1;
+    }
+    NONE as usize
+}
+
+// Whether an object may be met where another, or none, is carried.
+fn agrees(carried: u32, object: u32) -> bool
+    ensures { λ r. ⌜ Says (Agrees carried object) r ⌝ }
+{
+    if carried == NONE {
+        return true;
+    }
+    if object == NONE {
+        return true;
+    }
+    if object == carried {
+        return true;
+    }
+    false
+}
+
+// The carried object after the meeting.
+fn carry(carried: u32, object: u32) -> u32
+    ensures { λ r. ⌜ r ≡ carriedOn carried object ⌝ }
+{
+    if object == NONE { carried } else { object }
+}
+
+// The meeting of a stage with objects, the named ones first.
+pub fn meet_place(
+    m: Model,
+    s: Session,
+    v: View,
+    work: &[u8],
+    stage: u32,
+    first: u32,
+    second: u32,
+    third: u32,
+) -> Outcome
+    requires { ⌜ Ready m s v (now work) × (s .met < m .stagecount) × (first < 256) × (second < 256) × (third < 256) ⌝ }
+    ensures { λ r. ⌜ Tried m s (meet stage (objects (first ∷ second ∷ third ∷ []))) (r .allowed) (r .session) ⌝ }
+{
+    let i = s.met;
+    if stage as usize != i + 1 {
+        return replay_steps::disallow(s);
+    }
+    let g = m.stages[i];
+    let part = g.first;
+    let size = g.count;
+    if count(first, second, third) != g.variables {
+        return replay_steps::disallow(s);
+    }
+    let fixed = Choice {
+        first: first as usize,
+        second: second as usize,
+        third: third as usize,
+    };
+    let object = named(g, m.carried, fixed) as u32;
+    if !agrees(s.carried, object) {
+        return replay_steps::disallow(s);
+    }
+    if replay_steps::holds(m, s, v, work, part, size, g.variables, fixed) {
+        let after = replay_session::meet(s, carry(s.carried, object));
+        return Outcome {
+            allowed: true,
+            session: after,
+        };
+    }
+    replay_steps::disallow(s)
+}

@@ -1,0 +1,122 @@
+-- A run, place by place.
+use mathlib.Core.Path.{_≡_, refl, sym, _∙_, subst, fun-ext}
+use mathlib.Core.Logic.{inl, inr, _≢_}
+use mathlib.Core.Bool.{Bool, true, false, cond}
+use mathlib.Core.List.{List, []}
+use mathlib.Core.Option.{Option, none}
+use Prim.Native.Nat.{ℕ, suc, _+_, _≤_, _<_}
+use native.Mathlib.Omega.{arith}
+use native.Mathlib.Numerals.{add-one}
+use native.Mathlib.Nat.{not-suc-le-zero}
+use lib.Dec.{eqb}
+use lib.ListN.{length, drop, getD, length-set, length-replicate, drop-of-length-le}
+use lib.Seq.{drop-cons}
+use Rattle.semantics.specs.Models.{Line, rule, new, next, other, line}
+use Rattle.semantics.specs.Facts.{Database}
+use Rattle.semantics.specs.Steps.{Enabled}
+use Rattle.semantics.specs.Runs as runs
+use Rattle.semantics.specs.Runs.{step, meet, start, nobody, Allowed}
+use Rattle.model.specs.declared.Model.{Model}
+use Rattle.model.specs.Records.{programOf, questionOf}
+use Rattle.model.specs.Places.{Numerable}
+use Rattle.model.specs.WellFormed.{WellFormed}
+use Rattle.model.proofs.Places.{number-of-place}
+use Rattle.model.proofs.Accepted.{stages}
+use Rattle.replay_session.specs.declared.Answer.{Answer}
+use Rattle.replay_session.specs.declared.Answer.the-variants.{Kept, Broken}
+use Rattle.replay_session.specs.declared.Session.{Session}
+use Rattle.replay_session.specs.Sessions.{stepped}
+use Rattle.replay_session.specs.Records.{sessionOf, Fits, taken}
+use Rattle.replay_session.specs.Replays.{Replays}
+use Rattle.replay_session.proofs.Effects.{taken-after, taken-fits}
+use Rattle.replay_steps.specs.Tries.{TriedAt}
+use Rattle.replay_runs.specs.Replies.{fresh}
+
+-- THE START
+pub fresh-session : (m : Model) → sessionOf m fresh ≡ start []
+fresh-session m = λ i. record { db = []; met = 0; carried = fun-ext none-carried i }
+  where
+    either-none : (b : Bool) → _≡_ {A = Option ℕ} (cond b none none) none
+    either-none true = refl
+    either-none false = refl
+
+    none-carried : (x : ℕ) → sessionOf m fresh .carried x ≡ nobody x
+    none-carried x = either-none (eqb x (m .carried))
+
+pub fresh-fits : (m : Model) → Fits m fresh
+fresh-fits m =
+    record {
+      objects = omega arith;
+      relations = λ o a l. absurd (not-suc-le-zero l);
+      stages = omega arith;
+      carried = inl refl;
+      places = omega arith;
+    }
+
+pub fresh-long : length (fresh .states) ≡ 255
+fresh-long = length-replicate {A = ℕ} 255 0
+
+-- WHAT A PLACE LEAVES: the array's length, and one more place kept
+stepped-long : (s : Session) (o : ℕ) (L : Line) → length (stepped s o L .states) ≡ length (s .states)
+stepped-long s o (rule r xs b) = refl
+stepped-long s o (new t b) = length-set (s .states) (s .objects) t
+stepped-long s o (next x plus minus b) = length-set (s .states) o _
+stepped-long s o other = refl
+
+taken-long : (m : Model) (s : Session) (p : runs.Place) → length (taken m s p .states) ≡ length (s .states)
+taken-long m s (step ℓ o) = stepped-long s o (line (programOf m) ℓ)
+taken-long m s (meet i os) = refl
+
+stepped-kept : (m : Model) (db : Database) (s : Session) (o : ℕ) (L : Line) → Enabled (programOf m) db o L → stepped s o L .kept ≡ s .kept + 1
+stepped-kept m db s o (rule r xs b) e = absurd e
+stepped-kept m db s o (new t b) e = refl
+stepped-kept m db s o (next x plus minus b) e = refl
+stepped-kept m db s o other e = absurd e
+
+taken-kept : (m : Model) (s : Session) (p : runs.Place) → Allowed (programOf m) (questionOf m) (sessionOf m s) p → taken m s p .kept ≡ s .kept + 1
+taken-kept m s (step ℓ o) a = stepped-kept m (sessionOf m s .db) s o (line (programOf m) ℓ) (a .1)
+taken-kept m s (meet i os) a = refl
+
+-- WHERE A RUN STANDS after i places, all kept: what the rest of the run is answered from there, the whole run is answered
+pub record Running (m : Model) (run : List ℕ) (i : ℕ) (s : Session) : Type 0 where
+  pub kept : s .kept ≡ i
+  pub fits : Fits m s
+  pub long : length (s .states) ≡ 255
+  pub rest : (a : Answer) → Replays (programOf m) (questionOf m) (sessionOf m s) (drop i run) i a → Replays (programOf m) (questionOf m) (start []) run 0 a
+
+pub running-start : (m : Model) (run : List ℕ) → Running m run 0 fresh
+running-start m run = record { kept = refl; fits = fresh-fits m; long = fresh-long; rest = λ a h. rw (← fresh-session m) h }
+
+module _ (m : Model) (w : WellFormed m) (run : List ℕ) (i : ℕ) (s : Session) (r : Running m run i s) where
+  module _ (l : i < length run) (few : length run ≤ 8640) where
+    pub running-broken : (t : Session) → TriedAt m s (getD run i 0) false t → Replays (programOf m) (questionOf m) (start []) run 0 (Broken i)
+    running-broken t h = r .rest (Broken i) (rw (drop-cons run i 0 l) (inr (h .0, refl)))
+
+    pub running-next : (t : Session) → getD run i 0 < 4294967296 → TriedAt m s (getD run i 0) true t → Running m run (i + 1) t
+    running-next t small (p, e, (allowed, q)) =
+        subst (Running m run (i + 1)) (sym q)
+        (record {
+          kept = let k = taken-kept m s p allowed in let j = r .kept in omega arith;
+          fits = taken-fits m w s (r .long) (r .fits) p numerable (let j = r .kept in omega arith) allowed;
+          long = taken-long m s p ∙ r .long;
+          rest = λ a h. r .rest a (rw (drop-cons run i 0 l) (inl (
+            p,
+            e,
+            allowed,
+            subst (λ (x : runs.Session). Replays (programOf m) (questionOf m) x (drop (suc i) run) (suc i) a)
+                (taken-after m w s (r .long) (r .fits) p numerable allowed) (rw add-one at h),
+          )));
+        })
+      where
+        numerable : Numerable p
+        numerable = number-of-place (getD run i 0) p small e .1
+
+  module _ (end : length run ≤ i) where
+    nothing : drop i run ≡ []
+    nothing = drop-of-length-le run end
+
+    pub running-kept : s .met ≡ m .stagecount → Replays (programOf m) (questionOf m) (start []) run 0 Kept
+    running-kept e = r .rest Kept (rw nothing (e ∙ sym (stages m w)))
+
+    pub running-early : s .met ≢ m .stagecount → Replays (programOf m) (questionOf m) (start []) run 0 (Broken i)
+    running-early e = r .rest (Broken i) (rw nothing ((λ q. e (q ∙ stages m w)), refl))

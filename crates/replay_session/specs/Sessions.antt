@@ -1,0 +1,74 @@
+-- THE REPLAY'S STATE: "a database, the stages met, the carried object and the count of places kept".
+use mathlib.Core.Path.{_≡_}
+use mathlib.Core.Logic.{_⊎_}
+use mathlib.Core.Bool.{Bool, true, false, cond}
+use mathlib.Core.List.{List, []}
+use mathlib.Core.Option.{Option, none, some}
+use Prim.Native.Nat.{ℕ, _+_, _≤_, _<_}
+use lib.Dec.{eqb}
+use lib.ListN.{length, take, set, getD}
+use Rattle.semantics.specs.Labels.{has, relabel}
+use Rattle.semantics.specs.Models.{elem, Body, Line, rule, new, next, other, Program, Question, line, vars}
+use Rattle.semantics.specs.Runs as runs
+use Rattle.semantics.specs.Runs.{step, meet, named}
+use Rattle.replay_session.specs.declared.Session.{Session}
+
+-- the test says whether the fact holds
+abbrev pub Says : Type 0 → Bool → Type 0
+Says A true = A
+Says A false = A → ⊥
+
+-- the object, where 255 stands for none
+abbrev pub optional : ℕ → Option ℕ
+optional o = cond (eqb o 255) none (some o)
+
+-- WHERE A RUN STANDS, as the semantics have it; c is the text's carried variable
+abbrev pub sessionOf : ℕ → Session → runs.Session
+sessionOf c s = record { db = take (s .objects) (s .states); met = s .met; carried = λ x. cond (eqb x c) (optional (s .carried)) none }
+
+-- the state of an object
+abbrev pub stateIn : Session → ℕ → ℕ
+stateIn s o = getD (s .states) o 0
+
+-- THE STATE FITS THE TEXT, which declares so many state relations and asks Q: not "over 255 objects, an undeclared relation, too many stages, a carried object not created, or over 8,640 places"
+pub record Fits (declared : ℕ) (Q : Question) (s : Session) : Type 0 where
+  pub objects : s .objects ≤ 255
+  pub relations : (o a : ℕ) → o < s .objects → has (stateIn s o) a ≡ true → a < declared
+  pub stages : s .met ≤ length Q
+  pub carried : (s .carried ≡ 255) ⊎ (s .carried < s .objects)
+  pub places : s .kept ≤ 8640
+
+-- THE STATE AFTER A PLACE. An object is created with a set of relations
+abbrev pub created : Session → ℕ → Session
+created s t =
+    record { states = set (s .states) (s .objects) t; objects = s .objects + 1; met = s .met; carried = s .carried; kept = s .kept + 1 }
+
+-- an object is relabeled
+abbrev pub relabeled : Session → ℕ → ℕ → ℕ → Session
+relabeled s o plus minus =
+    record {
+      states = set (s .states) o (relabel (stateIn s o) plus minus);
+      objects = s .objects;
+      met = s .met;
+      carried = s .carried;
+      kept = s .kept + 1;
+    }
+
+-- a stage is met, and the carried object is c from now on
+abbrev pub met : Session → ℕ → Session
+met s c = record { states = s .states; objects = s .objects; met = s .met + 1; carried = c; kept = s .kept + 1 }
+
+-- a step of a line
+abbrev pub stepped : Session → ℕ → Line → Session
+stepped s o (rule r xs b) = s
+stepped s o (new t b) = created s t
+stepped s o (next x plus minus b) = relabeled s o plus minus
+stepped s o other = s
+
+-- the carried object after the meeting of a stage with the objects os: "where it has none the next meeting with the carried variable sets it"
+abbrev pub carriedBy : ℕ → Session → Body → List ℕ → ℕ
+carriedBy c s b os = cond (elem c (vars b)) (named b os c) (s .carried)
+
+abbrev pub taken : Program → Question → ℕ → Session → runs.Place → Session
+taken P Q c s (step ℓ o) = stepped s o (line P ℓ)
+taken P Q c s (meet i os) = met s (carriedBy c s (getD Q (s .met) []) os)

@@ -1,0 +1,21 @@
+-- THE STATES IN THE LISTING'S ORDER: "each one by rising number".
+use mathlib.Core.Path.{_≡_}
+use mathlib.Core.Logic.{_↔_}
+use mathlib.Core.Bool.{true}
+use mathlib.Core.List.{List}
+use Prim.Native.Nat.{ℕ, _-_, _≤_, _<_}
+use lib.ListN.{length, take, drop, getD, replicate}
+use Rattle.semantics.specs.Models.{elem}
+use Rattle.search_states.specs.declared.Listing.{Listing}
+
+-- the first n numbers of the row rise, so that none is there twice
+abbrev pub Rising : List ℕ → ℕ → Type 0
+Rising row n = (i j : ℕ) → i < j → j < n → getD row i 0 < getD row j 0
+
+-- the listing has exactly the states S, by rising number, and their number; the numbers behind them are zero
+pub record Lists (S : List ℕ) (l : Listing) : Type 0 where
+  pub long : length (l .states) ≡ 127
+  pub count : l .count ≤ 127
+  pub rising : Rising (l .states) (l .count)
+  pub same : (t : ℕ) → elem t (take (l .count) (l .states)) ≡ true ↔ elem t S ≡ true
+  pub rest : drop (l .count) (l .states) ≡ replicate (127 - l .count) 0

@@ -1,0 +1,47 @@
+-- THE ROW OF STATES that a search has found, in order of discovery, each with the line that it came by and the earlier state that it came from.
+use mathlib.Core.Path.{_≡_}
+use mathlib.Core.Bool.{true, cond, _||_}
+use Prim.Native.Nat.{ℕ, _+_, _≤_, _<_}
+use lib.Dec.{eqb}
+use lib.ListN.{length, take, getD, set, replicate}
+use Rattle.semantics.specs.Models.{elem, Program, Distinct}
+use Rattle.semantics.specs.Facts.{Database}
+use Rattle.semantics.specs.Tables.{Founded}
+use Rattle.search_states.specs.declared.States.{States}
+
+-- the states found; they are a database, with one object of each
+abbrev pub row : States → Database
+row s = take (s .count) (s .states)
+
+-- the line that state i came by, and the state that it came from
+abbrev pub by : States → ℕ → ℕ
+by s i = getD (s .lines) i 0
+
+abbrev pub from : States → ℕ → ℕ
+from s i = getD (s .origins) i 0
+
+-- no state is found
+abbrev pub nothing : States
+nothing = record { states = replicate 127 0; lines = replicate 127 0; origins = replicate 127 0; count = 0 }
+
+-- the state t behind, which came by line ℓ from state p
+abbrev pub appended : States → ℕ → ℕ → ℕ → States
+appended s t ℓ p =
+    record { states = set (s .states) (s .count) t; lines = set (s .lines) (s .count) ℓ; origins = set (s .origins) (s .count) p; count = s .count + 1 }
+
+-- the same, unless the state is empty or listed
+unfoldable pub added : States → ℕ → ℕ → ℕ → States
+added s t ℓ p = cond (eqb t 0 || elem t (row s)) s (appended s t ℓ p)
+
+-- the states are different, none is empty, and each is a set of at most 7 relations
+pub record Proper (s : States) : Type 0 where
+  pub count : s .count ≤ 127
+  pub states : length (s .states) ≡ 127
+  pub lines : length (s .lines) ≡ 127
+  pub origins : length (s .origins) ≡ 127
+  pub distinct : Distinct (row s)
+  pub atomic : (t : ℕ) → elem t (row s) ≡ true → (1 ≤ t) × (t < 128)
+
+-- every state came from those before it
+abbrev pub Discovered : Program → States → Type 0
+Discovered P s = Founded P (row s) (by s) (from s)

@@ -1,0 +1,105 @@
+// The row of atomic states that a search has found, in order of discovery, each with how it came.
+ghost use mathlib.Core.Path.{_≡_};
+ghost use Prim.Native.Nat.{_≤_, _<_};
+ghost use lib.ListN.{length, take};
+ghost use Rattle.semantics.specs.Models.{elem};
+ghost use Rattle.semantics.specs.Tables.{seat};
+ghost use Rattle.search_states.specs.States.{row, nothing, appended, added, Proper};
+ghost use Rattle.search_states.specs.Rising.{Lists};
+
+// State i came by line lines[i] from state origins[i].
+pub struct States {
+    pub states: [u32; 127],
+    pub lines: [u32; 127],
+    pub origins: [u32; 127],
+    pub count: usize,
+}
+
+// The states by rising number.
+pub struct Listing {
+    pub states: [u32; 127],
+    pub count: usize,
+}
+
+// No state is found yet.
+pub fn none() -> States
+    ensures { λ r. ⌜ r ≡ nothing ⌝ }
+{
+    let states = [0u32; 127];
+    let lines = [0u32; 127];
+    let origins = [0u32; 127];
+    States {
+        states,
+        lines,
+        origins,
+        count: 0,
+    }
+}
+
+// The first place of x among the first n numbers of the row, or n where it has none.
+pub fn seek(row: &[u32], n: usize, x: u32) -> usize
+    requires { ⌜ n ≤ length (now row) ⌝ }
+    ensures { λ r. ⌜ r ≡ seat x (take n (now (row .entry))) ⌝ }
+{
+    let mut i = 0;
+    while i < n {
+        if row[i] == x {
+            return i;
+        }
+        i += 1;
+    }
+    n
+}
+
+// Is x among the first n numbers of the row?
+pub fn among(row: &[u32], n: usize, x: u32) -> bool
+    requires { ⌜ n ≤ length (now row) ⌝ }
+    ensures { λ r. ⌜ r ≡ elem x (take n (now (row .entry))) ⌝ }
+{
+    seek(row, n, x) < n
+}
+
+// The row with the state behind.
+fn append(mut s: States, state: u32, line: u32, origin: u32) -> States
+    requires { ⌜ s .count < 127 ⌝ }
+    ensures { λ r. ⌜ r ≡ appended s state line origin ⌝ }
+{
+    let n = s.count;
+    s.states[n] = state;
+    s.lines[n] = line;
+    s.origins[n] = origin;
+    s.count = n + 1;
+    s
+}
+
+// The row with the state behind, unless it is empty or listed already.
+pub fn add(s: States, state: u32, line: u32, origin: u32) -> States
+    requires { ⌜ Proper s × (state < 128) ⌝ }
+    ensures { λ r. ⌜ r ≡ added s state line origin ⌝ }
+{
+    if state == 0 {
+        return s;
+    }
+    if among(&s.states, s.count, state) {
+        return s;
+    }
+    append(s, state, line, origin)
+}
+
+// The found states by rising number.
+pub fn rising(s: States) -> Listing
+    requires { ⌜ Proper s ⌝ }
+    ensures { λ r. ⌜ Lists (row s) r ⌝ }
+{
+    let mut states = [0u32; 127];
+    let mut count: usize = 0;
+    let mut t: u32 = 1;
+    while t < 128 {
+        if among(&s.states, s.count, t) {
+            states[count] = t;
+            count += 1;
+        }
+        t += 1;
+    }
+    Listing { states, count }
+}
