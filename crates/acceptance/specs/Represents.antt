@@ -3,6 +3,7 @@ use mathlib.Core.Path.{_≡_}
 use mathlib.Core.List.{List, _++_, map}
 use Prim.Native.Nat.{ℕ, _+_, _≤_, _<_}
 use lib.ListN.{length, take}
+use Rattle.limits.specs.Limits as limit
 use Rattle.semantics.specs.Models.{Program, Question, vars, names}
 use Rattle.model.specs.declared.Clause.{Clause}
 use Rattle.model.specs.declared.Stage.{Stage}
@@ -24,10 +25,10 @@ pub record HoldsClause (m : Model) (c : Clause) : Type 0 where
 -- a stage's part of the literal row, the number of its variables, and their numbers in the `ask` line in order of first appearance
 pub record HoldsStage (m : Model) (s : Stage) : Type 0 where
   pub within : s .first + s .count ≤ m .literalcount
-  pub few : s .variables ≤ 3
+  pub few : s .variables ≤ limit.variables
   pub numbered : Numbered (vars (stageBody (m .literals) s)) (s .variables)
   pub numbers : take (s .variables) (s .numbers) ≡ names (stageOf (m .literals) s)
-  pub room : length (s .numbers) ≡ 3
+  pub room : length (s .numbers) ≡ limit.variables
 
 -- the record m of a text of n lines
 pub record Represents (n : ℕ) (D : Declared) (P : Program) (Q : Question) (m : Model) : Type 0 where
@@ -42,8 +43,8 @@ pub record Represents (n : ℕ) (D : Declared) (P : Program) (Q : Question) (m :
   pub carried : m .carried ≡ carriedOf Q
   pub lines : m .lines ≡ n
   -- the sizes of the rows
-  pub literalcount : m .literalcount ≤ 544
-  pub codes : length (m .relations .codes) ≡ 23
-  pub row : length (m .clauses) ≡ 64
-  pub literals : length (m .literals) ≡ 544
-  pub asked : length (m .stages) ≡ 4
+  pub literalcount : m .literalcount ≤ limit.literals
+  pub codes : length (m .relations .codes) ≡ limit.declared
+  pub row : length (m .clauses) ≡ limit.clauses
+  pub literals : length (m .literals) ≡ limit.literals
+  pub asked : length (m .stages) ≡ limit.stages

@@ -5,6 +5,7 @@ use mathlib.Core.Bool.{true, cond}
 use mathlib.Core.List.{List, [], _∷_, _++_}
 use Prim.Native.Nat.{ℕ, suc, _+_, _^_, _≤_, _<_}
 use lib.ListN.{length, take, getD}
+use Rattle.limits.specs.Limits as limit
 use Rattle.semantics.specs.Models.{elem, Literal, is, isnt, fact, Body, Line, rule, new, next, other, Program, Question, vars, shared, firsts, names, SafeLine, Safe, SafeQuestion, CarriesOnly}
 use Rattle.model.specs.Records.{upFrom}
 use Rattle.model.specs.WellFormed.{indexOf, Numbered, uncarried}
@@ -30,10 +31,10 @@ pub record GoodDeclarations (D : Declared) : Type 0 where
   -- each has the next index of its class
   pub order : (i : ℕ) → i < length D → (class (codeAt D i) < 4) × (indexOf (codeAt D i) ≡ count (class (codeAt D i)) (take i D))
   -- "at most 7" states, "at most 16" derived relations, "of them at most 6 with n = 2"
-  pub most : length D ≤ 23
-  pub states : count 0 D ≤ 7
-  pub derived : count 1 D + count 2 D + count 3 D ≤ 16
-  pub pairs : count 3 D ≤ 6
+  pub most : length D ≤ limit.declared
+  pub states : count 0 D ≤ limit.states
+  pub derived : count 1 D + count 2 D + count 3 D ≤ limit.rels
+  pub pairs : count 3 D ≤ limit.pairs
 
 -- a declared state relation, and a declared derived relation of n variables
 abbrev pub DeclaredState : Declared → ℕ → Type 0
@@ -53,7 +54,7 @@ GoodLiteral D (isnt a x) = DeclaredState D a
 GoodLiteral D (fact r xs) = DeclaredRelation D r (length xs)
 
 pub record GoodBody (D : Declared) (b : Body) : Type 0 where
-  pub short : length b ≤ 8
+  pub short : length b ≤ limit.body
   pub literals : Each (GoodLiteral D) b
 
 -- VARIABLES as they stand in a line are numbered from 0 by first appearance, and there are at most n of them
@@ -88,7 +89,7 @@ pub record GoodClause (n : ℕ) (D : Declared) (c : ℕ × Line) : Type 0 where
   pub head : GoodHead D (c .1)
   pub body : GoodBody D (bodyOf (c .1))
   -- "a line's body with its head .. has at most 3 variables"
-  pub variables : InOrder 3 (headOf (c .1) ++ vars (bodyOf (c .1)))
+  pub variables : InOrder limit.variables (headOf (c .1) ++ vars (bodyOf (c .1)))
   pub safe : SafeLine (c .1)
 
 abbrev pub lineAt : Program → ℕ → ℕ
@@ -97,7 +98,7 @@ lineAt P i = getD P i (0, other) .0
 -- THE LINES before line n: declarations, and at most 64 clauses in the order of their lines
 pub record GoodLines (n : ℕ) (D : Declared) (P : Program) : Type 0 where
   pub declarations : GoodDeclarations D
-  pub clauses : length P ≤ 64
+  pub clauses : length P ≤ limit.clauses
   pub clause : Each (GoodClause n D) P
   pub rising : (i j : ℕ) → i < j → j < length P → lineAt P i < lineAt P j
 
@@ -118,15 +119,15 @@ carriedOf Q = firstShared Q (askVars Q)
 pub record GoodStage (D : Declared) (q : Body) : Type 0 where
   pub some : 1 ≤ length q
   pub body : GoodBody D q
-  pub few : length (names q) ≤ 3
-  pub small : (x : ℕ) → elem x (vars q) ≡ true → x < 12
+  pub few : length (names q) ≤ limit.variables
+  pub small : (x : ℕ) → elem x (vars q) ≡ true → x < limit.asked
 
 pub record GoodQuestion (D : Declared) (Q : Question) : Type 0 where
   -- "1 to 4 stages"
   pub one : 1 ≤ length Q
-  pub stages : length Q ≤ 4
+  pub stages : length Q ≤ limit.stages
   pub stage : Each (GoodStage D) Q
-  pub variables : InOrder 12 (askVars Q)
+  pub variables : InOrder limit.asked (askVars Q)
   pub safe : SafeQuestion Q
   -- no other variable is carried (row 11)
   pub carries : CarriesOnly Q (carriedOf Q)
@@ -134,7 +135,7 @@ pub record GoodQuestion (D : Declared) (Q : Question) : Type 0 where
 
 -- A SOUND MODEL of a text of n lines, the last of which is `ask`
 pub record Sound (n : ℕ) (D : Declared) (P : Program) (Q : Question) : Type 0 where
-  pub most : n ≤ 16384
+  pub most : n ≤ limit.text
   pub lines : GoodLines n D P
   pub safe : Safe P
   pub question : GoodQuestion D Q

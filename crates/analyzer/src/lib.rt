@@ -1,7 +1,7 @@
 // The analysis of a text.
 use analyzer_verdict::Analysis;
 use analyzer_verdict::Answer;
-use calls::WORK;
+use limits::WORK;
 use text::Acceptance;
 ghost use mathlib.Core.Path.{_≡_};
 ghost use Rattle.analyzer.specs.Analyzing.{short as tooShort, refusal, Analyzes};

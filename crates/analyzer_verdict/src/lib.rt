@@ -1,5 +1,5 @@
 // The analysis of an accepted model: the verdict with the run of a reached question, and the reachable states.
-use calls::WORK;
+use limits::WORK;
 use model::Model;
 use model::Place;
 use search::Found;

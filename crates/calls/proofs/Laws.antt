@@ -8,6 +8,7 @@ use native.Mathlib.Omega.{arith}
 use lib.Dec.{eqb, ltb}
 use lib.ListN.{length}
 use borrow.Author.Tests.{ne-eqb}
+use Rattle.limits.specs.Limits as limit
 use Rattle.grammar.specs.Texts.{refused, outcome}
 use Rattle.calls.specs.Calls.{early, called}
 
@@ -30,4 +31,4 @@ rows false false false e = (refl, refl)
 
 pub sizes : (bytes : ℕ) (short long : Bool) → early bytes short long ≡ 0 → (short ≡ false) × (long ≡ false)
 unfolding early
-sizes bytes short long e = rows (eqb bytes 0 || ltb 16384 bytes) short long e
+sizes bytes short long e = rows (eqb bytes 0 || ltb limit.text bytes) short long e

@@ -4,11 +4,12 @@ use mathlib.Core.List.{List}
 use Prim.Native.Nat.{ℕ}
 use lib.Dec.{eqb, ltb}
 use lib.ListN.{length}
+use Rattle.limits.specs.Limits as limit
 use Rattle.grammar.specs.Texts.{Outcome, refused, outcome}
 
 -- the row that is given before the lines, or 0: 1, "no bytes, or over 16,384"; 12, where a lent buffer is too short; 14, where a run is too long
 unfoldable pub early : ℕ → Bool → Bool → ℕ
-early bytes short long = cond (eqb bytes 0 || ltb 16384 bytes) 1 (cond short 12 (cond long 14 0))
+early bytes short long = cond (eqb bytes 0 || ltb limit.text bytes) 1 (cond short 12 (cond long 14 0))
 
 -- THE ANSWER TO A CALL. "Order: 1, 12, 14, then line by line"; "line 0 for 1, 12 .. and 14"
 unfoldable pub called : List ℕ → Bool → Bool → Outcome

@@ -2,7 +2,8 @@
 use mathlib.Core.List.{List, _++_}
 use Prim.Native.Nat.{ℕ}
 use lib.ListN.{drop, replicate}
+use Rattle.limits.specs.Limits as limit
 
 -- "the first 32,768 work bytes are zero and the rest untouched"
 unfoldable pub wiped : List ℕ → List ℕ
-wiped w = replicate 32768 0 ++ drop 32768 w
+wiped w = replicate limit.work 0 ++ drop limit.work w

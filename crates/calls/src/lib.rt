@@ -2,11 +2,11 @@
 ghost use mathlib.Core.Path.{_≡_};
 ghost use Prim.Native.Nat.{_≤_};
 ghost use lib.ListN.{length};
+ghost use Rattle.limits.specs.Limits as limit;
 ghost use Rattle.calls.specs.Calls.{early as earlyRow};
 ghost use Rattle.calls.specs.Wiping.{wiped};
-
-// How many work bytes are used.
-pub const WORK: usize = 32_768;
+use limits::TEXT;
+use limits::WORK;
 
 // The row that refuses a call before its lines are read, or 0: the text's bytes, a lent buffer that is too short, a run that is too long.
 pub fn early(bytes: usize, short: bool, long: bool) -> u32
@@ -15,7 +15,7 @@ pub fn early(bytes: usize, short: bool, long: bool) -> u32
     if bytes == 0 {
         return 1;
     }
-    if bytes > 16_384 {
+    if bytes > TEXT {
         return 1;
     }
     if short {
@@ -29,7 +29,7 @@ pub fn early(bytes: usize, short: bool, long: bool) -> u32
 
 // Sets the work bytes to zero.
 pub fn wipe(work: &mut [u8])
-    requires { ⌜ 32768 ≤ length (now work) ⌝ }
+    requires { ⌜ limit.work ≤ length (now work) ⌝ }
     ensures { λ _. ⌜ now (work .exit) ≡ wiped (now (work .entry)) ⌝ }
 {
     let mut i = 0;

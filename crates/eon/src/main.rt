@@ -1,9 +1,9 @@
 // The program: reads a text from standard input and writes its listing to standard output.
 use analyzer_verdict::Analysis;
 use analyzer_verdict::Answer;
-use calls::WORK;
 use libc::STDIN_FILENO;
 use libc::STDOUT_FILENO;
+use limits::WORK;
 use model::Model;
 ghost use Prim.Native.Nat.{_≤_};
 ghost use lib.ListN.{length, take};

@@ -1,11 +1,12 @@
 -- BYTES, WORDS AND LINES. A text is a list of bytes, each a number.
 use mathlib.Core.Bool.{Bool, true, false, cond, not, _&&_, _||_}
 use mathlib.Core.List.{List, [], _∷_}
-use Prim.Native.Nat.{ℕ}
+use Prim.Native.Nat.{ℕ, _-_}
 use Prim.Native.Char.{code}
 use Prim.Native.String.{String}
 use lib.Dec.{eqb, leb}
 use lib.ListN.{length}
+use Rattle.limits.specs.Limits as limit
 
 -- the bytes of a quoted text
 abbrev pub bytes : String → List ℕ
@@ -61,4 +62,4 @@ same (b ∷ w) (c ∷ v) = eqb b c && same w v
 -- "A NAME OR VARIABLE is 1 to 16 letters or digits, first a letter, and is not `not`"
 unfoldable pub isName : Word → Bool
 isName [] = false
-isName (b ∷ w) = letter b && every alphanumeric w && leb (length w) 15 && not (same (b ∷ w) (bytes "not"))
+isName (b ∷ w) = letter b && every alphanumeric w && leb (length w) (limit.name - 1) && not (same (b ∷ w) (bytes "not"))

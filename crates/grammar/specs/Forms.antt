@@ -4,6 +4,7 @@ use mathlib.Core.List.{List, [], _∷_, _++_}
 use Prim.Native.Nat.{ℕ, _+_}
 use lib.Dec.{leb, ltb}
 use lib.ListN.{length}
+use Rattle.limits.specs.Limits as limit
 use Rattle.grammar.specs.Bytes.{bytes, Word, isName}
 
 -- `(R x ..)`: a relation's name and its variables
@@ -72,11 +73,11 @@ properLiteral (negated a) = properAtom a
 
 -- "a list has 0 to 7 names"
 abbrev pub properList : List Word → Bool
-properList l = all isName l && leb (length l) 7
+properList l = all isName l && leb (length l) limit.list
 
 -- "a body 0 to 8 literals"
 abbrev pub properBody : List Literal → Bool
-properBody b = all properLiteral b && leb (length b) 8
+properBody b = all properLiteral b && leb (length b) limit.body
 
 -- a stage has "1 to 8 literals"
 abbrev pub properStage : List Literal → Bool
@@ -89,4 +90,4 @@ proper (relForm w n) = isName w && leb n 2
 proper (ruleForm h b) = properAtom h && properBody b
 proper (newForm l b) = properList l && properBody b
 proper (nextForm x p m b) = isName x && properList p && properList m && properBody b
-proper (askForm qs) = all properStage qs && ltb 0 (length qs) && leb (length qs) 4
+proper (askForm qs) = all properStage qs && ltb 0 (length qs) && leb (length qs) limit.stages

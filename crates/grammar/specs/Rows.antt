@@ -5,6 +5,7 @@ use mathlib.Core.Option.{Option, none, some}
 use Prim.Native.Nat.{ℕ, _+_, min}
 use lib.Dec.{eqb, leb}
 use lib.ListN.{length}
+use Rattle.limits.specs.Limits as limit
 use Rattle.grammar.specs.Bytes.{Word}
 use Rattle.grammar.specs.Forms.{Literal, plain, negated, Form, stateForm, relForm, ruleForm, newForm, nextForm, askForm, all}
 use Rattle.grammar.specs.Declarations.{isState, arityOf, Declared, lookup, count, member, extend, variables, supports, stands, allVariables}
@@ -19,13 +20,13 @@ row n applies = cond applies n 0
 
 -- row 4, "one declaration or clause too many": at most 7 states; 16 relations, of them 6 with n = 2; 64 clauses
 abbrev pub manyStates : Declared → Bool
-manyStates D = leb 7 (count 0 D)
+manyStates D = leb limit.states (count 0 D)
 
 abbrev pub manyRelations : Declared → ℕ → Bool
-manyRelations D n = leb 16 (count 1 D + count 2 D + count 3 D) || eqb n 2 && leb 6 (count 3 D)
+manyRelations D n = leb limit.rels (count 1 D + count 2 D + count 3 D) || eqb n 2 && leb limit.pairs (count 3 D)
 
 abbrev pub manyClauses : ℕ → Bool
-manyClauses clauses = leb 64 clauses
+manyClauses clauses = leb limit.clauses clauses
 
 -- row 5, "a name declared again"
 abbrev pub again : Option ℕ → Bool
@@ -68,7 +69,7 @@ abbrev pub supported : List Word → List Literal → Bool
 supported hs b = all (λ x. member x (supports b)) (hs ++ variables b)
 
 abbrev pub few : List Word → List Literal → Bool
-few hs b = leb (length (extend [] (hs ++ variables b))) 3
+few hs b = leb (length (extend [] (hs ++ variables b))) limit.variables
 
 abbrev pub scopeFault : List Word → List Literal → ℕ
 scopeFault hs b = row 9 (not (supported hs b && few hs b))

@@ -5,6 +5,7 @@ use mathlib.Core.Option.{Option, none, some}
 use Prim.Native.Nat.{ℕ, zero, suc, _-_}
 use lib.Dec.{eqb, leb}
 use lib.ListN.{length}
+use Rattle.limits.specs.Limits as limit
 use Rattle.grammar.specs.Bytes.{bytes, alphanumeric, Word, isName}
 use Rattle.grammar.specs.Forms.{Atom, Literal, plain, negated, Form, stateForm, relForm, ruleForm, newForm, nextForm, askForm}
 
@@ -81,15 +82,15 @@ literal s = whether (after (bytes "(not ") s)
 
 -- "a LIST has 0 to 7 names"
 unfoldable pub list : List ℕ → Read (List Word)
-list s = whether (after (bytes "()") s) (λ t. some ([], t)) (bracket name 6 s)
+list s = whether (after (bytes "()") s) (λ t. some ([], t)) (bracket name (limit.list - 1) s)
 
 -- "a BODY 0 to 8 literals", up to the end of its line's bracket
 unfoldable pub body : List ℕ → Read (List Literal)
-body s = rest literal 8 s
+body s = rest literal limit.body s
 
 -- a STAGE "of 1 to 8 literals"
 unfoldable pub stage : List ℕ → Read (List Literal)
-stage s = bracket literal 7 s
+stage s = bracket literal (limit.body - 1) s
 
 -- "`n` being 0, 1 or 2"
 abbrev pub arity : List ℕ → Read ℕ
@@ -141,7 +142,7 @@ nextRest s = do
 unfoldable pub askRest : List ℕ → Read Form
 askRest s = do
   (q, t) ← stage s
-  (qs, u) ← rest stage 3 t
+  (qs, u) ← rest stage (limit.stages - 1) t
   some (askForm (q ∷ qs), u)
 
 -- by its first word

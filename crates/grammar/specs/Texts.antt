@@ -5,6 +5,7 @@ use mathlib.Core.Option.{Option, none, some}
 use Prim.Native.Nat.{ℕ, suc}
 use lib.Dec.{eqb, ltb}
 use lib.ListN.{length}
+use Rattle.limits.specs.Limits as limit
 use Rattle.semantics.specs.Models.{Program, Question}
 use Rattle.grammar.specs.Bytes.{every, allowed, Line, ended, unended, lines}
 use Rattle.grammar.specs.Forms.{Form, stateForm, relForm, ruleForm, newForm, nextForm, askForm}
@@ -63,4 +64,4 @@ readLines n D P (l ∷ ls) = elim (step n D P (judge l)) [ wrong r ↦ refused r
 
 -- THE ANSWER TO A TEXT: row 1, "no bytes, or over 16,384"; "then line by line"
 unfoldable pub outcome : List ℕ → Outcome
-outcome text = cond (eqb (length text) 0 || ltb 16384 (length text)) (refused 1 0) (readLines 1 [] [] (lines text))
+outcome text = cond (eqb (length text) 0 || ltb limit.text (length text)) (refused 1 0) (readLines 1 [] [] (lines text))

@@ -6,6 +6,7 @@ use mathlib.Core.List.{List, [], _∷_, _++_}
 use Prim.Native.Nat.{ℕ, suc, _+_, _/_, _%_, _^_, _≤_, _<_}
 use lib.Dec.{eqb}
 use lib.ListN.{length, take, getD}
+use Rattle.limits.specs.Limits as limit
 use Rattle.semantics.specs.Models.{vars, firsts, shared, Safe, SafeQuestion, CarriesOnly}
 use Rattle.model.specs.declared.Action.{Action}
 use Rattle.model.specs.declared.Action.the-variants.{Rule, New, Next}
@@ -37,10 +38,10 @@ Declared m r = (classOf r < 4) × (indexOf r < declaredIn m (classOf r))
 
 -- the relations are declared in order, each with the next index of its class: "at most 7" states, "at most 16" derived, "of them at most 6 with n = 2"
 pub record GoodRelations (m : Model) : Type 0 where
-  pub count : m .relations .count ≤ 23
-  pub states : declaredIn m 0 ≤ 7
-  pub derived : declaredIn m 1 + declaredIn m 2 + declaredIn m 3 ≤ 16
-  pub pairs : declaredIn m 3 ≤ 6
+  pub count : m .relations .count ≤ limit.declared
+  pub states : declaredIn m 0 ≤ limit.states
+  pub derived : declaredIn m 1 + declaredIn m 2 + declaredIn m 3 ≤ limit.rels
+  pub pairs : declaredIn m 3 ≤ limit.pairs
   pub order : (i : ℕ) → i < m .relations .count
       → (classOf (getD (m .relations .codes) i 0) < 4)
       × (indexOf (getD (m .relations .codes) i 0) ≡ inClass (classOf (getD (m .relations .codes) i 0)) (take i (m .relations .codes)))
@@ -52,8 +53,8 @@ Numbered xs n = firsts [] xs ≡ upFrom 0 n
 -- BODIES: a body of at most 8 literals within the literal row, all of declared relations, and at most 3 variables
 pub record GoodPart (m : Model) (first count n : ℕ) : Type 0 where
   pub within : first + count ≤ m .literalcount
-  pub short : count ≤ 8
-  pub few : n ≤ 3
+  pub short : count ≤ limit.body
+  pub few : n ≤ limit.variables
   pub relations : (k : ℕ) → k < count → Declared m (relationOf (getD (m .literals) (first + k) 0))
 
 -- CLAUSES: a rule's head has as many variables as its relation takes, and a set has declared state relations only
@@ -75,32 +76,32 @@ pub record GoodStage (m : Model) (s : Stage) : Type 0 where
   pub some : 1 ≤ s .count
   pub numbered : Numbered (vars (stageBody (m .literals) s)) (s .variables)
   pub different : (x y : ℕ) → x < s .variables → y < s .variables → numberIn s x ≡ numberIn s y → x ≡ y
-  pub small : (x : ℕ) → x < s .variables → numberIn s x < 12
+  pub small : (x : ℕ) → x < s .variables → numberIn s x < limit.asked
 
 -- what the record of a text that carries no variable has for the carried one
 abbrev pub uncarried : ℕ
-uncarried = 255
+uncarried = limit.none
 
 pub record WellFormed (m : Model) : Type 0 where
   pub relations : GoodRelations m
   -- "together at most 64" clauses, in the order of their lines
-  pub clauses : m .clausecount ≤ 64
+  pub clauses : m .clausecount ≤ limit.clauses
   pub clause : (i : ℕ) → i < m .clausecount → GoodClause m (clauseAt m i)
   pub rising : (i j : ℕ) → i < j → j < m .clausecount → clauseAt m i .line < clauseAt m j .line
   pub safe : Safe (programOf m)
   -- "1 to 4 stages"
   pub one : 1 ≤ m .stagecount
-  pub stages : m .stagecount ≤ 4
+  pub stages : m .stagecount ≤ limit.stages
   pub stage : (i : ℕ) → i < m .stagecount → GoodStage m (stageAt m i)
   pub safely : SafeQuestion (questionOf m)
   -- at most one variable is carried, and the record has it
   pub carries : CarriesOnly (questionOf m) (m .carried)
   pub carried : (m .carried ≡ uncarried) ⊎ (shared (questionOf m) (m .carried) ≡ true)
   -- the sizes of the rows
-  pub lines : m .lines ≤ 16384
-  pub literalcount : m .literalcount ≤ 544
-  pub codes : length (m .relations .codes) ≡ 23
-  pub row : length (m .clauses) ≡ 64
-  pub literals : length (m .literals) ≡ 544
-  pub asked : length (m .stages) ≡ 4
-  pub numbers : (i : ℕ) → i < m .stagecount → length (stageAt m i .numbers) ≡ 3
+  pub lines : m .lines ≤ limit.text
+  pub literalcount : m .literalcount ≤ limit.literals
+  pub codes : length (m .relations .codes) ≡ limit.declared
+  pub row : length (m .clauses) ≡ limit.clauses
+  pub literals : length (m .literals) ≡ limit.literals
+  pub asked : length (m .stages) ≡ limit.stages
+  pub numbers : (i : ℕ) → i < m .stagecount → length (stageAt m i .numbers) ≡ limit.variables

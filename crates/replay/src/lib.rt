@@ -1,5 +1,5 @@
 // The replay over a text: a whole run, and one place put to a state by value.
-use calls::WORK;
+use limits::WORK;
 use replay_runs::Reply;
 use replay_session::Answer;
 use replay_session::Session;

@@ -6,6 +6,7 @@ use mathlib.Core.Option.{some}
 use Prim.Native.Nat.{ℕ, suc, _+_, _≤_, _<_}
 use lib.ListN.{length, take, drop}
 use lib.Seq.{slice}
+use Rattle.limits.specs.Limits as limit
 use Rattle.model.specs.Records.{programOf}
 use Rattle.model.specs.declared.Model.{Model}
 use Rattle.grammar.specs.Bytes.{bytes, every, allowed, ended, lines}
@@ -25,7 +26,7 @@ pub record Reached (text : List ℕ) (at n : ℕ) (d : Declared) (m : Model) : T
   pub limited : Limited d
   pub holds : stored.Holds m (programOf m)
   pub stagecount : m .stagecount ≡ 0
-  pub stages : length (m .stages) ≡ 4
+  pub stages : length (m .stages) ≡ limit.stages
 
 -- what is answered to the lines from there on
 unfoldable pub onwards : List ℕ → ℕ → ℕ → Declared → Model → Outcome

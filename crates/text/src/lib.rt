@@ -3,12 +3,14 @@ ghost use mathlib.Core.Path.{_≡_};
 ghost use mathlib.Core.List.{[]};
 ghost use Prim.Native.Nat.{_≤_};
 ghost use lib.ListN.{length};
+ghost use Rattle.limits.specs.Limits as limit;
 ghost use Rattle.grammar.specs.Bytes.{lines};
 ghost use Rattle.grammar.specs.Texts.{readLines, outcome};
 ghost use Rattle.text_opening.specs.Openings.{blank};
 ghost use Rattle.text.specs.declared.Acceptance.the-variants.{Refused};
 ghost use Rattle.text.specs.Reading.{Reads};
 ghost use Rattle.text.specs.Reached.{Reached, onwards, AskLine};
+use limits::TEXT;
 use model::Model;
 use text_names::Declared;
 
@@ -36,7 +38,7 @@ fn refusal(number: u32, line: u32) -> Reading
 
 // The `ask` line from `at` to e, and whether a line follows it.
 fn read_question(text: &[u8], at: usize, e: usize, d: Declared, m: Model, line: u32) -> Reading
-    requires { ⌜ (length (now text) ≤ 16384) × Reached (now text) at line d m × AskLine (now text) at e ⌝ }
+    requires { ⌜ (length (now text) ≤ limit.text) × Reached (now text) at line d m × AskLine (now text) at e ⌝ }
     ensures { λ r. ⌜ Reads (onwards (now (text .entry)) at line d m) (now (text .entry)) r ⌝ }
 {
     let f = text_opening::fit(m, d, line);
@@ -56,7 +58,7 @@ fn read_question(text: &[u8], at: usize, e: usize, d: Declared, m: Model, line: 
 
 // Line by line, up to the first refusal or the `ask` line.
 fn read_lines(text: &[u8]) -> Reading
-    requires { ⌜ length (now text) ≤ 16384 ⌝ }
+    requires { ⌜ length (now text) ≤ limit.text ⌝ }
     ensures { λ r. ⌜ Reads (readLines 1 [] [] (lines (now (text .entry)))) (now (text .entry)) r ⌝ }
 {
     let mut d = text_names::none();
@@ -92,7 +94,7 @@ pub fn read(text: &[u8]) -> Reading
     if text.len() == 0 {
         return refusal(1, 0);
     }
-    if 16384 < text.len() {
+    if TEXT < text.len() {
         return refusal(1, 0);
     }
     read_lines(text)

@@ -6,6 +6,7 @@ use mathlib.Core.Option.{none, some}
 use Prim.Native.Nat.{ℕ, _+_, _≤_, _<_}
 use lib.Dec.{eqb}
 use lib.ListN.{length, drop}
+use Rattle.limits.specs.Limits as limit
 use Rattle.model.specs.Records as model
 use Rattle.model.specs.Records.{stageAt}
 use Rattle.model.specs.declared.Model.{Model}
@@ -24,7 +25,7 @@ use Rattle.text_ask.specs.declared.Asked.{Asked}
 
 -- r holds what s holds and the stages more
 abbrev pub Extends : List ℕ → Declared → Asking → List (List forms.Literal) → Asking → Type 0
-Extends text D s more r = (m : Model) (qs : List (List forms.Literal)) → length qs + length more ≤ 4 → questions.Holds text D m qs s → questions.Holds text D m (qs ++ more) r
+Extends text D s more r = (m : Model) (qs : List (List forms.Literal)) → length qs + length more ≤ limit.stages → questions.Holds text D m qs s → questions.Holds text D m (qs ++ more) r
 
 -- at most n stages, added to those of s
 pub record StagesEnd (text : List ℕ) (D : Declared) (at n : ℕ) (s : Asking) (r : Stages) : Type 0 where
@@ -68,9 +69,9 @@ pub record Asks (D : Declared) (m₀ : Model) (qs : List (List forms.Literal)) (
   pub question : model.questionOf m ≡ questionOf D qs
   pub stage : (i : ℕ) → i < m .stagecount → HoldsStage m (stageAt m i)
   pub carried : m .carried ≡ carriedOf (questionOf D qs)
-  pub literalcount : m .literalcount ≤ 544
-  pub literals : length (m .literals) ≡ 544
-  pub stages : length (m .stages) ≡ 4
+  pub literalcount : m .literalcount ≤ limit.literals
+  pub literals : length (m .literals) ≡ limit.literals
+  pub stages : length (m .stages) ≡ limit.stages
 
 -- the `ask` line that is read, after the declarations D
 pub record AskEnd (D : Declared) (m₀ : Model) (read : Read forms.Form) (r : Asked) : Type 0 where

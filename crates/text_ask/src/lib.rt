@@ -3,15 +3,20 @@ ghost use mathlib.Core.Path.{_≡_};
 ghost use mathlib.Core.List.{List};
 ghost use Prim.Native.Nat.{_+_, _≤_, _<_};
 ghost use lib.ListN.{length, drop};
+ghost use Rattle.limits.specs.Limits as limit;
 ghost use Rattle.grammar.specs.Forms as forms;
 ghost use Rattle.grammar.specs.Shapes.{askRest};
 ghost use Rattle.text_names.specs.Names as names;
 ghost use Rattle.model.specs.declared.Model as models;
 ghost use Rattle.text_stages.specs.Questions as questions;
 ghost use Rattle.text_ask.specs.Asks.{StagesEnd, finished, AskEnd};
+use limits::STAGES;
 use model::Model;
 use text_names::Declared;
 use text_stages::Asking;
+
+// The stages of a question behind its first.
+const FURTHER: usize = STAGES - 1;
 
 // The stages, and where they end: 0 if they do not.
 pub struct Stages {
@@ -28,7 +33,7 @@ pub struct Asked {
 // At most n stages, each after a space, up to the closing bracket, are added to those before.
 fn read_stages(text: &[u8], d: Declared, at: usize, s: Asking, n: usize) -> Stages
     requires { ⌜ (at ≤ length (now text)) × (length (now text) < 4294967296) × names.Valid (now text) d
-        × ((m : models.Model) × (qs : List (List forms.Literal)) × (length qs + n ≤ 4) × questions.Holds (now text) (names.declaredOf (now text) d) m qs s) ⌝ }
+        × ((m : models.Model) × (qs : List (List forms.Literal)) × (length qs + n ≤ limit.stages) × questions.Holds (now text) (names.declaredOf (now text) d) m qs s) ⌝ }
     ensures { λ r. ⌜ StagesEnd (now (text .entry)) (names.declaredOf (now (text .entry)) d) at n s r ⌝ }
 {
     let mut g = s;
@@ -107,7 +112,7 @@ pub fn read_ask(text: &[u8], d: Declared, at: usize, m: Model) -> Asked
         model: m,
     };
     let f = text_stages::add(text, s, b);
-    let r = read_stages(text, d, e, f, 3);
+    let r = read_stages(text, d, e, f, FURTHER);
     if r.end == text.len() {
         let g = r.asking;
         return finish(g);

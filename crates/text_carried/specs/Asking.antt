@@ -6,6 +6,7 @@ use Prim.Native.Nat.{ℕ, _+_, _≤_, _<_}
 use lib.Dec.{eqb, ltb}
 use lib.ListN.{length, take, getD, set}
 use lib.Seq.{slice}
+use Rattle.limits.specs.Limits as limit
 use Rattle.grammar.specs.Bytes.{Word, same}
 use Rattle.grammar.specs.Forms.{Literal, all}
 use Rattle.grammar.specs.Declarations.{member, extend, place, variables}
@@ -23,15 +24,15 @@ knownOf text t = listOf (t .count) (variable text t)
 
 -- each variable stands in the text
 pub record Valid (text : List ℕ) (t : Table) : Type 0 where
-  pub count : t .count ≤ 12
-  pub starts : length (t .starts) ≡ 12
-  pub ends : length (t .ends) ≡ 12
+  pub count : t .count ≤ limit.asked
+  pub starts : length (t .starts) ≡ limit.asked
+  pub ends : length (t .ends) ≡ limit.asked
   pub within : (i : ℕ) → i < t .count → (getD (t .starts) i 0 ≤ getD (t .ends) i 0) × (getD (t .ends) i 0 ≤ length text)
 
 -- variable i stands from a to e, in one stage more
 abbrev pub again : Table → ℕ → Table
 again t i =
-    cond (eqb (t .carried) 255) (record { count = t .count; starts = t .starts; ends = t .ends; carried = i; many = t .many })
+    cond (eqb (t .carried) limit.none) (record { count = t .count; starts = t .starts; ends = t .ends; carried = i; many = t .many })
     (cond (eqb (t .carried) i) t (record { count = t .count; starts = t .starts; ends = t .ends; carried = t .carried; many = true }))
 
 abbrev pub appended : Table → ℕ → ℕ → ℕ → Table
@@ -71,4 +72,4 @@ pub record Numbers (text : List ℕ) (t : Table) (own : List Word) (r : Numberin
   pub few : r .table .count ≤ t .count + length own
   pub holds : (ws : List Word) → Holds text t ws → Holds text (r .table) (ws ++ own)
   pub numbers : (ws : List Word) → Holds text t ws → take (length own) (r .numbers) ≡ map (place (extend [] (ws ++ own))) own
-  pub room : length (r .numbers) ≡ 3
+  pub room : length (r .numbers) ≡ limit.variables

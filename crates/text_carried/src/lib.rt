@@ -5,17 +5,21 @@ ghost use mathlib.Core.List.{List};
 ghost use Prim.Native.Nat.{_+_, _≤_, _<_};
 ghost use lib.ListN.{length};
 ghost use lib.Seq.{slice};
+ghost use Rattle.limits.specs.Limits as limit;
 ghost use Rattle.grammar.specs.Bytes.{Word};
 ghost use Rattle.grammar.specs.Declarations.{place};
 ghost use Rattle.text_scope.specs.Scopes as scopes;
 ghost use Rattle.text_carried.specs.Asking.{Valid, knownOf, met, Holds, Numbers};
+use limits::ASKED;
+use limits::NONE;
+use limits::VARIABLES;
 use text_scope::Scope;
 
 // Variable i stands first from starts[i] to ends[i]; carried is the first that stands in two stages, or 255, and many says whether another one does.
 pub struct Table {
     pub count: usize,
-    pub starts: [usize; 12],
-    pub ends: [usize; 12],
+    pub starts: [usize; ASKED],
+    pub ends: [usize; ASKED],
     pub carried: u32,
     pub many: bool,
 }
@@ -23,18 +27,18 @@ pub struct Table {
 // The table with a stage's variables, and their numbers in the line.
 pub struct Numbering {
     pub table: Table,
-    pub numbers: [u32; 3],
+    pub numbers: [u32; VARIABLES],
 }
 
 // No variables.
 pub fn none() -> Table
-    ensures { λ r. ⌜ (r .count ≡ 0) × (length (r .starts) ≡ 12) × (length (r .ends) ≡ 12) × (r .carried ≡ 255) × (r .many ≡ false) ⌝ }
+    ensures { λ r. ⌜ (r .count ≡ 0) × (length (r .starts) ≡ limit.asked) × (length (r .ends) ≡ limit.asked) × (r .carried ≡ limit.none) × (r .many ≡ false) ⌝ }
 {
     Table {
         count: 0,
-        starts: [0; 12],
-        ends: [0; 12],
-        carried: 255,
+        starts: [0; ASKED],
+        ends: [0; ASKED],
+        carried: NONE,
         many: false,
     }
 }
@@ -59,12 +63,12 @@ fn find(text: &[u8], t: Table, a: usize, e: usize) -> usize
 
 // The variable of that number stands from a to e, in one stage more.
 fn meet(mut t: Table, i: usize, a: usize, e: usize) -> Table
-    requires { ⌜ (i < 12) × (i ≤ t .count) ⌝ }
+    requires { ⌜ (i < limit.asked) × (i ≤ t .count) ⌝ }
     ensures { λ r. ⌜ r ≡ met t i a e ⌝ }
 {
     let x = i as u32;
     if i < t.count {
-        if t.carried == 255 {
+        if t.carried == NONE {
             t.carried = x;
             return t;
         }
@@ -82,12 +86,12 @@ fn meet(mut t: Table, i: usize, a: usize, e: usize) -> Table
 
 // The variables of one stage more.
 pub fn number(text: &[u8], t: Table, s: Scope) -> Numbering
-    requires { ⌜ scopes.Valid (now text) s × (t .count + s .count ≤ 12) × ((ws : List Word) × Holds (now text) t ws) ⌝ }
+    requires { ⌜ scopes.Valid (now text) s × (t .count + s .count ≤ limit.asked) × ((ws : List Word) × Holds (now text) t ws) ⌝ }
     ensures { λ r. ⌜ Numbers (now (text .entry)) t (scopes.knownOf (now (text .entry)) s) r ⌝ }
 {
     let n = s.count;
     let mut u = t;
-    let mut numbers = [0u32; 3];
+    let mut numbers = [0u32; VARIABLES];
     let mut j = 0;
     while j < n {
         let a = s.starts[j];

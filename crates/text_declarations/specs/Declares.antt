@@ -4,6 +4,7 @@ use mathlib.Core.List.{List}
 use mathlib.Core.Option.{none, some}
 use Prim.Native.Nat.{ℕ, _+_, _*_, _-_, _≤_, _<_}
 use lib.ListN.{length, drop}
+use Rattle.limits.specs.Limits as limit
 use Rattle.grammar.specs.Bytes.{Word}
 use Rattle.grammar.specs.Forms as forms
 use Rattle.grammar.specs.Shapes.{Read, arity, whole}
@@ -18,8 +19,8 @@ use Rattle.text_declarations.specs.declared.Declaration.{Declaration}
 -- the declarations keep the limits of row 4: each is of one of the four classes, "at most 7" states, "at most 16" derived relations
 pub record Limited (d : Declared) : Type 0 where
   pub total : d .count ≡ tally 0 (d .codes) (d .count) + tally 1 (d .codes) (d .count) + tally 2 (d .codes) (d .count) + tally 3 (d .codes) (d .count)
-  pub states : tally 0 (d .codes) (d .count) ≤ 7
-  pub derived : tally 1 (d .codes) (d .count) + tally 2 (d .codes) (d .count) + tally 3 (d .codes) (d .count) ≤ 16
+  pub states : tally 0 (d .codes) (d .count) ≤ limit.states
+  pub derived : tally 1 (d .codes) (d .count) + tally 2 (d .codes) (d .count) + tally 3 (d .codes) (d .count) ≤ limit.rels
 
 unfoldable pub stateNumber : grammar.Declared → Word → ℕ
 stateNumber D w = lower (row 4 (manyStates D)) (row 5 (again (lookup w D)))

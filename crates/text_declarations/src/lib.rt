@@ -3,9 +3,13 @@ ghost use mathlib.Core.Path.{_≡_};
 ghost use Prim.Native.Nat.{_+_, _≤_, _<_};
 ghost use lib.ListN.{length, drop};
 ghost use lib.Seq.{slice};
+ghost use Rattle.limits.specs.Limits as limit;
 ghost use Rattle.grammar.specs.Shapes.{stateRest, relRest};
 ghost use Rattle.text_names.specs.Names as names;
 ghost use Rattle.text_declarations.specs.Declares.{Limited, stateNumber, relNumber, Entered, ArityAt, DeclarationEnd};
+use limits::PAIRS;
+use limits::RELS;
+use limits::STATES;
 use text_names::Declared;
 
 // A declaration: its row number, 3 if it has no shape and 0 if it is accepted, and the declared names with it.
@@ -19,7 +23,7 @@ fn state_number(text: &[u8], d: Declared, a: usize, e: usize) -> u32
     requires { ⌜ names.Valid (now text) d × (a ≤ e) × (e ≤ length (now text)) ⌝ }
     ensures { λ r. ⌜ r ≡ stateNumber (names.declaredOf (now (text .entry)) d) (slice a e (now (text .entry))) ⌝ }
 {
-    if 7 <= text_names::tally_of(d, 0) {
+    if STATES <= text_names::tally_of(d, 0) {
         return 4;
     }
     if text_names::find(text, d, a, e) == text_names::UNDECLARED {
@@ -36,11 +40,11 @@ fn rel_number(text: &[u8], d: Declared, a: usize, e: usize, n: u32) -> u32
     let nullary = text_names::tally_of(d, 1);
     let single = text_names::tally_of(d, 2);
     let pairs = text_names::tally_of(d, 3);
-    if 16 <= nullary + single + pairs {
+    if RELS <= nullary + single + pairs {
         return 4;
     }
     if n == 2 {
-        if 6 <= pairs {
+        if PAIRS <= pairs {
             return 4;
         }
     }
@@ -52,7 +56,7 @@ fn rel_number(text: &[u8], d: Declared, a: usize, e: usize, n: u32) -> u32
 
 // The name from a to e is declared with the next code of its class.
 fn enter(d: Declared, a: usize, e: usize, class: u32) -> Declared
-    requires { ⌜ (d .count < 23) × (length (d .codes) ≡ 23) × (a ≤ e) × (e < 4294967296) × (class < 4) ⌝ }
+    requires { ⌜ (d .count < limit.declared) × (length (d .codes) ≡ limit.declared) × (a ≤ e) × (e < 4294967296) × (class < 4) ⌝ }
     ensures { λ r. ⌜ Entered d a e class r ⌝ }
 {
     let index = text_names::tally_of(d, class);

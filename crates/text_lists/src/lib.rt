@@ -3,7 +3,11 @@ ghost use Prim.Native.Nat.{_+_, _≤_, _<_};
 ghost use lib.ListN.{length};
 ghost use Rattle.text_names.specs.Names as names;
 ghost use Rattle.text_lists.specs.Lists.{NameAdded, RestEnd, ListEnd};
+use limits::LIST;
 use text_names::Declared;
+
+// The names of a list behind its first.
+const FURTHER: usize = LIST - 1;
 
 // The lowest row number of the names so far, and the set of their relations, which counts only where there is no fault.
 pub struct Chosen {
@@ -91,7 +95,7 @@ pub fn read_list(text: &[u8], d: Declared, at: usize) -> List
             return List { chosen: s, end: 0 };
         }
         let t = add_name(text, d, s, at + 1, e);
-        return read_names(text, d, e, t, 6);
+        return read_names(text, d, e, t, FURTHER);
     }
     List { chosen: s, end: 0 }
 }

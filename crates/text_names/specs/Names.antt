@@ -7,6 +7,7 @@ use Prim.Native.Nat.{ℕ, zero, suc, _+_, _/_, _≤_, _<_}
 use lib.Dec.{eqb}
 use lib.ListN.{length, getD, set}
 use lib.Seq.{slice}
+use Rattle.limits.specs.Limits as limit
 use Rattle.grammar.specs.Bytes.{Word}
 use Rattle.grammar.specs.Declarations as grammar
 use Rattle.text_names.specs.Rows.{listOf}
@@ -21,10 +22,10 @@ declaredOf text d = listOf (d .count) (entry text d)
 
 -- each name stands in the text, and has a code
 pub record Valid (text : List ℕ) (d : Declared) : Type 0 where
-  pub count : d .count ≤ 23
-  pub codes : length (d .codes) ≡ 23
-  pub names : length (d .names) ≡ 23
-  pub lengths : length (d .lengths) ≡ 23
+  pub count : d .count ≤ limit.declared
+  pub codes : length (d .codes) ≡ limit.declared
+  pub names : length (d .names) ≡ limit.declared
+  pub lengths : length (d .lengths) ≡ limit.declared
   pub within : (i : ℕ) → i < d .count → getD (d .names) i 0 + getD (d .lengths) i 0 ≤ length text
   pub coded : (i : ℕ) → i < d .count → getD (d .codes) i 0 < 128
 

@@ -3,14 +3,16 @@ ghost use mathlib.Core.Path.{_≡_};
 ghost use Prim.Native.Nat.{_+_, _≤_, _<_};
 ghost use lib.ListN.{length};
 ghost use lib.Seq.{slice};
+ghost use Rattle.limits.specs.Limits as limit;
 ghost use Rattle.grammar.specs.Declarations.{lookup};
 ghost use Rattle.text_names.specs.Names.{declaredOf, Valid, found, tally, added};
+use limits::DECLARED;
 
 // Name i begins at byte names[i], has lengths[i] bytes and the relation code codes[i].
 pub struct Declared {
-    pub codes: [u32; 23],
-    pub names: [u32; 23],
-    pub lengths: [u32; 23],
+    pub codes: [u32; DECLARED],
+    pub names: [u32; DECLARED],
+    pub lengths: [u32; DECLARED],
     pub count: usize,
 }
 
@@ -37,7 +39,7 @@ pub fn find(text: &[u8], d: Declared, a: usize, e: usize) -> u32
 
 // How many relations of class k are declared.
 pub fn tally_of(d: Declared, k: u32) -> usize
-    requires { ⌜ (d .count ≤ 23) × (length (d .codes) ≡ 23) ⌝ }
+    requires { ⌜ (d .count ≤ limit.declared) × (length (d .codes) ≡ limit.declared) ⌝ }
     ensures { λ r. ⌜ r ≡ tally k (d .codes) (d .count) ⌝ }
 {
     let n = d.count;
@@ -54,7 +56,7 @@ pub fn tally_of(d: Declared, k: u32) -> usize
 
 // One name more.
 pub fn add(mut d: Declared, name: u32, len: u32, code: u32) -> Declared
-    requires { ⌜ d .count < 23 ⌝ }
+    requires { ⌜ d .count < limit.declared ⌝ }
     ensures { λ r. ⌜ r ≡ added d name len code ⌝ }
 {
     let n = d.count;
@@ -70,9 +72,9 @@ pub fn none() -> Declared
     ensures { λ r. ⌜ r .count ≡ 0 ⌝ }
 {
     Declared {
-        codes: [0; 23],
-        names: [0; 23],
-        lengths: [0; 23],
+        codes: [0; DECLARED],
+        names: [0; DECLARED],
+        lengths: [0; DECLARED],
         count: 0,
     }
 }

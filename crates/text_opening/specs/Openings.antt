@@ -1,6 +1,7 @@
 -- The model record of a text before its first line and at its `ask` line.
 use Prim.Native.Nat.{ℕ}
 use lib.ListN.{replicate}
+use Rattle.limits.specs.Limits as limit
 use Rattle.model.specs.declared.Action.the-variants.{New}
 use Rattle.model.specs.declared.Model.{Model}
 use Rattle.text_names.specs.declared.Declared.{Declared}
@@ -8,16 +9,16 @@ use Rattle.text_names.specs.declared.Declared.{Declared}
 -- THE BLANK RECORD, of no clauses and stages
 abbrev pub blank : Model
 blank = record {
-  relations = record { codes = replicate 23 0; count = 0 };
-  names = replicate 23 0;
-  lengths = replicate 23 0;
-  clauses = replicate 64 (record { action = New 0; line = 0; first = 0; count = 0; variables = 0 });
+  relations = record { codes = replicate limit.declared 0; count = 0 };
+  names = replicate limit.declared 0;
+  lengths = replicate limit.declared 0;
+  clauses = replicate limit.clauses (record { action = New 0; line = 0; first = 0; count = 0; variables = 0 });
   clausecount = 0;
-  literals = replicate 544 0;
+  literals = replicate limit.literals 0;
   literalcount = 0;
-  stages = replicate 4 (record { first = 0; count = 0; variables = 0; numbers = replicate 3 0 });
+  stages = replicate limit.stages (record { first = 0; count = 0; variables = 0; numbers = replicate limit.variables 0 });
   stagecount = 0;
-  carried = 255;
+  carried = limit.none;
   lines = 0;
 }
 

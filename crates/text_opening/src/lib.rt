@@ -1,6 +1,12 @@
 // The model record of a text at its beginning, and with the declared names at its end.
 ghost use mathlib.Core.Path.{_≡_};
 ghost use Rattle.text_opening.specs.Openings.{blank as blankRecord, fitted};
+use limits::CLAUSES;
+use limits::DECLARED;
+use limits::LITERALS;
+use limits::NONE;
+use limits::STAGES;
+use limits::VARIABLES;
 use model::Action;
 use model::Clause;
 use model::Model;
@@ -23,23 +29,23 @@ pub fn blank() -> Model
         first: 0,
         count: 0,
         variables: 0,
-        numbers: [0u32; 3],
+        numbers: [0u32; VARIABLES],
     };
     let relations = Relations {
-        codes: [0u32; 23],
+        codes: [0u32; DECLARED],
         count: 0,
     };
     Model {
         relations,
-        names: [0u32; 23],
-        lengths: [0u32; 23],
-        clauses: [clause; 64],
+        names: [0u32; DECLARED],
+        lengths: [0u32; DECLARED],
+        clauses: [clause; CLAUSES],
         clausecount: 0,
-        literals: [0u32; 544],
+        literals: [0u32; LITERALS],
         literalcount: 0,
-        stages: [stage; 4],
+        stages: [stage; STAGES],
         stagecount: 0,
-        carried: 255,
+        carried: NONE,
         lines: 0,
     }
 }

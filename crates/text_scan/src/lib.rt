@@ -4,6 +4,7 @@ ghost use Prim.Native.Nat.{_<_, _≤_};
 ghost use lib.ListN.{length};
 ghost use Rattle.grammar.specs.Bytes.{letter, alphanumeric, allowed, same};
 ghost use Rattle.text_scan.specs.Found.{NextByte, NextBytes, WordEnd, NameEnd, LineEnd};
+use limits::NAME;
 
 // A to Z, a to z.
 fn is_letter(b: u8) -> bool
@@ -141,7 +142,7 @@ pub fn name_end(text: &[u8], at: usize) -> usize
     if e == at {
         return 0;
     }
-    if 16 < e - at {
+    if NAME < e - at {
         return 0;
     }
     let b = text[at];

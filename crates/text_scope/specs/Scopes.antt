@@ -6,6 +6,7 @@ use Prim.Native.Nat.{ℕ, _+_, _≤_, _<_}
 use lib.Dec.{ltb}
 use lib.ListN.{length, getD, set}
 use lib.Seq.{slice}
+use Rattle.limits.specs.Limits as limit
 use Rattle.grammar.specs.Bytes.{Word}
 use Rattle.grammar.specs.Declarations.{member}
 use Rattle.text_names.specs.Rows.{listOf}
@@ -24,10 +25,10 @@ marksOf s = listOf (s .count) (λ i. getD (s .plain) i false)
 
 -- each variable stands in the text
 pub record Valid (text : List ℕ) (s : Scope) : Type 0 where
-  pub count : s .count ≤ 3
-  pub starts : length (s .starts) ≡ 3
-  pub ends : length (s .ends) ≡ 3
-  pub plain : length (s .plain) ≡ 3
+  pub count : s .count ≤ limit.variables
+  pub starts : length (s .starts) ≡ limit.variables
+  pub ends : length (s .ends) ≡ limit.variables
+  pub plain : length (s .plain) ≡ limit.variables
   pub within : (i : ℕ) → i < s .count → (getD (s .starts) i 0 ≤ getD (s .ends) i 0) × (getD (s .ends) i 0 ≤ length text)
 
 -- variable i stands from a to e, in a literal without `not` or not

@@ -3,27 +3,29 @@ ghost use mathlib.Core.Path.{_≡_};
 ghost use Prim.Native.Nat.{_≤_, _<_};
 ghost use lib.ListN.{length};
 ghost use lib.Seq.{slice};
+ghost use Rattle.limits.specs.Limits as limit;
 ghost use Rattle.grammar.specs.Declarations.{place};
 ghost use Rattle.grammar.specs.Words.{allMarked};
 ghost use Rattle.text_scope.specs.Scopes.{Valid, knownOf, marksOf, entered};
+use limits::VARIABLES;
 
 // Variable i stands first from starts[i] to ends[i].
 pub struct Scope {
     pub count: usize,
-    pub starts: [usize; 3],
-    pub ends: [usize; 3],
-    pub plain: [bool; 3],
+    pub starts: [usize; VARIABLES],
+    pub ends: [usize; VARIABLES],
+    pub plain: [bool; VARIABLES],
 }
 
 // No variables.
 pub fn empty() -> Scope
-    ensures { λ r. ⌜ (r .count ≡ 0) × (length (r .starts) ≡ 3) × (length (r .ends) ≡ 3) × (length (r .plain) ≡ 3) ⌝ }
+    ensures { λ r. ⌜ (r .count ≡ 0) × (length (r .starts) ≡ limit.variables) × (length (r .ends) ≡ limit.variables) × (length (r .plain) ≡ limit.variables) ⌝ }
 {
     Scope {
         count: 0,
-        starts: [0; 3],
-        ends: [0; 3],
-        plain: [false; 3],
+        starts: [0; VARIABLES],
+        ends: [0; VARIABLES],
+        plain: [false; VARIABLES],
     }
 }
 
@@ -47,7 +49,7 @@ pub fn find(text: &[u8], s: Scope, a: usize, e: usize) -> usize
 
 // The variable of that number stands from a to e, in a literal without `not` or not.
 pub fn enter(mut s: Scope, i: usize, a: usize, e: usize, plain: bool) -> Scope
-    requires { ⌜ (i < 3) × (i ≤ s .count) ⌝ }
+    requires { ⌜ (i < limit.variables) × (i ≤ s .count) ⌝ }
     ensures { λ r. ⌜ r ≡ entered s i a e plain ⌝ }
 {
     if i < s.count {
@@ -65,7 +67,7 @@ pub fn enter(mut s: Scope, i: usize, a: usize, e: usize, plain: bool) -> Scope
 
 // Whether each variable stands in a literal without `not`.
 pub fn all_plain(s: Scope) -> bool
-    requires { ⌜ (s .count ≤ 3) × (length (s .plain) ≡ 3) ⌝ }
+    requires { ⌜ (s .count ≤ limit.variables) × (length (s .plain) ≡ limit.variables) ⌝ }
     ensures { λ r. ⌜ r ≡ allMarked (marksOf s) ⌝ }
 {
     let n = s.count;

@@ -4,6 +4,7 @@ use mathlib.Core.List.{List, [], _∷_, _++_}
 use Prim.Native.Nat.{ℕ, _+_, _*_, _≤_, _<_}
 use lib.ListN.{length, take, set}
 use lib.Seq.{paste}
+use Rattle.limits.specs.Limits as limit
 use Rattle.model.specs.Records as model
 use Rattle.model.specs.Records.{stageAt}
 use Rattle.model.specs.declared.Stage.{Stage}
@@ -42,14 +43,14 @@ withStage m f numbers = record {
 -- a record without stages, with room for their literals
 pub record Empty (m : Model) : Type 0 where
   pub stagecount : m .stagecount ≡ 0
-  pub literalcount : m .literalcount ≤ 512
-  pub literals : length (m .literals) ≡ 544
-  pub stages : length (m .stages) ≡ 4
+  pub literalcount : m .literalcount ≤ limit.clauses * limit.body
+  pub literals : length (m .literals) ≡ limit.literals
+  pub stages : length (m .stages) ≡ limit.stages
 
 -- THE RECORD AFTER the stages qs without fault, where it was m₀ before; the table has their variables
 pub record Stored (text : List ℕ) (D : Declared) (m₀ : Model) (qs : List (List forms.Literal)) (t : Table) (m : Model) : Type 0 where
   pub table : asking.Holds text t (each qs)
-  pub few : t .count ≤ 3 * length qs
+  pub few : t .count ≤ limit.variables * length qs
   pub kept : take (m₀ .literalcount) (m .literals) ≡ take (m₀ .literalcount) (m₀ .literals)
   pub longer : m₀ .literalcount ≤ m .literalcount
   pub relations : m .relations ≡ m₀ .relations
@@ -61,9 +62,9 @@ pub record Stored (text : List ℕ) (D : Declared) (m₀ : Model) (qs : List (Li
   pub stagecount : m .stagecount ≡ length qs
   pub question : model.questionOf m ≡ questionOf D qs
   pub stage : (i : ℕ) → i < m .stagecount → HoldsStage m (stageAt m i)
-  pub room : m .literalcount ≤ 512 + 8 * length qs
-  pub literals : length (m .literals) ≡ 544
-  pub stages : length (m .stages) ≡ 4
+  pub room : m .literalcount ≤ limit.clauses * limit.body + limit.body * length qs
+  pub literals : length (m .literals) ≡ limit.literals
+  pub stages : length (m .stages) ≡ limit.stages
 
 -- rows 6 to 9 of the stages qs, and the record where there is no fault
 pub record Holds (text : List ℕ) (D : Declared) (m₀ : Model) (qs : List (List forms.Literal)) (s : Asking) : Type 0 where
@@ -76,10 +77,10 @@ pub record Addable (text : List ℕ) (s : Asking) (b : Body) : Type 0 where
   pub m₀ : Model
   pub qs : List (List forms.Literal)
   pub q : List forms.Literal
-  pub few : length qs < 4
+  pub few : length qs < limit.stages
   pub holds : Holds text D m₀ qs s
   pub frame : frames.Holds text D [] 0 q (b .frame)
 
 pub record Added (text : List ℕ) (s : Asking) (b : Body) (r : Asking) : Type 0 where
-  pub added : (D : Declared) (m₀ : Model) (qs : List (List forms.Literal)) (q : List forms.Literal) → length qs < 4 → Holds text D m₀ qs s → frames.Holds text D [] 0 q (b .frame)
+  pub added : (D : Declared) (m₀ : Model) (qs : List (List forms.Literal)) (q : List forms.Literal) → length qs < limit.stages → Holds text D m₀ qs s → frames.Holds text D [] 0 q (b .frame)
       → Holds text D m₀ (qs ++ (q ∷ [])) r

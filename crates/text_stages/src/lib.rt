@@ -1,7 +1,9 @@
 // The `ask` line of the bracket text: its stages are read and stored in the model record.
 ghost use mathlib.Core.Path.{_≡_};
 ghost use Prim.Native.Nat.{_+_, _≤_, _<_};
+ghost use Rattle.limits.specs.Limits as limit;
 ghost use Rattle.text_stages.specs.Questions.{withStage, Addable, Added};
+use limits::VARIABLES;
 use model::Model;
 use model::Stage;
 use text_bodies::Body;
@@ -16,8 +18,8 @@ pub struct Asking {
 }
 
 // One stage more in the record, with the literals of the frame and the numbers of its variables.
-fn add_stage(mut m: Model, f: Frame, numbers: [u32; 3]) -> Model
-    requires { ⌜ (m .stagecount < 4) × (m .literalcount + f .size ≤ 544) × (f .size ≤ 8) × (f .scope .count ≤ 3) ⌝ }
+fn add_stage(mut m: Model, f: Frame, numbers: [u32; VARIABLES]) -> Model
+    requires { ⌜ (m .stagecount < limit.stages) × (m .literalcount + f .size ≤ limit.literals) × (f .size ≤ limit.body) × (f .scope .count ≤ limit.variables) ⌝ }
     ensures { λ r. ⌜ r ≡ withStage m f numbers ⌝ }
 {
     let first = m.literalcount;

@@ -6,15 +6,16 @@ use borrow.Author.Fill.{fill-more}
 use borrow.Author.Needs.{needs}
 use denote.Ref.{now}
 use lib.ListN.{length, set, drop, replicate, length-set}
+use Rattle.limits.specs.Limits as limit
 use Rattle.calls.specs.Wiping.{wiped}
 use Rattle.calls.proofs.wipe.Statement.{statement}
 use Rattle.calls.proofs.wipe.Tie as tie
 
 abbrev Inv-loop : tie.InvT-loop
-Inv-loop work₀ i₀ work i = (i ≤ 32768) × (length work ≡ length work₀) × (work ≡ replicate i 0 ++ drop i work₀)
+Inv-loop work₀ i₀ work i = (i ≤ limit.work) × (length work ≡ length work₀) × (work ≡ replicate i 0 ++ drop i work₀)
 
 abbrev μ-loop : tie.MeasureT-loop
-μ-loop work₀ i₀ work i = 32768 - i
+μ-loop work₀ i₀ work i = limit.work - i
 
 loop-holds : tie.Need-loop-holds Inv-loop μ-loop
 loop-holds c = search needs
@@ -36,7 +37,7 @@ same-length c = search needs
 
 returns : tie.Need-returns Inv-loop μ-loop
 unfolding wiped
-returns c = let e : c .before .loop .i ≡ 32768 = omega arith in c .before .loop .inv .2 ∙ ap (λ (k : ℕ). replicate k 0 ++ drop k (now (c .before .before .args .work))) e
+returns c = let e : c .before .loop .i ≡ limit.work = omega arith in c .before .loop .inv .2 ∙ ap (λ (k : ℕ). replicate k 0 ++ drop k (now (c .before .before .args .work))) e
 
 pub wipe-spec : {M : Type 1} → statement M
 wipe-spec =

@@ -1,0 +1,73 @@
+-- THE LIMITS of document 01: each figure stands here, under its name, and everywhere else the name.
+use Prim.Native.Nat.{ℕ, _+_, _*_, _^_}
+
+-- THE BRACKET TEXT. Row 1: "no bytes, or over 16,384"
+abbrev pub text : ℕ
+text = 16384
+
+-- "a name or variable is 1 to 16 letters or digits"
+abbrev pub name : ℕ
+name = 16
+
+-- "`(state A)`: at most 7"
+abbrev pub states : ℕ
+states = 7
+
+-- "`(rel R n)` ..: at most 16, of them at most 6 with n = 2"
+abbrev pub rels : ℕ
+rels = 16
+
+abbrev pub pairs : ℕ
+pairs = 6
+
+-- rules, `new` and `next` lines, "together at most 64"
+abbrev pub clauses : ℕ
+clauses = 64
+
+-- "a list has 0 to 7 names"
+abbrev pub list : ℕ
+list = 7
+
+-- "a body 0 to 8 literals"
+abbrev pub body : ℕ
+body = 8
+
+-- "with 1 to 4 stages"
+abbrev pub stages : ℕ
+stages = 4
+
+-- "a line's body with its head, or one stage, has at most 3 variables"
+abbrev pub variables : ℕ
+variables = 3
+
+-- WHAT IS LENT. Row 12: "work area under 32,768 bytes, or a run table lent for writing under 8,640 places"; row 14 has the same 8,640
+abbrev pub work : ℕ
+work = 32768
+
+abbrev pub run : ℕ
+run = 8640
+
+-- PLACES AND STATES. "Objects are numbered from 0 in order of creation, 254 the highest"
+abbrev pub objects : ℕ
+objects = 255
+
+-- "255 where there is none"
+abbrev pub none : ℕ
+none = 255
+
+-- "1 + 2 + .. + 127 .. for one object of each state": the non-empty sets of state relations
+abbrev pub atomic : ℕ
+atomic = 127
+
+-- WHAT FOLLOWS: the declared relations, the numbers of atomic states, the literals of all lines, the variables of an `ask` line
+abbrev pub declared : ℕ
+declared = states + rels
+
+abbrev pub sets : ℕ
+sets = 2 ^ states
+
+abbrev pub literals : ℕ
+literals = (clauses + stages) * body
+
+abbrev pub asked : ℕ
+asked = stages * variables
