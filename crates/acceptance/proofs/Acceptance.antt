@@ -11,10 +11,11 @@ use lib.Dec.{eqb, leb, ltb}
 use lib.Pow.{pow-mono}
 use lib.ListN.{length, getD, List·getD-append}
 use borrow.Author.Tests.{eqb-true, leb-true, ltb-false}
+use Rattle.limits.specs.Limits as limit
 use Rattle.semantics.specs.Models.{Literal, is, isnt, fact, Line, rule, new, next, other, Program, Question, Safe}
 use Rattle.semantics.proofs.Tools.{or-false}
 use Rattle.grammar.specs.Bytes as bytes
-use Rattle.grammar.specs.Bytes.{every, allowed, ended, unended, inFront, lines, isName}
+use Rattle.grammar.specs.Bytes.{every, allowed, ended, unended, lines, isName}
 use Rattle.grammar.specs.Forms.{Form, stateForm, relForm, ruleForm, newForm, nextForm, askForm, properAtom, properList, properBody, proper}
 use Rattle.grammar.specs.Shapes.{formOf}
 use Rattle.grammar.specs.Declarations.{Declared, count, stateCode, relCode}
@@ -22,6 +23,7 @@ use Rattle.grammar.specs.Rows.{fault}
 use Rattle.grammar.specs.Models.{declare, clause}
 use Rattle.grammar.specs.Texts.{Outcome, accepted, refused, Judged, bad, good, shaped, judge, Step, wrong, adds, asks, effect, step, finish, readLines, outcome}
 use Rattle.grammar.proofs.Tests.{either, and-left, and-right}
+use Rattle.grammar.proofs.Lines.{length-lines}
 use Rattle.acceptance.specs.Sound.{Each, GoodDeclarations, GoodLiteral, GoodHead, GoodClause, bodyOf, lineAt, GoodLines, GoodQuestion, Sound}
 use Rattle.acceptance.proofs.Shapes.{read-proper}
 use Rattle.acceptance.proofs.Words.{length-snoc}
@@ -176,18 +178,6 @@ nothing-good = record {
   rising = λ i j h k. absurd (omega arith);
 }
 
--- THE LINES of a text are no more than its bytes
-length-front : (b : ℕ) (ls : List bytes.Line) → length (inFront b ls) ≤ suc (length ls)
-length-front b [] = omega arith
-length-front b (ended s ∷ ls) = omega arith
-length-front b (unended s ∷ ls) = omega arith
-
-length-lines : (s : List ℕ) → length (lines s) ≤ length s
-length-lines [] = omega arith
-length-lines (b ∷ s) =
-    let h = length-lines s in
-    ⊎-elim (λ (q : eqb b 10 ≡ true). rw q (omega arith)) (λ (q : eqb b 10 ≡ false). rw q (let z = length-front b (lines s) in omega arith)) (either (eqb b 10))
-
 -- THE SAFETY of a program
 safe-program : (n : ℕ) (D : Declared) (P : Program) → Each (GoodClause n D) P → Safe P
 safe-program n D [] h ℓ = tt
@@ -196,13 +186,13 @@ safe-program n D (c ∷ P) h ℓ = ⊎-elim (λ (q : eqb ℓ (c .0) ≡ true). r
 -- THE THEOREM
 pub accepted-sound : (text : List ℕ) (D : Declared) (P : Program) (Q : Question) → outcome text ≡ accepted D P Q → Sound (length (lines text)) D P Q
 unfolding outcome
-accepted-sound text D P Q e = go (either (eqb (length text) 0 || ltb 16384 (length text)))
+accepted-sound text D P Q e = go (either (eqb (length text) 0 || ltb limit.text (length text)))
   where
-    sound : length text ≤ 16384 → readLines 1 [] [] (lines text) ≡ accepted D P Q → Sound (length (lines text)) D P Q
+    sound : length text ≤ limit.text → readLines 1 [] [] (lines text) ≡ accepted D P Q → Sound (length (lines text)) D P Q
     sound l q =
         let g = subst (GoodOutcome (length (lines text))) q (read-good (length (lines text)) (lines text) 1 [] [] nothing-good (omega arith) (omega arith)) in
         record { most = let z = length-lines text in omega arith; lines = g .0; safe = safe-program (length (lines text)) D P (g .0 .clause); question = g .1 }
 
-    go : ((eqb (length text) 0 || ltb 16384 (length text)) ≡ true) ⊎ ((eqb (length text) 0 || ltb 16384 (length text)) ≡ false) → Sound (length (lines text)) D P Q
+    go : ((eqb (length text) 0 || ltb limit.text (length text)) ≡ true) ⊎ ((eqb (length text) 0 || ltb limit.text (length text)) ≡ false) → Sound (length (lines text)) D P Q
     go (inl q) = absurd (let z = rw q at e in let y : _≡_ {A = ℕ} 0 1 = cc in omega arith)
-    go (inr q) = sound (ltb-false 16384 (length text) (or-false (eqb (length text) 0) (ltb 16384 (length text)) q .1)) (rw q at e)
+    go (inr q) = sound (ltb-false limit.text (length text) (or-false (eqb (length text) 0) (ltb limit.text (length text)) q .1)) (rw q at e)

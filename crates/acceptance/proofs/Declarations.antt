@@ -4,12 +4,13 @@ use mathlib.Core.Logic.{⊎-elim, _≢_}
 use mathlib.Core.Bool.{Bool, true, false, cond, _&&_}
 use mathlib.Core.List.{List, [], _∷_, _++_}
 use mathlib.Core.Option.{Option, none, some}
-use Prim.Native.Nat.{ℕ, zero, suc, _+_, _*_, _-_, _/_, _≤_, _<_}
+use Prim.Native.Nat.{ℕ, zero, suc, _+_, _-_, _/_, _≤_, _<_}
 use native.Mathlib.Omega.{arith}
 use lib.Dec.{eqb, leb}
 use lib.ListN.{length, take, getD, List·getD-append}
 use lib.Seq.{take-append-le, take-append-seam, getD-append-seam}
 use borrow.Author.Tests.{eq-eqb, ne-eqb, leb-false, ltb-true, ltb-false}
+use Rattle.limits.specs.Limits as limit
 use Rattle.semantics.proofs.Tools.{same?, or-false}
 use Rattle.model.specs.WellFormed.{indexOf}
 use Rattle.grammar.specs.Bytes.{Word, same, isName}
@@ -121,18 +122,6 @@ module _ (D : Declared) (good : GoodDeclarations D) (w : Word) (c : ℕ) (found 
       let z : class c ≡ suc (class c - 1) = omega arith in
       rw e (omega arith, z, subst (λ (j : ℕ). indexOf c < count j D) z (k .1))
 
--- THE CODES: states are below 7; derived relations are from 32, 64 and 96 on by their arity, and pairs below 102
-module _ (D : Declared) (good : GoodDeclarations D) where
-  pub state-range : (a : ℕ) → DeclaredState D a → a < 7
-  state-range a h = let z = good .states in omega arith
-
-  pub relation-range : (r n : ℕ) → DeclaredRelation D r n → (32 * n + 32 ≤ r) × (r < 32 * n + 48) × (n ≡ 2 → r < 102)
-  relation-range r zero h = let z = good .derived in omega arith
-  relation-range r (suc zero) h = let z = good .derived in omega arith
-  relation-range r (suc (suc zero)) h = let z = good .derived in let y = good .pairs in omega arith
-  relation-range r (suc (suc (suc n))) h = absurd (omega arith)
-
--- ONE NAME MORE
 module _ (D : Declared) (good : GoodDeclarations D) (w : Word) (c : ℕ) (named : isName w ≡ true) (new : lookup w D ≡ none) (four : class c < 4) (after : indexOf c ≡ count (class c) D) where
   abbrev pub more : Declared
   more = D ++ ((w, c) ∷ [])
@@ -140,7 +129,7 @@ module _ (D : Declared) (good : GoodDeclarations D) (w : Word) (c : ℕ) (named 
   name-before : (i : ℕ) → i < length D → nameAt more i ≡ nameAt D i
   name-before i l = ap (λ (d : Word × ℕ). d .0) (List·getD-append D ((w, c) ∷ []) ([], 0) i l)
 
-  pub good-more : count 0 more ≤ 7 → count 1 more + count 2 more + count 3 more ≤ 16 → count 3 more ≤ 6 → GoodDeclarations more
+  pub good-more : count 0 more ≤ limit.states → count 1 more + count 2 more + count 3 more ≤ 16 → count 3 more ≤ 6 → GoodDeclarations more
   good-more states derived pairs = record {
     names = at-snoc D (w, c) ([], 0) (λ i d. isName (d .0) ≡ true) (good .names) named;
     different = λ i j l h. at-snoc D (w, c) ([], 0) (λ j d. (i : ℕ) → i < j → nameAt more i ≢ d .0)
@@ -163,7 +152,7 @@ pub good-state : (D : Declared) → GoodDeclarations D → (w : Word) → isName
 unfolding fault declare
 good-state D good w named clauses e =
     let f = lower-none (row 4 (manyStates D)) (row 5 (again (lookup w D))) e in
-    let few = leb-false 7 (count 0 D) (row-none 4 (manyStates D) (omega arith) (f .0)) in
+    let few = leb-false limit.states (count 0 D) (row-none 4 (manyStates D) (omega arith) (f .0)) in
     let new = not-again (lookup w D) (row-none 5 (again (lookup w D)) (omega arith) (f .1)) in
     let c = stateCode D in
     let z : class c ≡ 0 = omega arith in

@@ -89,10 +89,6 @@ module _ (m m′ : Model) (keeps : Keeps m m′) where
     asks-kept = map-same (stageOf (m′ .literals)) (stageOf (m .literals)) (m .stagecount) (m .stages) _
         (λ i h. let t = stageAt m i in ap (renamed (numberIn t)) (part-kept (t .first) (t .count) (held i h .within)))
 
-    pub question-kept : m′ .stagecount ≡ m .stagecount → questionOf m′ ≡ questionOf m
-    unfolding questionOf
-    question-kept e = rw (e, keeps .stages) asks-kept
-
     -- one stage more
     pub question-more : m′ .stagecount ≡ suc (m .stagecount) → m .stagecount < length (m′ .stages)
         → questionOf m′ ≡ questionOf m ++ (stageOf (m′ .literals) (stageAt m′ (m .stagecount)) ∷ [])

@@ -6,17 +6,16 @@ use Prim.Native.Nat.{ℕ, _+_, _≤_}
 use lib.ListN.{length, take}
 use Rattle.semantics.specs.Labels.{setOf}
 use Rattle.model.specs.declared.Action.the-variants.{Rule, New, Next}
-use Rattle.model.specs.declared.Clause.{Clause}
 use Rattle.model.specs.declared.Stage.{Stage}
 use Rattle.model.specs.declared.Model.{Model}
-use Rattle.model.specs.Records.{headOf, lineOf, clauseBody, stageBody, stageOf}
+use Rattle.model.specs.Records.{lineOf, stageBody, stageOf}
 use Rattle.grammar.specs.Bytes.{Word}
 use Rattle.grammar.specs.Forms.{Atom, Literal, ruleForm, newForm, nextForm}
 use Rattle.grammar.specs.Declarations.{Declared, extend, place, variables}
 use Rattle.grammar.specs.Rows.{bodyFault, repeats}
 use Rattle.grammar.specs.Models.{codeOf, codes, bodyOf, clause}
 use Rattle.grammar.proofs.Words.{extend-new}
-use Rattle.acceptance.specs.Represents.{HoldsClause, HoldsStage}
+use Rattle.acceptance.specs.Represents.{HoldsStage}
 use Rattle.acceptance.proofs.Words.{first-place, head-numbers}
 use Rattle.acceptance.proofs.Scopes.{numbered-by-line}
 use Rattle.acceptance.proofs.Questions.{Within}
@@ -43,12 +42,6 @@ module _ (D : Declared) (n : ℕ) where
   next-said x p m b = rw (first-place x (variables b))
 
 module _ (D : Declared) (m : Model) where
-  -- A CLAUSE whose part of the literal row says the body b, after the variables hs of its head
-  pub holds-clause : (c : Clause) (hs : List Word) (b : List Literal) → bodyFault D b ≡ 0 → c .first + c .count ≤ m .literalcount
-      → headOf (c .action) ≡ map (place (lineWords hs b)) hs → clauseBody (m .literals) c ≡ bodyOf D (lineWords hs b) b → c .variables ≡ length (lineWords hs b)
-      → HoldsClause m c
-  holds-clause c hs b e w h s v = record { within = w; numbered = rw (h, s, v) (numbered-by-line D hs b e) }
-
   -- A STAGE whose part of the literal row says q with the variables numbered within it, and whose numbers are theirs in the `ask` line
   module _ (vs : List Word) (t : Stage) (q : List Literal) (faultless : bodyFault D q ≡ 0) (inside : Within vs (variables q))
       (says : stageBody (m .literals) t ≡ bodyOf D (lineWords [] q) q) (counts : t .variables ≡ length (lineWords [] q))

@@ -10,6 +10,7 @@ use native.Mathlib.Omega.{arith}
 use lib.Dec.{leb}
 use lib.ListN.{length}
 use borrow.Author.Tests.{leb-true, le-leb, lt-ltb}
+use Rattle.limits.specs.Limits as limit
 use Rattle.grammar.specs.Bytes.{bytes, Word, isName}
 use Rattle.grammar.specs.Forms.{Atom, Literal, Form, all, properAtom, properLiteral, properList, properBody, properStage, proper}
 use Rattle.grammar.specs.Shapes.{Read, _>>=_, after, word, name, whether, rest, bracket, atom, literal, list, body, stage, arity, stateRest, relRest, ruleRest, newRest, nextRest, askRest, line, whole, formOf}
@@ -94,8 +95,8 @@ unfolding list
 list-reads s =
     let R : List Word × List ℕ → Type 0 = λ r. properList (r .0) ≡ true in
     which Any R (after (bytes "()") s) _ _ (any (after (bytes "()") s)) (λ t _. refl)
-    (weaken (λ r. Items isName name name-reads 7 r × (1 ≤ length (r .0))) R (bracket name 6 s) (bracket-reads isName name name-reads 6 s)
-    (λ r h. and-both (h .0 .0) (le-leb (length (r .0)) 7 (h .0 .1))))
+    (weaken (λ r. Items isName name name-reads limit.list r × (1 ≤ length (r .0))) R (bracket name (limit.list - 1) s) (bracket-reads isName name name-reads (limit.list - 1) s)
+    (λ r h. and-both (h .0 .0) (le-leb (length (r .0)) limit.list (h .0 .1))))
 
 body-reads : (s : List ℕ) → Reads properBody (body s)
 unfolding body

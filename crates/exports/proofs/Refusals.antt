@@ -5,30 +5,26 @@ use mathlib.Core.Bool.{Bool, true, false, cond, not, _&&_, _||_}
 use mathlib.Core.List.{List, [], _∷_}
 use mathlib.Core.Option.{Option, none, some}
 use Prim.Native.Nat.{ℕ, suc, _+_, _*_, _/_, _%_, _≤_, _<_}
-use native.Mathlib.Nat.{min-le-left}
 use native.Mathlib.Omega.{arith}
 use lib.Dec.{eqb, ltb}
 use lib.ListN.{length}
 use borrow.Author.Tests.{ltb-false}
 use Rattle.semantics.specs.Models.{Program}
 use Rattle.grammar.specs.Bytes as bytes
-use Rattle.grammar.specs.Bytes.{Word, ended, unended, every, allowed, inFront, lines}
+use Rattle.grammar.specs.Bytes.{Word, ended, unended, every, allowed, lines}
 use Rattle.grammar.specs.Forms.{Literal, plain, negated, Form, stateForm, relForm, ruleForm, newForm, nextForm, askForm}
 use Rattle.grammar.specs.Shapes.{formOf}
 use Rattle.grammar.specs.Declarations.{isState, arityOf, Declared, lookup}
-use Rattle.grammar.specs.Rows.{lower, row, manyStates, manyRelations, manyClauses, again, supported, few, repeats, carriesMany, nameFault, listFault, headFault, plainFault, negatedFault, literalFault, bodyFault, scopeFault, stagesFault, fault}
+use Rattle.grammar.specs.Rows.{row, manyStates, manyRelations, manyClauses, again, supported, few, repeats, carriesMany, nameFault, listFault, headFault, plainFault, negatedFault, literalFault, bodyFault, scopeFault, stagesFault, fault}
 use Rattle.grammar.specs.Texts.{Outcome, accepted, refused, Judged, bad, good, shaped, judge, Step, wrong, adds, asks, effect, step, finish, readLines, outcome}
 use Rattle.semantics.proofs.Tools.{or-false}
 use Rattle.grammar.proofs.Tests.{either}
+use Rattle.grammar.proofs.Lower.{lower-bound}
+use Rattle.grammar.proofs.Lines.{length-lines}
 use Rattle.calls.specs.Calls.{early, called}
 use Rattle.exports.specs.Codes.{code}
 
 -- THE ROWS of a line
-lower-most : (k a b : ℕ) → a ≤ k → b ≤ k → lower a b ≤ k
-unfolding lower
-lower-most k a b h l = ⊎-elim (λ (q : eqb a 0 ≡ true). rw q l)
-    (λ (q : eqb a 0 ≡ false). rw q (⊎-elim (λ (r : eqb b 0 ≡ true). rw r h) (λ (r : eqb b 0 ≡ false). rw r (omega (arith, min-le-left a b))) (either (eqb b 0)))) (either (eqb a 0))
-
 cond-most : (b : Bool) (x y : ℕ) → x ≤ 11 → y ≤ 11 → cond b x y ≤ 11
 cond-most true x y h l = h
 cond-most false x y h l = l
@@ -43,7 +39,7 @@ name-most (some c) = row-most 6 (not (isState c)) (omega arith)
 list-most : (D : Declared) (ws : List Word) → listFault D ws ≤ 11
 unfolding listFault
 list-most D [] = omega arith
-list-most D (w ∷ ws) = lower-most 11 _ _ (name-most (lookup w D)) (list-most D ws)
+list-most D (w ∷ ws) = lower-bound _ _ 11 (name-most (lookup w D)) (list-most D ws)
 
 head-most : (o : Option ℕ) (n : ℕ) → headFault o n ≤ 11
 head-most none n = omega arith
@@ -64,7 +60,7 @@ literal-most D (negated a) = go (lookup (a .name) D)
 body-most : (D : Declared) (b : List Literal) → bodyFault D b ≤ 11
 unfolding bodyFault
 body-most D [] = omega arith
-body-most D (l ∷ b) = lower-most 11 _ _ (literal-most D l) (body-most D b)
+body-most D (l ∷ b) = lower-bound _ _ 11 (literal-most D l) (body-most D b)
 
 scope-most : (hs : List Word) (b : List Literal) → scopeFault hs b ≤ 11
 scope-most hs b = row-most 9 (not (supported hs b && few hs b)) (omega arith)
@@ -72,21 +68,21 @@ scope-most hs b = row-most 9 (not (supported hs b && few hs b)) (omega arith)
 stages-most : (D : Declared) (qs : List (List Literal)) → stagesFault D qs ≤ 11
 unfolding stagesFault
 stages-most D [] = omega arith
-stages-most D (q ∷ qs) = lower-most 11 _ _ (lower-most 11 _ _ (body-most D q) (scope-most [] q)) (stages-most D qs)
+stages-most D (q ∷ qs) = lower-bound _ _ 11 (lower-bound _ _ 11 (body-most D q) (scope-most [] q)) (stages-most D qs)
 
 fault-most : (D : Declared) (clauses : ℕ) (f : Form) → fault D clauses f ≤ 11
 unfolding fault
-fault-most D k (stateForm w) = lower-most 11 _ _ (row-most 4 (manyStates D) (omega arith)) (row-most 5 (again (lookup w D)) (omega arith))
-fault-most D k (relForm w n) = lower-most 11 _ _ (row-most 4 (manyRelations D n) (omega arith)) (row-most 5 (again (lookup w D)) (omega arith))
+fault-most D k (stateForm w) = lower-bound _ _ 11 (row-most 4 (manyStates D) (omega arith)) (row-most 5 (again (lookup w D)) (omega arith))
+fault-most D k (relForm w n) = lower-bound _ _ 11 (row-most 4 (manyRelations D n) (omega arith)) (row-most 5 (again (lookup w D)) (omega arith))
 fault-most D k (ruleForm h b) =
-    lower-most 11 _ _ (row-most 4 (manyClauses k) (omega arith))
-    (lower-most 11 _ _ (head-most (lookup (h .name) D) (length (h .variables)))
-    (lower-most 11 _ _ (body-most D b) (lower-most 11 _ _ (row-most 9 (repeats (h .variables)) (omega arith)) (scope-most (h .variables) b))))
-fault-most D k (newForm l b) = lower-most 11 _ _ (row-most 4 (manyClauses k) (omega arith)) (lower-most 11 _ _ (list-most D l) (lower-most 11 _ _ (body-most D b) (scope-most [] b)))
+    lower-bound _ _ 11 (row-most 4 (manyClauses k) (omega arith))
+    (lower-bound _ _ 11 (head-most (lookup (h .name) D) (length (h .variables)))
+    (lower-bound _ _ 11 (body-most D b) (lower-bound _ _ 11 (row-most 9 (repeats (h .variables)) (omega arith)) (scope-most (h .variables) b))))
+fault-most D k (newForm l b) = lower-bound _ _ 11 (row-most 4 (manyClauses k) (omega arith)) (lower-bound _ _ 11 (list-most D l) (lower-bound _ _ 11 (body-most D b) (scope-most [] b)))
 fault-most D k (nextForm x p m b) =
-    lower-most 11 _ _ (row-most 4 (manyClauses k) (omega arith))
-    (lower-most 11 _ _ (list-most D p) (lower-most 11 _ _ (list-most D m) (lower-most 11 _ _ (body-most D b) (scope-most (x ∷ []) b))))
-fault-most D k (askForm qs) = lower-most 11 _ _ (stages-most D qs) (row-most 11 (carriesMany qs) (omega arith))
+    lower-bound _ _ 11 (row-most 4 (manyClauses k) (omega arith))
+    (lower-bound _ _ 11 (list-most D p) (lower-bound _ _ 11 (list-most D m) (lower-bound _ _ 11 (body-most D b) (scope-most (x ∷ []) b))))
+fault-most D k (askForm qs) = lower-bound _ _ 11 (stages-most D qs) (row-most 11 (carriesMany qs) (omega arith))
 
 -- A REFUSAL in range: its number is at most 14, its line at most m
 abbrev pub InRange : ℕ → Outcome → Type 0
@@ -145,17 +141,6 @@ read-range m (l ∷ ls) n D P h = go (step n D P (judge l)) (step-range n D P (j
     go (wrong r) g rec = (omega arith, omega arith)
     go (adds E R) g rec = rec E R
     go (asks o) g rec = finish-range n m o ls g (omega arith)
-
--- a text has no more lines than bytes
-length-front : (b : ℕ) (ls : List bytes.Line) → length (inFront b ls) ≤ suc (length ls)
-length-front b [] = omega arith
-length-front b (ended s ∷ ls) = omega arith
-length-front b (unended s ∷ ls) = omega arith
-
-length-lines : (s : List ℕ) → length (lines s) ≤ length s
-length-lines [] = omega arith
-length-lines (b ∷ s) =
-    ⊎-elim (λ (q : eqb b 10 ≡ true). rw q (omega (arith, length-lines s))) (λ (q : eqb b 10 ≡ false). rw q (omega (arith, length-front b (lines s), length-lines s))) (either (eqb b 10))
 
 outcome-range : (text : List ℕ) → InRange 16385 (outcome text)
 unfolding outcome

@@ -3,5 +3,6 @@ pub mod Reading
 pub mod Words
 pub mod Bodies
 pub mod Lower
+pub mod Lines
 pub mod Printing
 pub mod Examples

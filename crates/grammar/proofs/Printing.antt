@@ -10,6 +10,7 @@ use native.Mathlib.Omega.{arith}
 use lib.Dec.{eqb, leb, ltb}
 use lib.ListN.{length, length-append}
 use borrow.Author.Tests.{eqb-true, ne-eqb, leb-true, le-leb}
+use Rattle.limits.specs.Limits as limit
 use Rattle.grammar.specs.Bytes.{bytes, letter, alphanumeric, every, Word, same, isName}
 use Rattle.grammar.specs.Forms.{Atom, Literal, plain, negated, Form, stateForm, relForm, ruleForm, newForm, nextForm, askForm, printRest, printBracket, printWord, printAtom, printLiteral, print, all, properAtom, properLiteral, properList, properBody, properStage, proper}
 use Rattle.grammar.specs.Shapes.{Read, after, word, afterWord, name, rest, bracket, atom, literal, list, body, stage, arity, stateRest, relRest, ruleRest, newRest, nextRest, askRest, line, formOf}
@@ -138,10 +139,10 @@ list-back [] e s = refl
 list-back ([] ∷ ws) e s = clash e refl
 list-back ((b ∷ w) ∷ ws) e s =
     let l = (b ∷ w) ∷ ws in
-    let p = and-left (all isName l) (leb (length l) 7) e in
-    let z = leb-true (length l) 7 (and-right (all isName l) (leb (length l) 7) e) in
+    let p = and-left (all isName l) (leb (length l) limit.list) e in
+    let z = leb-true (length l) limit.list (and-right (all isName l) (leb (length l) limit.list) e) in
     rw (ne-eqb 41 b (λ q. clash (name-letter b w (and-left (isName (b ∷ w)) (all isName ws) p)) (subst (λ (x : ℕ). letter x ≡ false) q refl)))
-    (bracket-back isName name printWord name-back 6 (b ∷ w) ws p (omega arith) s)
+    (bracket-back isName name printWord name-back (limit.list - 1) (b ∷ w) ws p (omega arith) s)
 
 pub body-back : (b : List Literal) → properBody b ≡ true → (s : List ℕ) → body (printRest printLiteral b ++ s) ≡ some (b, s)
 unfolding body

@@ -16,7 +16,7 @@ pub record Atom : Type 0 where
 pub data Literal : Type 0 where
   plain negated : Atom → Literal
 
--- a FORM, "one a line"
+-- a FORM: "one form a line"
 pub data Form : Type 0 where
   stateForm : Word → Form
   relForm : Word → ℕ → Form

@@ -5,6 +5,7 @@ use mathlib.Core.List.{List, map}
 use mathlib.Core.Option.{some}
 use Prim.Native.Nat.{ℕ, _≤_}
 use lib.ListN.{length, take}
+use Rattle.limits.specs.Limits as limit
 use Rattle.semantics.specs.Runs.{Place}
 use Rattle.model.specs.declared.Model.{Model}
 use Rattle.model.specs.Places.{placeOf}
@@ -29,9 +30,9 @@ pub record Listable (text : List ℕ) (m : Model) (states : List ℕ) (k : ℕ) 
   pub relations : GoodRelations m
   pub names : Named text m
   pub count : k ≤ length states
-  pub few : k ≤ 127
+  pub few : k ≤ limit.atomic
   pub places : n ≤ length run
-  pub short : n ≤ 8640
+  pub short : n ≤ limit.run
 
 -- THE LISTING IS WRITTEN to the front of d: that of the verdict, of the first k states, and of the run that the first n numbers stand for
 abbrev pub WritesListing : List ℕ → List ℕ → Model → Bool → List ℕ → ℕ → List ℕ → ℕ → ℕ → List ℕ → Type 0

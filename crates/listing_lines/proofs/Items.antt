@@ -11,6 +11,7 @@ use lib.Seq.{take-suc, take-take, length-slice}
 use borrow.Author.Tests.{eq-eqb}
 use mir.Syntax.{w32}
 use mir.Val.{Fits}
+use Rattle.limits.specs.Limits as limit
 use Rattle.semantics.specs.Labels.{has}
 use Rattle.semantics.proofs.Tools.{either}
 use Rattle.model.specs.declared.Model.{Model}
@@ -39,14 +40,14 @@ fewer k zero rs = omega arith
 fewer k (suc i) [] = omega arith
 fewer k (suc i) (r ∷ rs) = ⊎-elim (λ (q : eqb (classOf r) k ≡ true). rw q (omega (arith, fewer k i rs))) (λ (q : eqb (classOf r) k ≡ false). rw q (fewer k i rs)) (either (eqb (classOf r) k))
 
-module _ (text : List ℕ) (m : Model) (s : ℕ) (small : Fits w32 s) (good : GoodRelations m) (named : Named text m) (whole : length (m .relations .codes) ≡ 23) where
+module _ (text : List ℕ) (m : Model) (s : ℕ) (small : Fits w32 s) (good : GoodRelations m) (named : Named text m) (whole : length (m .relations .codes) ≡ limit.declared) where
   abbrev code : ℕ → ℕ
   code i = getD (m .relations .codes) i 0
 
   abbrev states : ℕ → ℕ
   states i = inClass 0 (take i (m .relations .codes))
 
-  states-few : (i : ℕ) → i ≤ m .relations .count → states i ≤ 7
+  states-few : (i : ℕ) → i ≤ m .relations .count → states i ≤ limit.states
   unfolding declaredIn
   states-few i h = omega (arith, good .states, rw (take-take i (m .relations .count) (m .relations .codes) h) at (fewer 0 i (take (m .relations .count) (m .relations .codes))))
 
@@ -69,8 +70,8 @@ module _ (text : List ℕ) (m : Model) (s : ℕ) (small : Fits w32 s) (good : Go
       (either (has s (code i)))
 
   -- there is room for the next name
-  pub name-room : (i : ℕ) → i < m .relations .count → has s (code i) ≡ true → length (items (namesIn text m s i)) + 17 ≤ 119
+  pub name-room : (i : ℕ) → i < m .relations .count → has s (code i) ≡ true → length (items (namesIn text m s i)) + (1 + limit.name) ≤ limit.states * (1 + limit.name)
   name-room i h e = omega (arith, names-short i (omega arith), state-more i h e, states-few (suc i) h)
 
-  pub names-room : length (items (namesIn text m s (m .relations .count))) ≤ 119
+  pub names-room : length (items (namesIn text m s (m .relations .count))) ≤ limit.states * (1 + limit.name)
   names-room = omega (arith, names-short (m .relations .count) (omega arith), states-few (m .relations .count) (omega arith))

@@ -2,9 +2,10 @@
 use mathlib.Core.Bool.{Bool, true, false, cond}
 use mathlib.Core.List.{List, [], _∷_, _++_, map}
 use mathlib.Core.Option.{Option, none, some}
-use Prim.Native.Nat.{ℕ, zero, suc, _+_, _≤_, _<_}
+use Prim.Native.Nat.{ℕ, zero, suc, _+_, _≤_, _<_, _*_}
 use lib.ListN.{length, getD}
 use lib.Seq.{slice}
+use Rattle.limits.specs.Limits as limit
 use Rattle.semantics.specs.Labels.{has}
 use Rattle.semantics.specs.Runs.{Place, step, meet}
 use Rattle.model.specs.declared.Model.{Model}
@@ -32,7 +33,7 @@ namesIn text m s (suc i) = namesIn text m s i ++ cond (has s (getD (m .relations
 -- what acceptance guarantees of the names: each stands in the text, and "is 1 to 16 letters or digits"
 pub record Named (text : List ℕ) (m : Model) : Type 0 where
   pub within : (i : ℕ) → i < m .relations .count → getD (m .names) i 0 + getD (m .lengths) i 0 ≤ length text
-  pub short : (i : ℕ) → i < m .relations .count → getD (m .lengths) i 0 ≤ 16
+  pub short : (i : ℕ) → i < m .relations .count → getD (m .lengths) i 0 ≤ limit.name
 
 -- an atomic state: `(atomic A B)`
 unfoldable pub atomicLine : List ℕ → Model → ℕ → List ℕ
@@ -62,4 +63,4 @@ listingOf text m reached states run = verdictLine reached ++ statesLine (length 
 
 -- how long a line can be: that of an atomic state with 7 names of 16 bytes
 abbrev pub longest : ℕ
-longest = 128
+longest = 9 + limit.states * (1 + limit.name)

@@ -1,5 +1,8 @@
 // The bytes of each line of the listing.
 use labels::has;
+use limits::NAME;
+use limits::NONE;
+use limits::STATES;
 use listing_bytes::put_bytes;
 use listing_bytes::put_end;
 use listing_bytes::put_name;
@@ -9,8 +12,9 @@ use model::Model;
 use model::Place;
 use model::place_of;
 ghost use mathlib.Core.List.{[], _∷_, map};
-ghost use Prim.Native.Nat.{_+_, _≤_};
+ghost use Prim.Native.Nat.{_+_, _≤_, _*_};
 ghost use lib.ListN.{length};
+ghost use Rattle.limits.specs.Limits as limit;
 ghost use Rattle.semantics.specs.Runs.{step, meet};
 ghost use Rattle.model.specs.Places.{objects, placeOf};
 ghost use Rattle.model.specs.WellFormed.{GoodRelations};
@@ -20,11 +24,11 @@ ghost use Rattle.listing_bytes.specs.Writing.{Writes, WritesLine};
 ghost use Rattle.listing_lines.specs.Lines.{verdictLine, statesLine, Named, namesIn, atomicLine, placeLine, lineFor, refusedLine, longest};
 
 // How many bytes the longest line has.
-pub const LONGEST: usize = 128;
+pub const LONGEST: usize = 9 + STATES * (1 + NAME);
 
 // Writes the names of the set's relations as items, in order of declaration.
 fn put_names(out: &mut [u8], at: usize, text: &[u8], m: Model, set: u32) -> usize
-    requires { ⌜ GoodRelations m × Named (now text) m × (at + 119 ≤ length (now out)) ⌝ }
+    requires { ⌜ GoodRelations m × Named (now text) m × (at + limit.states * (1 + limit.name) ≤ length (now out)) ⌝ }
     ensures { λ r. ⌜ Writes (now (out .entry)) at (items (namesIn (now (text .entry)) m set (m .relations .count))) r (now (out .exit)) ⌝ }
 {
     let relations = m.relations;
@@ -47,15 +51,15 @@ fn put_objects(out: &mut [u8], at: usize, first: u32, second: u32, third: u32) -
     requires { ⌜ at + 33 ≤ length (now out) ⌝ }
     ensures { λ r. ⌜ Writes (now (out .entry)) at (items (map decimal (objects (first ∷ second ∷ third ∷ [])))) r (now (out .exit)) ⌝ }
 {
-    if first == 255 {
+    if first == NONE {
         return at;
     }
     let one = put_number(out, at, first);
-    if second == 255 {
+    if second == NONE {
         return one;
     }
     let two = put_number(out, one, second);
-    if third == 255 {
+    if third == NONE {
         return two;
     }
     put_number(out, two, third)

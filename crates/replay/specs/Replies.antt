@@ -5,6 +5,7 @@ use mathlib.Core.List.{List, []}
 use Prim.Native.Nat.{ℕ}
 use lib.Dec.{eqb, ltb}
 use lib.ListN.{length}
+use Rattle.limits.specs.Limits as limit
 use Rattle.semantics.specs.Runs.{start}
 use Rattle.grammar.specs.Declarations.{count}
 use Rattle.grammar.specs.Texts.{Outcome, accepted, refused}
@@ -19,11 +20,11 @@ use Rattle.replay_runs.specs.Replies.{PlaceReply}
 
 -- row 12, "work area under 32,768 bytes"
 abbrev pub narrow : List ℕ → Bool
-narrow work = ltb (length work) 32768
+narrow work = ltb (length work) limit.work
 
 -- A WHOLE RUN: row 14, "a replay of a run over 8,640 places"
 abbrev pub runOutcome : List ℕ → List ℕ → List ℕ → Outcome
-runOutcome text run work = called text (narrow work) (ltb 8640 (length run))
+runOutcome text run work = called text (narrow work) (ltb limit.run (length run))
 
 -- the answer, and the work area after it
 abbrev pub Replayed : Outcome → List ℕ → List ℕ → Answer → List ℕ → Type 0
@@ -32,7 +33,7 @@ Replayed (accepted D P Q) run work a after = Replays P Q (start []) run 0 a × (
 
 -- ONE PLACE: row 14, "a place put to a lent state that has kept 8,640"
 abbrev pub placeOutcome : List ℕ → Session → List ℕ → Outcome
-placeOutcome text s work = called text (narrow work) (eqb (s .kept) 8640)
+placeOutcome text s work = called text (narrow work) (eqb (s .kept) limit.run)
 
 -- the answer, the state after the place, and the work area after it; "refusals leave it"
 abbrev pub Put : Outcome → Session → ℕ → List ℕ → Answer → Session → List ℕ → Type 0

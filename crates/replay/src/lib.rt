@@ -1,4 +1,5 @@
 // The replay over a text: a whole run, and one place put to a state by value.
+use limits::RUN;
 use limits::WORK;
 use replay_runs::Reply;
 use replay_session::Answer;
@@ -7,9 +8,6 @@ use text::Acceptance;
 ghost use mathlib.Core.Path.{_≡_};
 ghost use Rattle.replay_session.specs.declared.Answer.the-variants.{Refused};
 ghost use Rattle.replay.specs.Replies.{runOutcome, Replayed, placeOutcome, Put};
-
-// The most places that a run has.
-const PLACES: usize = 8640;
 
 // A refusal leaves the state.
 fn refuse(s: Session, number: u32, line: u32) -> Reply
@@ -25,7 +23,7 @@ fn refuse(s: Session, number: u32, line: u32) -> Reply
 pub fn replay(text: &[u8], run: &[u32], work: &mut [u8]) -> Answer
     ensures { λ r. ⌜ Replayed (runOutcome (now (text .entry)) (now (run .entry)) (now (work .entry))) (now (run .entry)) (now (work .entry)) r (now (work .exit)) ⌝ }
 {
-    let row = calls::early(text.len(), work.len() < WORK, run.len() > PLACES);
+    let row = calls::early(text.len(), work.len() < WORK, run.len() > RUN);
     if row != 0 {
         return Answer::Refused {
             number: row,
@@ -45,7 +43,7 @@ pub fn replay(text: &[u8], run: &[u32], work: &mut [u8]) -> Answer
 pub fn place(text: &[u8], s: Session, n: u32, work: &mut [u8]) -> Reply
     ensures { λ r. ⌜ Put (placeOutcome (now (text .entry)) s (now (work .entry))) s n (now (work .entry)) (r .answer) (r .session) (now (work .exit)) ⌝ }
 {
-    let row = calls::early(text.len(), work.len() < WORK, s.kept == PLACES);
+    let row = calls::early(text.len(), work.len() < WORK, s.kept == RUN);
     if row != 0 {
         return refuse(s, row, 0);
     }

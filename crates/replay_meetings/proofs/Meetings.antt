@@ -9,6 +9,7 @@ use native.Mathlib.Omega.{arith}
 use borrow.Author.Tests.{eqb-true, eq-eqb, ne-eqb}
 use lib.Dec.{eqb}
 use lib.ListN.{length, take, getD}
+use Rattle.limits.specs.Limits as limit
 use Rattle.semantics.specs.Models.{elem, Body, vars, supported, names, Supported}
 use Rattle.semantics.specs.Facts.{Derived, Meets}
 use Rattle.semantics.specs.Runs.{meet, pick, named, Allowed}
@@ -36,7 +37,7 @@ named-small g v a b c r ha hb hc = ⊎-elim (λ f. rw (f .3) (chosen-small a b c
 
 -- a stage's body can be handed to the evaluator
 module _ (m : Model) (w : WellFormed m) (i : ℕ) (h : i < m .stagecount) where
-  pub part-within : stageAt m i .first ≤ 544
+  pub part-within : stageAt m i .first ≤ limit.literals
   part-within = let p = w .stage i h .part .within in let l = w .literalcount in omega arith
 
   pub part-supported : Supported (vars (stageBody (m .literals) (stageAt m i))) (stageBody (m .literals) (stageAt m i))

@@ -4,6 +4,7 @@ use mathlib.Core.Logic.{_⊎_, _≢_}
 use mathlib.Core.Bool.{cond}
 use Prim.Native.Nat.{ℕ, _<_}
 use lib.Dec.{eqb}
+use Rattle.limits.specs.Limits as limit
 use Rattle.model.specs.declared.Stage.{Stage}
 use Rattle.model.specs.Records.{numberIn}
 use Rattle.facts_candidates.specs.declared.Choice.{Choice}
@@ -11,12 +12,12 @@ use Rattle.facts_candidates.specs.Choices.{chosen}
 
 -- r is the object that the choice has for the stage's variable of number v, or 255 where the stage has no such variable
 abbrev pub Named : Stage → ℕ → Choice → ℕ → Type 0
-Named g v c r = ((x : ℕ) × (x < g .variables) × (numberIn g x ≡ v) × (r ≡ chosen c x)) ⊎ (((x : ℕ) → x < g .variables → numberIn g x ≢ v) × (r ≡ 255))
+Named g v c r = ((x : ℕ) × (x < g .variables) × (numberIn g x ≡ v) × (r ≡ chosen c x)) ⊎ (((x : ℕ) → x < g .variables → numberIn g x ≢ v) × (r ≡ limit.none))
 
 -- the object may be met where the carried one is c: none is carried yet, the stage does not name it, or they are the same
 abbrev pub Agrees : ℕ → ℕ → Type 0
-Agrees c o = (c ≢ 255) → (o ≢ 255) → o ≡ c
+Agrees c o = (c ≢ limit.none) → (o ≢ limit.none) → o ≡ c
 
 -- the carried object afterwards
 abbrev pub carriedOn : ℕ → ℕ → ℕ
-carriedOn c o = cond (eqb o 255) c o
+carriedOn c o = cond (eqb o limit.none) c o

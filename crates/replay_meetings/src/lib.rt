@@ -1,5 +1,6 @@
 // The meeting of a stage put to the replay's state.
 use facts_candidates::Choice;
+use limits::NONE;
 use model::Model;
 use model::Stage;
 use replay_session::Session;
@@ -9,14 +10,12 @@ ghost use mathlib.Core.Path.{_≡_};
 ghost use mathlib.Core.List.{[], _∷_};
 ghost use Prim.Native.Nat.{_≤_, _<_};
 ghost use lib.ListN.{length};
+ghost use Rattle.limits.specs.Limits as limit;
 ghost use Rattle.semantics.specs.Runs.{meet};
 ghost use Rattle.model.specs.Places.{objects};
 ghost use Rattle.replay_session.specs.Sessions.{Says};
 ghost use Rattle.replay_steps.specs.Tries.{Ready, Tried};
 ghost use Rattle.replay_meetings.specs.Carried.{Named, Agrees, carriedOn};
-
-// Stands for no object.
-const NONE: u32 = 255;
 
 // How many objects a meeting names.
 fn count(first: u32, second: u32, third: u32) -> u32
@@ -36,7 +35,7 @@ fn count(first: u32, second: u32, third: u32) -> u32
 
 // The object that a choice has for the stage's variable of a number, or NONE.
 fn named(g: Stage, number: u32, c: Choice) -> usize
-    requires { ⌜ g .variables ≤ 3 ⌝ }
+    requires { ⌜ g .variables ≤ limit.variables ⌝ }
     ensures { λ r. ⌜ Named g number c r ⌝ }
 {
     let n = g.variables as usize;

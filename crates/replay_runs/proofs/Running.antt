@@ -11,6 +11,7 @@ use native.Mathlib.Nat.{not-suc-le-zero}
 use lib.Dec.{eqb}
 use lib.ListN.{length, drop, getD, length-set, length-replicate, drop-of-length-le}
 use lib.Seq.{drop-cons}
+use Rattle.limits.specs.Limits as limit
 use Rattle.semantics.specs.Models.{Line, rule, new, next, other, line}
 use Rattle.semantics.specs.Facts.{Database}
 use Rattle.semantics.specs.Steps.{Enabled}
@@ -88,7 +89,7 @@ pub running-start : (m : Model) (run : List ℕ) → Running m run 0 fresh
 running-start m run = record { kept = refl; fits = fresh-fits m; long = fresh-long; rest = λ a h. rw (← fresh-session m) h }
 
 module _ (m : Model) (w : WellFormed m) (run : List ℕ) (i : ℕ) (s : Session) (r : Running m run i s) where
-  module _ (l : i < length run) (few : length run ≤ 8640) where
+  module _ (l : i < length run) (few : length run ≤ limit.run) where
     pub running-broken : (t : Session) → TriedAt m s (getD run i 0) false t → Replays (programOf m) (questionOf m) (start []) run 0 (Broken i)
     running-broken t h = r .rest (Broken i) (rw (drop-cons run i 0 l) (inr (h .0, refl)))
 

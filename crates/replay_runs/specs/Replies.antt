@@ -4,6 +4,7 @@ use mathlib.Core.Logic.{_⊎_}
 use mathlib.Core.Option.{some}
 use Prim.Native.Nat.{ℕ}
 use lib.ListN.{replicate}
+use Rattle.limits.specs.Limits as limit
 use Rattle.semantics.specs.Models.{Program, Question}
 use Rattle.semantics.specs.Runs as runs
 use Rattle.semantics.specs.Runs.{Allowed}
@@ -16,7 +17,7 @@ use Rattle.replay_session.specs.Replays.{Allows}
 
 -- the state before the first place: no objects, no stage met, none carried, no place kept
 abbrev pub fresh : Session
-fresh = record { states = replicate 255 0; objects = 0; met = 0; carried = 255; kept = 0 }
+fresh = record { states = replicate limit.objects 0; objects = 0; met = 0; carried = limit.none; kept = 0 }
 
 -- ONE PLACE put to a lent state: "kept then means that one place, and a broken place is answered broken at the count of places kept and leaves it as before".
 -- The text declares so many state relations, and c is its carried variable.

@@ -11,6 +11,7 @@ use borrow.Author.Tests.{eqb-true, eqb-false, ne-eqb}
 use lib.Dec.{eqb}
 use lib.ListN.{length, take, set, getD}
 use lib.Seq.{length-take-le, take-suc-set, take-set-lt, getD-take, getD-set-same, getD-set-other}
+use Rattle.limits.specs.Limits as limit
 use Rattle.semantics.specs.Labels.{has, relabel}
 use Rattle.semantics.specs.Models.{elem, Body, Line, rule, new, next, other, line, vars, shared}
 use Rattle.semantics.specs.Facts.{Database, state}
@@ -79,7 +80,7 @@ module _ (m : Model) (w : WellFormed m) (s : Session) (long : length (s .states)
       changed = take-set-lt (s .objects) (s .states) o (relabel (stateIn s o) plus minus) here ∙ ap (λ (t : ℕ). set db o (relabel t plus minus)) (sym (state-here o here))
   stepped-after o other h e = absurd e
 
-  stepped-fits : (o : ℕ) (L : Line) → Sets (declaredIn m 0) L → o < 255 → s .kept < 8640 → Enabled (programOf m) db o L → Fits m (stepped s o L)
+  stepped-fits : (o : ℕ) (L : Line) → Sets (declaredIn m 0) L → o < 255 → s .kept < limit.run → Enabled (programOf m) db o L → Fits m (stepped s o L)
   stepped-fits o (rule r xs b) g h k e = absurd e
   stepped-fits o (new t b) g h k e =
       let z = size in
@@ -151,7 +152,7 @@ module _ (m : Model) (w : WellFormed m) (s : Session) (long : length (s .states)
     met-after : sessionOf m (taken m s (meet i os)) ≡ after (programOf m) (questionOf m) (sessionOf m s) (meet i os)
     met-after = λ j. record { db = db; met = add-one (s .met) j; carried = fun-ext carried-after j }
 
-    met-fits : s .kept < 8640 → Fits m (taken m s (meet i os))
+    met-fits : s .kept < limit.run → Fits m (taken m s (meet i os))
     met-fits k =
         let l = allowed .0 in
         let q = stages m w in
@@ -172,6 +173,6 @@ module _ (m : Model) (w : WellFormed m) (s : Session) (long : length (s .states)
   taken-after (step ℓ o) n a = stepped-after o (line (programOf m) ℓ) (n .1) (a .1)
   taken-after (meet i os) n a = met-after i os a
 
-  pub taken-fits : (p : runs.Place) → Numerable p → s .kept < 8640 → Allowed (programOf m) (questionOf m) (sessionOf m s) p → Fits m (taken m s p)
+  pub taken-fits : (p : runs.Place) → Numerable p → s .kept < limit.run → Allowed (programOf m) (questionOf m) (sessionOf m s) p → Fits m (taken m s p)
   taken-fits (step ℓ o) n k a = stepped-fits o (line (programOf m) ℓ) (sets m w ℓ) (n .1) k (a .1)
   taken-fits (meet i os) n k a = met-fits i os a k

@@ -7,6 +7,7 @@ use mathlib.Core.Option.{Option, none, some}
 use Prim.Native.Nat.{ℕ, _+_, _≤_, _<_}
 use lib.Dec.{eqb}
 use lib.ListN.{length, take, set, getD}
+use Rattle.limits.specs.Limits as limit
 use Rattle.semantics.specs.Labels.{has, relabel}
 use Rattle.semantics.specs.Models.{elem, Body, Line, rule, new, next, other, Program, Question, line, vars}
 use Rattle.semantics.specs.Runs as runs
@@ -20,7 +21,7 @@ Says A false = A → ⊥
 
 -- the object, where 255 stands for none
 abbrev pub optional : ℕ → Option ℕ
-optional o = cond (eqb o 255) none (some o)
+optional o = cond (eqb o limit.none) none (some o)
 
 -- WHERE A RUN STANDS, as the semantics have it; c is the text's carried variable
 abbrev pub sessionOf : ℕ → Session → runs.Session
@@ -32,11 +33,11 @@ stateIn s o = getD (s .states) o 0
 
 -- THE STATE FITS THE TEXT, which declares so many state relations and asks Q: not "over 255 objects, an undeclared relation, too many stages, a carried object not created, or over 8,640 places"
 pub record Fits (declared : ℕ) (Q : Question) (s : Session) : Type 0 where
-  pub objects : s .objects ≤ 255
+  pub objects : s .objects ≤ limit.objects
   pub relations : (o a : ℕ) → o < s .objects → has (stateIn s o) a ≡ true → a < declared
   pub stages : s .met ≤ length Q
-  pub carried : (s .carried ≡ 255) ⊎ (s .carried < s .objects)
-  pub places : s .kept ≤ 8640
+  pub carried : (s .carried ≡ limit.none) ⊎ (s .carried < s .objects)
+  pub places : s .kept ≤ limit.run
 
 -- THE STATE AFTER A PLACE. An object is created with a set of relations
 abbrev pub created : Session → ℕ → Session

@@ -1,10 +1,14 @@
 // The replay's state by value, whether it fits a text, and what a place makes of it.
+use limits::NONE;
+use limits::OBJECTS;
+use limits::RUN;
 use model::Model;
 use model::Relations;
 ghost use mathlib.Core.Path.{_≡_};
 ghost use mathlib.Core.Bool.{true};
 ghost use Prim.Native.Nat.{ℕ, _≤_, _<_};
 ghost use lib.ListN.{take};
+ghost use Rattle.limits.specs.Limits as limit;
 ghost use Rattle.semantics.specs.Labels.{has};
 ghost use Rattle.model.specs.WellFormed.{inClass, WellFormed};
 ghost use Rattle.replay_session.specs.Sessions.{Says, stateIn, created, relabeled, met as stageMet};
@@ -19,7 +23,7 @@ pub enum Answer {
 
 // The replay's state: the database, the stages met, the carried object (255 for none) and the count of places kept.
 pub struct Session {
-    pub states: [u32; 255],
+    pub states: [u32; OBJECTS],
     pub objects: usize,
     pub met: usize,
     pub carried: u32,
@@ -28,7 +32,7 @@ pub struct Session {
 
 // An object is created with the set of relations.
 pub fn create(s: Session, set: u32) -> Session
-    requires { ⌜ (s .objects < 255) × (s .kept < 8640) ⌝ }
+    requires { ⌜ (s .objects < limit.objects) × (s .kept < limit.run) ⌝ }
     ensures { λ r. ⌜ r ≡ created s set ⌝ }
 {
     let mut t = s;
@@ -41,7 +45,7 @@ pub fn create(s: Session, set: u32) -> Session
 
 // An object is relabeled.
 pub fn relabel(s: Session, object: usize, plus: u32, minus: u32) -> Session
-    requires { ⌜ (object < 255) × (s .kept < 8640) ⌝ }
+    requires { ⌜ (object < limit.objects) × (s .kept < limit.run) ⌝ }
     ensures { λ r. ⌜ r ≡ relabeled s object plus minus ⌝ }
 {
     let mut t = s;
@@ -52,7 +56,7 @@ pub fn relabel(s: Session, object: usize, plus: u32, minus: u32) -> Session
 
 // A stage is met, and the carried object is set.
 pub fn meet(s: Session, carried: u32) -> Session
-    requires { ⌜ (s .met < 4) × (s .kept < 8640) ⌝ }
+    requires { ⌜ (s .met < limit.stages) × (s .kept < limit.run) ⌝ }
     ensures { λ r. ⌜ r ≡ stageMet s carried ⌝ }
 {
     let mut t = s;
@@ -64,7 +68,7 @@ pub fn meet(s: Session, carried: u32) -> Session
 
 // How many state relations are declared.
 fn declared_states(relations: Relations) -> u32
-    requires { ⌜ relations .count ≤ 23 ⌝ }
+    requires { ⌜ relations .count ≤ limit.declared ⌝ }
     ensures { λ r. ⌜ r ≡ inClass 0 (take (relations .count) (relations .codes)) ⌝ }
 {
     let n = relations.count;
@@ -81,7 +85,7 @@ fn declared_states(relations: Relations) -> u32
 
 // Whether the objects have no relations but the first n.
 fn relations_declared(s: Session, n: u32) -> bool
-    requires { ⌜ (s .objects ≤ 255) × (n < 32) ⌝ }
+    requires { ⌜ (s .objects ≤ limit.objects) × (n < 32) ⌝ }
     ensures { λ r. ⌜ Says ((o a : ℕ) → o < s .objects → has (stateIn s o) a ≡ true → a < n) r ⌝ }
 {
     let count = s.objects;
@@ -100,16 +104,16 @@ pub fn fits(m: Model, s: Session) -> bool
     requires { ⌜ WellFormed m ⌝ }
     ensures { λ r. ⌜ Says (Fits m s) r ⌝ }
 {
-    if s.objects > 255 {
+    if s.objects > OBJECTS {
         return false;
     }
     if s.met > m.stagecount {
         return false;
     }
-    if s.kept > 8640 {
+    if s.kept > RUN {
         return false;
     }
-    if s.carried != 255 {
+    if s.carried != NONE {
         if s.carried as usize >= s.objects {
             return false;
         }

@@ -7,6 +7,7 @@ use Prim.Native.Nat.{ℕ, _≤_, _<_}
 use native.Mathlib.Omega.{arith}
 use borrow.Author.Tests.{eq-eqb, ne-eqb}
 use lib.ListN.{length, take}
+use Rattle.limits.specs.Limits as limit
 use Rattle.semantics.specs.Models.{Body, Line, rule, new, next, other, line, vars, SafeLine, Supported}
 use Rattle.semantics.specs.Steps.{Enabled}
 use Rattle.semantics.specs.Runs.{step}
@@ -41,7 +42,7 @@ module _ (m : Model) (w : WellFormed m) (k : ℕ) (h : k < m .clausecount) where
   on-action a e = on-line m w k h ∙ ap (λ (x : Action). lineOf x body) e
 
   -- its body can be handed to the evaluator
-  pub part-within : clauseAt m k .first ≤ 544
+  pub part-within : clauseAt m k .first ≤ limit.literals
   part-within = let p = w .clause k h .part .within in let l = w .literalcount in omega arith
 
   pub part-supported : Supported (vars body) body

@@ -5,6 +5,7 @@ use mathlib.Core.List.{List}
 use mathlib.Core.Option.{some}
 use Prim.Native.Nat.{ℕ, _<_}
 use lib.ListN.{length, take}
+use Rattle.limits.specs.Limits as limit
 use Rattle.semantics.specs.Models.{Body}
 use Rattle.semantics.specs.Facts.{Meets}
 use Rattle.semantics.specs.Runs as runs
@@ -30,9 +31,9 @@ pub record Sees (m : Model) (s : Session) (v : View) (w : List ℕ) : Type 0 whe
 pub record Ready (m : Model) (s : Session) (v : View) (w : List ℕ) : Type 0 where
   pub accepted : WellFormed m
   pub fits : Fits m s
-  pub room : s .kept < 8640
+  pub room : s .kept < limit.run
   pub sees : Sees m s v w
-  pub long : length (s .states) ≡ 255
+  pub long : length (s .states) ≡ limit.objects
 
 -- the body holds in the state's database for a choice that has the fixed elements
 abbrev pub Holding : Model → Session → Body → ℕ → Choice → Type 0

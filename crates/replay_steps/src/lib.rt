@@ -1,5 +1,6 @@
 // One place put to the replay's state: whether it is allowed, and the state after it.
 use facts_candidates::Choice;
+use facts_find::FREE;
 use facts_find::Found;
 use model::Action;
 use model::Model;
@@ -9,6 +10,7 @@ ghost use mathlib.Core.Path.{_≡_};
 ghost use mathlib.Core.Logic.{_≢_};
 ghost use Prim.Native.Nat.{ℕ, _≤_, _<_};
 ghost use lib.ListN.{drop};
+ghost use Rattle.limits.specs.Limits as limit;
 ghost use Rattle.semantics.specs.Models.{vars, Supported};
 ghost use mathlib.Core.Bool.{false};
 ghost use Rattle.semantics.specs.Runs.{step};
@@ -24,9 +26,6 @@ pub struct Outcome {
     pub allowed: bool,
     pub session: Session,
 }
-
-// Stands for an object that is not fixed.
-const FREE: usize = 255;
 
 // The place is not allowed, and the state is left.
 pub fn disallow(s: Session) -> Outcome
@@ -66,7 +65,7 @@ pub fn holds(
     variables: u32,
     fixed: Choice,
 ) -> bool
-    requires { ⌜ Ready m s v (now work) × (first ≤ 544) × GoodBody (drop first (m .literals)) count variables × Supported (vars (bodyAt (m .literals) first count)) (bodyAt (m .literals) first count) ⌝ }
+    requires { ⌜ Ready m s v (now work) × (first ≤ limit.literals) × GoodBody (drop first (m .literals)) count variables × Supported (vars (bodyAt (m .literals) first count)) (bodyAt (m .literals) first count) ⌝ }
     ensures { λ r. ⌜ Says (Holding m s (bodyAt (m .literals) first count) variables fixed) r ⌝ }
 {
     let n = s.objects;
@@ -88,7 +87,7 @@ pub fn holds(
 
 // A step of clause k, a `new` line.
 fn create(m: Model, s: Session, v: View, work: &[u8], k: usize, set: u32, object: u32) -> Outcome
-    requires { ⌜ Ready m s v (now work) × (s .met < m .stagecount) × (object < 255) × (k < m .clausecount) × (clauseAt m k .action ≡ New set) ⌝ }
+    requires { ⌜ Ready m s v (now work) × (s .met < m .stagecount) × (object < limit.objects) × (k < m .clausecount) × (clauseAt m k .action ≡ New set) ⌝ }
     ensures { λ r. ⌜ Tried m s (step (clauseAt m k .line) object) (r .allowed) (r .session) ⌝ }
 {
     if object as usize != s.objects {
@@ -123,7 +122,7 @@ fn change(
     minus: u32,
     object: u32,
 ) -> Outcome
-    requires { ⌜ Ready m s v (now work) × (s .met < m .stagecount) × (object < 255) × (k < m .clausecount) × (clauseAt m k .action ≡ Next plus minus) ⌝ }
+    requires { ⌜ Ready m s v (now work) × (s .met < m .stagecount) × (object < limit.objects) × (k < m .clausecount) × (clauseAt m k .action ≡ Next plus minus) ⌝ }
     ensures { λ r. ⌜ Tried m s (step (clauseAt m k .line) object) (r .allowed) (r .session) ⌝ }
 {
     let o = object as usize;
@@ -150,7 +149,7 @@ fn change(
 
 // A step of a line and an object.
 pub fn step_place(m: Model, s: Session, v: View, work: &[u8], line: u32, object: u32) -> Outcome
-    requires { ⌜ Ready m s v (now work) × (s .met < m .stagecount) × (object < 255) ⌝ }
+    requires { ⌜ Ready m s v (now work) × (s .met < m .stagecount) × (object < limit.objects) ⌝ }
     ensures { λ r. ⌜ Tried m s (step line object) (r .allowed) (r .session) ⌝ }
 {
     let k = clause_on(m, line);

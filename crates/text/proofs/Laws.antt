@@ -35,9 +35,6 @@ module _ (text : List ℕ) (D : Declared) (P : Program) (Q : Question) (r : Read
   accepts : (r .answer ≡ Accepted) × Represents (length (lines text)) D P Q (r .model) × Names text D (r .model)
   accepts = rw o at h
 
-  pub read-accepted : r .answer ≡ Accepted
-  read-accepted = accepts .0
-
   pub read-represents : Represents (length (lines text)) D P Q (r .model)
   read-represents = accepts .1
 

@@ -11,6 +11,7 @@ use lib.Dec.{eqb}
 use lib.ListN.{length, take, drop}
 use lib.Seq.{slice}
 use borrow.Author.Tests.{eqb-true, eqb-false, lt-ltb, le-ltb, eq-eqb, ne-eqb}
+use Rattle.limits.specs.Limits as limit
 use Rattle.model.specs.Records.{programOf}
 use Rattle.model.specs.declared.Model.{Model}
 use Rattle.grammar.specs.Bytes.{bytes, Line, ended, unended, inFront, lines}
@@ -40,7 +41,7 @@ some-lines (b ∷ s) h = ⊎-elim (λ (q : eqb b 10 ≡ true). rw q (ended [], l
 
 -- BEFORE THE FIRST LINE
 module _ (d : Declared) {m : Model} (z : d .count ≡ 0) (b : m ≡ blank) where
-  pub reached-start : {text : List ℕ} → length (d .codes) ≡ 23 → length (d .names) ≡ 23 → length (d .lengths) ≡ 23 → Reached text 0 1 d m
+  pub reached-start : {text : List ℕ} → length (d .codes) ≡ limit.declared → length (d .names) ≡ limit.declared → length (d .lengths) ≡ limit.declared → Reached text 0 1 d m
   reached-start p q r = record {
     place = omega arith;
     number = omega arith;
@@ -128,10 +129,10 @@ module _ (text : List ℕ) where
   unfolding outcome
   outcome-empty z = rw (eq-eqb (length text) 0 z)
 
-  pub outcome-long : 16384 < length text → outcome text ≡ refused 1 0
+  pub outcome-long : limit.text < length text → outcome text ≡ refused 1 0
   unfolding outcome
-  outcome-long h = rw (ne-eqb (length text) 0 (λ z. absurd (omega arith)), lt-ltb 16384 (length text) h)
+  outcome-long h = rw (ne-eqb (length text) 0 (λ z. absurd (omega arith)), lt-ltb limit.text (length text) h)
 
-  pub outcome-lines : (length text ≡ 0 → ⊥) → length text ≤ 16384 → outcome text ≡ readLines 1 [] [] (lines text)
+  pub outcome-lines : (length text ≡ 0 → ⊥) → length text ≤ limit.text → outcome text ≡ readLines 1 [] [] (lines text)
   unfolding outcome
-  outcome-lines z h = rw (ne-eqb (length text) 0 z, le-ltb 16384 (length text) h)
+  outcome-lines z h = rw (ne-eqb (length text) 0 z, le-ltb limit.text (length text) h)

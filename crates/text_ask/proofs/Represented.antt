@@ -4,6 +4,7 @@ use mathlib.Core.List.{List}
 use Prim.Native.Nat.{ℕ, _<_}
 use native.Mathlib.Omega.{arith}
 use lib.ListN.{length, take}
+use Rattle.limits.specs.Limits as limit
 use Rattle.semantics.specs.Models.{Program}
 use Rattle.model.specs.Records.{programOf, clauseAt}
 use Rattle.model.specs.declared.Model.{Model}
@@ -22,7 +23,7 @@ pub record Before (n : ℕ) (D : Declared) (P : Program) (m : Model) : Type 0 wh
   pub program : programOf m ≡ P
   pub clause : (i : ℕ) → i < m .clausecount → HoldsClause m (clauseAt m i)
   pub lines : m .lines ≡ n
-  pub codes : length (m .relations .codes) ≡ 23
+  pub codes : length (m .relations .codes) ≡ limit.declared
   pub row : length (m .clauses) ≡ 64
 
 pub represents : {n : ℕ} {D : Declared} {P : Program} {m₀ m : Model} {qs : List (List Literal)} → Before n D P m₀ → Asks D m₀ qs m → Represents n D P (questionOf D qs) m

@@ -12,6 +12,7 @@ use lib.Dec.{eqb, leb}
 use lib.ListN.{length, drop, getD, set}
 use lib.Seq.{slice, getD-set-same, getD-set-other}
 use borrow.Author.Tests.{eqb-true, eqb-false, eq-eqb, ne-eqb, le-leb, lt-leb, leb-false}
+use Rattle.limits.specs.Limits as limit
 use Rattle.grammar.specs.Bytes.{bytes, Word}
 use Rattle.grammar.specs.Forms as forms
 use Rattle.grammar.specs.Shapes.{Read, after, name, arity, stateRest, relRest, whole}
@@ -35,17 +36,17 @@ crowded true = refl
 crowded false = refl
 
 module _ (D : grammar.Declared) (w : Word) where
-  pub state-crowded : (t : ℕ) → count 0 D ≡ t → 7 ≤ t → stateNumber D w ≡ 4
+  pub state-crowded : (t : ℕ) → count 0 D ≡ t → limit.states ≤ t → stateNumber D w ≡ 4
   unfolding stateNumber
-  state-crowded t z h = rw (z, le-leb 7 t h) (crowded (again (lookup w D)))
+  state-crowded t z h = rw (z, le-leb limit.states t h) (crowded (again (lookup w D)))
 
-  pub state-free : (t c : ℕ) → count 0 D ≡ t → t < 7 → lookup w D ≡ found c → c ≡ 128 → stateNumber D w ≡ 0
+  pub state-free : (t c : ℕ) → count 0 D ≡ t → t < limit.states → lookup w D ≡ found c → c ≡ 128 → stateNumber D w ≡ 0
   unfolding stateNumber lower
-  state-free t c z h e k = rw (z, lt-leb 7 t h, e, eq-eqb c 128 k)
+  state-free t c z h e k = rw (z, lt-leb limit.states t h, e, eq-eqb c 128 k)
 
-  pub state-again : (t c : ℕ) → count 0 D ≡ t → t < 7 → lookup w D ≡ found c → (c ≡ 128 → ⊥) → stateNumber D w ≡ 5
+  pub state-again : (t c : ℕ) → count 0 D ≡ t → t < limit.states → lookup w D ≡ found c → (c ≡ 128 → ⊥) → stateNumber D w ≡ 5
   unfolding stateNumber lower
-  state-again t c z h e k = rw (z, lt-leb 7 t h, e, ne-eqb c 128 k)
+  state-again t c z h e k = rw (z, lt-leb limit.states t h, e, ne-eqb c 128 k)
 
   module _ (n a b p : ℕ) (x : count 1 D ≡ a) (y : count 2 D ≡ b) (z : count 3 D ≡ p) where
     pub rel-crowded : 16 ≤ a + b + p → relNumber D w n ≡ 4
@@ -87,10 +88,10 @@ module _ (codes : List ℕ) (n k t : ℕ) (h : n < length codes) (small : t < 32
 
 -- THE DECLARATIONS WITH ONE NAME MORE
 module _ (text : List ℕ) (d : Declared) (a e : ℕ) (v : Valid text d) (l : Limited d) (h : a ≤ e) (k : e ≤ length text) where
-  pub room : (tally 0 (d .codes) (d .count) < 7) ⊎ (tally 1 (d .codes) (d .count) + tally 2 (d .codes) (d .count) + tally 3 (d .codes) (d .count) < 16) → d .count < 23
-  room r = ⊎-elim (λ (q : tally 0 (d .codes) (d .count) < 7). omega (arith, l .total, l .derived)) (λ (q : tally 1 (d .codes) (d .count) + tally 2 (d .codes) (d .count) + tally 3 (d .codes) (d .count) < 16). omega (arith, l .total, l .states)) r
+  pub room : (tally 0 (d .codes) (d .count) < limit.states) ⊎ (tally 1 (d .codes) (d .count) + tally 2 (d .codes) (d .count) + tally 3 (d .codes) (d .count) < 16) → d .count < limit.declared
+  room r = ⊎-elim (λ (q : tally 0 (d .codes) (d .count) < limit.states). omega (arith, l .total, l .derived)) (λ (q : tally 1 (d .codes) (d .count) + tally 2 (d .codes) (d .count) + tally 3 (d .codes) (d .count) < 16). omega (arith, l .total, l .states)) r
 
-  module _ (j : ℕ) (few : d .count < 23) where
+  module _ (j : ℕ) (few : d .count < limit.declared) where
     abbrev code : ℕ
     code = 32 * j + tally j (d .codes) (d .count)
 
@@ -116,21 +117,21 @@ tally-after codes n k t j h small = ⊎-elim
     (λ (q : eqb k j ≡ true). let z = eqb-true k j q in rw (q, ← z) (tally-own codes n k t h small))
     (λ (q : eqb k j ≡ false). rw q (tally-other codes n k t h small j (eqb-false k j q) ∙ sym (add-zero (tally j codes n)))) (either (eqb k j))
 
-module _ (d : Declared) (name len k : ℕ) (c : length (d .codes) ≡ 23) (l : Limited d) (few : d .count < 23) where
+module _ (d : Declared) (name len k : ℕ) (c : length (d .codes) ≡ limit.declared) (l : Limited d) (few : d .count < limit.declared) where
   abbrev T : ℕ → ℕ
   T j = tally j (d .codes) (d .count)
 
-  limited-added : k < 4 → T 0 + bump k 0 ≤ 7 → T 1 + bump k 1 + (T 2 + bump k 2) + (T 3 + bump k 3) ≤ 16 → Limited (added d name len (32 * k + T k))
+  limited-added : k < 4 → T 0 + bump k 0 ≤ limit.states → T 1 + bump k 1 + (T 2 + bump k 2) + (T 3 + bump k 3) ≤ 16 → Limited (added d name len (32 * k + T k))
   limited-added q a b =
       let y : T k < 32 = (let w = tally-le k (d .codes) (d .count) in omega arith) in
       let o : (j : ℕ) → tally j (set (d .codes) (d .count) (32 * k + T k)) (d .count + 1) ≡ T j + bump k j = λ j. tally-after (d .codes) (d .count) k (T k) j (omega arith) y in
       let m = bumps k q in
       record { total = rw (o 0, o 1, o 2, o 3) (omega (arith, l .total)); states = rw (o 0) a; derived = rw (o 1, o 2, o 3) b }
 
-pub limited-state : (d : Declared) (name len : ℕ) → length (d .codes) ≡ 23 → Limited d → d .count < 23 → tally 0 (d .codes) (d .count) < 7 → Limited (added d name len (32 * 0 + tally 0 (d .codes) (d .count)))
+pub limited-state : (d : Declared) (name len : ℕ) → length (d .codes) ≡ limit.declared → Limited d → d .count < limit.declared → tally 0 (d .codes) (d .count) < limit.states → Limited (added d name len (32 * 0 + tally 0 (d .codes) (d .count)))
 limited-state d name len c l few h = limited-added d name len 0 c l few (omega arith) (omega arith) (omega (arith, l .derived))
 
-pub limited-rel : (d : Declared) (name len n : ℕ) → length (d .codes) ≡ 23 → Limited d → d .count < 23 → n ≤ 2 → tally 1 (d .codes) (d .count) + tally 2 (d .codes) (d .count) + tally 3 (d .codes) (d .count) < 16
+pub limited-rel : (d : Declared) (name len n : ℕ) → length (d .codes) ≡ limit.declared → Limited d → d .count < limit.declared → n ≤ 2 → tally 1 (d .codes) (d .count) + tally 2 (d .codes) (d .count) + tally 3 (d .codes) (d .count) < 16
     → Limited (added d name len (32 * (n + 1) + tally (n + 1) (d .codes) (d .count)))
 limited-rel d name len n c l few h k =
     let z : bump (n + 1) 0 ≡ 0 = (rw (ne-eqb (n + 1) 0 (λ y. absurd (omega arith)))) in
@@ -171,7 +172,7 @@ module _ (text : List ℕ) (d : Declared) (at e : ℕ) (h : name (drop at text) 
       found = λ x. (forms.stateForm w, state-whole, (λ c. z), λ n. absurd (y n));
     }
 
-    pub state-added : {r : Declared} → Valid text d → Limited d → at ≤ e → e ≤ length text → stateNumber (declaredOf text d) w ≡ 0 → tally 0 (d .codes) (d .count) < 7 → Entered d at e 0 r
+    pub state-added : {r : Declared} → Valid text d → Limited d → at ≤ e → e ≤ length text → stateNumber (declaredOf text d) w ≡ 0 → tally 0 (d .codes) (d .count) < limit.states → Entered d at e 0 r
         → DeclarationEnd text d (stateRest (drop at text)) (record { number = 0; declared = r })
     unfolding stateNumber fault declare
     state-added v l b c z f en = let few = room text d at e v l b c (inl f) in
@@ -190,11 +191,11 @@ module _ (text : List ℕ) (d : Declared) (at e : ℕ) (h : name (drop at text) 
         }
 
 -- the state relations are few where the number is none
-pub state-few : (text : List ℕ) (d : Declared) (u : Word) → stateNumber (declaredOf text d) u ≡ 0 → tally 0 (d .codes) (d .count) < 7
+pub state-few : (text : List ℕ) (d : Declared) (u : Word) → stateNumber (declaredOf text d) u ≡ 0 → tally 0 (d .codes) (d .count) < limit.states
 unfolding stateNumber
 state-few text d u z = ⊎-elim
-    (λ (q : leb 7 (count 0 (declaredOf text d)) ≡ true). absurd (let y = rw (q, crowded (again (lookup u (declaredOf text d)))) at z in omega arith))
-    (λ (q : leb 7 (count 0 (declaredOf text d)) ≡ false). let y = leb-false 7 (count 0 (declaredOf text d)) q in omega (arith, tally-count text d 0)) (either (leb 7 (count 0 (declaredOf text d))))
+    (λ (q : leb limit.states (count 0 (declaredOf text d)) ≡ true). absurd (let y = rw (q, crowded (again (lookup u (declaredOf text d)))) at z in omega arith))
+    (λ (q : leb limit.states (count 0 (declaredOf text d)) ≡ false). let y = leb-false limit.states (count 0 (declaredOf text d)) q in omega (arith, tally-count text d 0)) (either (leb limit.states (count 0 (declaredOf text d))))
 
 -- THE ARITY
 module _ {text : List ℕ} {at : ℕ} where

@@ -9,6 +9,7 @@ use native.Mathlib.Omega.{arith}
 use lib.Dec.{leb}
 use lib.ListN.{length, drop}
 use borrow.Author.Tests.{leb-false}
+use Rattle.limits.specs.Limits as limit
 use Rattle.semantics.specs.Models as meaning
 use Rattle.semantics.specs.Models.{Program}
 use Rattle.model.specs.Records.{lineOf}
@@ -64,7 +65,7 @@ module _ {text : List ℕ} {d : Declared} {m : Model} {P : Program} (n : ℕ) {r
     abbrev fine : r .number ≡ 3 → ⊥
     fine y = absurd (omega arith)
 
-    pub clause-room : (m .clausecount < 64) × (m .literalcount + r .frame .size ≤ 544) × (r .frame .size ≤ 8) × (r .frame .scope .count ≤ 3)
+    pub clause-room : (m .clausecount < 64) × (m .literalcount + r .frame .size ≤ limit.literals) × (r .frame .size ≤ 8) × (r .frame .scope .count ≤ 3)
     clause-room =
         let w = c .found fine in
         let g = w .3 z in

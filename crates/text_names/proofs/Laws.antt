@@ -11,6 +11,7 @@ use lib.Dec.{eqb}
 use lib.ListN.{length, take, drop, getD, length-set, length-append, List·getD-append}
 use lib.Seq.{slice, getD-at, getD-set-same, getD-set-other, take-take}
 use borrow.Author.Tests.{eqb-true, eqb-false, eq-eqb, ne-eqb}
+use Rattle.limits.specs.Limits as limit
 use Rattle.grammar.specs.Bytes.{Word, same}
 use Rattle.grammar.specs.Declarations as grammar
 use Rattle.grammar.specs.Declarations.{lookup, count, class}
@@ -77,7 +78,7 @@ tally-count text d k = go (d .count)
     go (suc n) = count-append k (listOf n (entry text d)) (entry text d n) ∙ rw (go n)
 
 -- ONE NAME MORE
-module _ {text : List ℕ} {d : Declared} (v : Valid text d) (h : d .count < 23) (name len code : ℕ) where
+module _ {text : List ℕ} {d : Declared} (v : Valid text d) (h : d .count < limit.declared) (name len code : ℕ) where
   pub declared-added : declaredOf text (added d name len code) ≡ declaredOf text d ++ ((slice name (name + len) text, code) ∷ [])
   unfolding declaredOf
   declared-added = rw add-one (

@@ -5,6 +5,7 @@ use Prim.Native.Nat.{ℕ, _+_, _≤_, _<_}
 use native.Mathlib.Omega.{arith}
 use lib.ListN.{length}
 use borrow.Author.Tests.{eq-eqb}
+use Rattle.limits.specs.Limits as limit
 use Rattle.model.specs.declared.Model.{Model}
 use Rattle.grammar.specs.Bytes.{Word}
 use Rattle.grammar.specs.Forms as forms
@@ -63,7 +64,7 @@ module _ (text : List ℕ) (s : Asking) (b : Body) {own number : ℕ} (o : own �
         let v = stage-body (p .holds) (p .frame) z .scope .valid in
         (v, omega (arith, t .few, v .count, p .few), (each (p .qs), t .table))
 
-    pub stage-ready : Addable text s b → (s .model .stagecount < 4) × (s .model .literalcount + b .frame .size ≤ 544) × (b .frame .size ≤ 8) × (b .frame .scope .count ≤ 3)
+    pub stage-ready : Addable text s b → (s .model .stagecount < 4) × (s .model .literalcount + b .frame .size ≤ limit.literals) × (b .frame .size ≤ 8) × (b .frame .scope .count ≤ 3)
     stage-ready p =
         let t = stored-before (p .holds) (p .frame) z in
         let v = stage-body (p .holds) (p .frame) z in

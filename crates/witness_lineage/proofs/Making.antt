@@ -21,7 +21,7 @@ use Rattle.search_states.specs.declared.States.{States}
 use Rattle.search_states.specs.States.{row, by, from, Proper, Discovered}
 use Rattle.search_states.proofs.Laws.{length-row}
 use Rattle.witness_table.specs.Runs.{AllNumerable, backwards}
-use Rattle.witness_table.proofs.Laws.{length-backwards, backwards-none, backwards-on, backwards-more, numerable-append}
+use Rattle.witness_table.proofs.Laws.{backwards-none, backwards-on, backwards-more, numerable-append}
 use Rattle.witness_lineage.specs.Lineage.{isNew, linesTo, making, building}
 use Rattle.witness_lineage.proofs.Laws.{earlier, lineage-new, lineage-next, small-line}
 
@@ -92,9 +92,6 @@ module _ (m : Model) (wf : WellFormed m) (s : States) (proper : Proper s) (found
           (λ (e : isNew (line (programOf m) (by s i)) ≡ false). let a = made-more e .1 in
           omega (arith, a .index, ap length (a .rest), length-append (linesTo m s (from s i)) (a .lines)))
           (either (isNew (line (programOf m) (by s i))))
-
-      pub made-length : length run ≡ length run₀
-      made-length = ap length (h .written) ∙ length-backwards run₀ k (places (with o (h .lines)))
 
 -- from index k on the table has the steps behind those that make the first n states, and index `at` is the next
 pub record Built (m : Model) (s : States) (k : ℕ) (run₀ run : List ℕ) (n at : ℕ) : Type 0 where

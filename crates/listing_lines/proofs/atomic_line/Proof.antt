@@ -1,6 +1,7 @@
 -- `listing::atomic_line` meets its contract.
 use borrow.Author.Needs.{needs}
 use native.Mathlib.Omega.{arith}
+use Rattle.limits.specs.Limits as limit
 use Rattle.listing_lines.specs.Lines.{namesIn, atomicLine}
 use Rattle.listing_bytes.specs.Forms.{items}
 use Rattle.listing_lines.proofs.Items.{names-room}
@@ -12,7 +13,7 @@ use Rattle.listing_lines.proofs.atomic_line.Statement.{statement}
 use Rattle.listing_lines.proofs.atomic_line.Tie as tie
 
 -- the row of codes has its size
-whole : (c : tie.Start) → length (c .args .m .relations .codes) ≡ 23
+whole : (c : tie.Start) → length (c .args .m .relations .codes) ≡ limit.declared
 whole c = search needs
 
 slice-aggregate-put-bytes : tie.Need-slice-aggregate-put-bytes

@@ -6,6 +6,7 @@ use native.Mathlib.Numerals.{add-one}
 use native.Mathlib.Omega.{arith}
 use lib.ListN.{length}
 use denote.Ref.{now}
+use Rattle.limits.specs.Limits as limit
 use Rattle.listing_bytes.proofs.Writing.{writes-none, item, kept}
 use mathlib.Core.Logic.{⊎-elim}
 use borrow.Author.Needs.{needs}
@@ -64,7 +65,7 @@ put-name-requires c κs =
     let l = c .before .before .before .before .before .before .before .loop in
     let e = sym (c .before .before .before .before .has .ensures) ∙ c .before .before .before .if1 .taken in
     let h : l .i < a .args .t4 .relations .count = omega arith in
-    let whole : length (a .args .t4 .relations .codes) ≡ 23 = search needs in (
+    let whole : length (a .args .t4 .relations .codes) ≡ limit.declared = search needs in (
       search needs,
       a .pre .1 .within (l .i) h,
       omega (arith, l .inv .1 .next, kept (l .inv .1), name-room (now (a .args .text)) (a .args .t4) (a .args .set) (a .fits .set) (a .pre .0) (a .pre .1) whole (l .i) h e, a .pre .1 .short (l .i) h),

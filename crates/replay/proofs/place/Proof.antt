@@ -4,6 +4,7 @@ use lib.Dec.{eqb}
 use lib.ListN.{length}
 use borrow.Author.Needs.{needs}
 use borrow.Author.Tests.{ltb-false, eqb-false}
+use Rattle.limits.specs.Limits as limit
 use Rattle.grammar.specs.Texts.{outcome}
 use Rattle.calls.proofs.Laws.{called-early, called-lines, sizes}
 use Rattle.replay.specs.Replies.{narrow}
@@ -22,7 +23,7 @@ returns : tie.Need-returns
 returns c =
     let a = c .before .before .before .before .before .before .args in
     let e = c .before .before .early .ensures in
-    rw (called-early (now (a .text)) (narrow (now (a .work))) (eqb (a .s .kept) 8640) (λ z. c .before .if1 .taken (e ∙ z)), ← e) (c .refuse .ensures .0, c .refuse .ensures .1, refl)
+    rw (called-early (now (a .text)) (narrow (now (a .work))) (eqb (a .s .kept) limit.run) (λ z. c .before .if1 .taken (e ∙ z)), ← e) (c .refuse .ensures .0, c .refuse .ensures .1, refl)
 
 read-requires : tie.Need-read-requires
 read-requires c κs = search needs
@@ -40,7 +41,7 @@ returns-2 c =
     let r = c .before .before .before .before .read in
     let v = c .before .before .acceptance .given in
     rw (
-      called-lines (now (a .text)) (narrow (now (a .work))) (eqb (a .s .kept) 8640) (sym e ∙ c .before .before .before .before .before .if1 .left),
+      called-lines (now (a .text)) (narrow (now (a .work))) (eqb (a .s .kept) limit.run) (sym e ∙ c .before .before .before .before .before .if1 .left),
       is-refused (now (a .text)) (r .result) (outcome (now (a .text))) (v .0 .0) (v .0 .1 .0) (r .ensures) (v .1),
     ) (c .refuse2 .ensures .0, c .refuse2 .ensures .1, refl)
 
@@ -52,10 +53,10 @@ place-model-requires c κs =
     let a = c .before .before .before .before .before .before .before .before .before .before .args in
     let e = c .before .before .before .before .before .before .early .ensures in
     let r = c .before .before .before .before .read in
-    let l = sizes (length (now (a .text))) (narrow (now (a .work))) (eqb (a .s .kept) 8640) (sym e ∙ c .before .before .before .before .before .if1 .left) in (
+    let l = sizes (length (now (a .text))) (narrow (now (a .work))) (eqb (a .s .kept) limit.run) (sym e ∙ c .before .before .before .before .before .if1 .left) in (
       good-model (now (a .text)) (r .result) (r .ensures) (c .before .before .enum-told .given .1),
-      eqb-false (a .s .kept) 8640 (l .1),
-      ltb-false (length (now (a .work))) 32768 (l .0),
+      eqb-false (a .s .kept) limit.run (l .1),
+      ltb-false (length (now (a .work))) limit.work (l .0),
     )
 
 same-length : tie.Need-same-length
@@ -67,7 +68,7 @@ returns-3 c =
     let e = c .before .before .before .before .before .before .before .before .before .early .ensures in
     let r = c .before .before .before .before .before .before .before .read in
     let p = c .before .before .place-model in
-    rw (called-lines (now (a .text)) (narrow (now (a .work))) (eqb (a .s .kept) 8640) (sym e ∙ c .before .before .before .before .before .before .before .before .if1 .left))
+    rw (called-lines (now (a .text)) (narrow (now (a .work))) (eqb (a .s .kept) limit.run) (sym e ∙ c .before .before .before .before .before .before .before .before .if1 .left))
     (placed (now (a .text)) (r .result) (r .ensures) (c .before .before .before .before .before .enum-told .given .1)
     (a .s) (p .result .session) (a .n) (now (a .work)) (p .last .1 .1 .1 .0) (p .result .answer) (p .ensures .0) (p .ensures .1))
 

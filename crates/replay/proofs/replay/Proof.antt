@@ -4,6 +4,7 @@ use lib.Dec.{ltb}
 use lib.ListN.{length}
 use borrow.Author.Needs.{needs}
 use borrow.Author.Tests.{ltb-false}
+use Rattle.limits.specs.Limits as limit
 use Rattle.grammar.specs.Texts.{outcome}
 use Rattle.calls.proofs.Laws.{called-early, called-lines, sizes}
 use Rattle.replay.specs.Replies.{narrow}
@@ -19,7 +20,7 @@ returns : tie.Need-returns
 returns c =
     let a = c .before .before .before .before .before .args in
     let e = c .before .early .ensures in
-    rw (called-early (now (a .text)) (narrow (now (a .work))) (ltb 8640 (length (now (a .run)))) (λ z. c .if1 .taken (e ∙ z)), e) (refl, refl)
+    rw (called-early (now (a .text)) (narrow (now (a .work))) (ltb limit.run (length (now (a .run)))) (λ z. c .if1 .taken (e ∙ z)), e) (refl, refl)
 
 read-requires : tie.Need-read-requires
 read-requires c κs = search needs
@@ -34,7 +35,7 @@ returns-2 c =
     let r = c .before .before .before .read in
     let v = c .before .acceptance .given in
     rw (
-      called-lines (now (a .text)) (narrow (now (a .work))) (ltb 8640 (length (now (a .run)))) (sym e ∙ c .before .before .before .before .if1 .left),
+      called-lines (now (a .text)) (narrow (now (a .work))) (ltb limit.run (length (now (a .run)))) (sym e ∙ c .before .before .before .before .if1 .left),
       is-refused (now (a .text)) (r .result) (outcome (now (a .text))) (v .0 .0) (v .0 .1 .0) (r .ensures) (v .1),
     ) (refl, refl)
 
@@ -46,10 +47,10 @@ replay-model-requires c κs =
     let a = c .before .before .before .before .before .before .before .before .before .before .args in
     let e = c .before .before .before .before .before .before .early .ensures in
     let r = c .before .before .before .before .read in
-    let l = sizes (length (now (a .text))) (narrow (now (a .work))) (ltb 8640 (length (now (a .run)))) (sym e ∙ c .before .before .before .before .before .if1 .left) in (
+    let l = sizes (length (now (a .text))) (narrow (now (a .work))) (ltb limit.run (length (now (a .run)))) (sym e ∙ c .before .before .before .before .before .if1 .left) in (
       good-model (now (a .text)) (r .result) (r .ensures) (c .before .before .enum-told .given .1),
-      ltb-false 8640 (length (now (a .run))) (l .1),
-      ltb-false (length (now (a .work))) 32768 (l .0),
+      ltb-false limit.run (length (now (a .run))) (l .1),
+      ltb-false (length (now (a .work))) limit.work (l .0),
     )
 
 same-length : tie.Need-same-length
@@ -61,7 +62,7 @@ returns-3 c =
     let e = c .before .before .before .before .before .before .before .before .before .early .ensures in
     let r = c .before .before .before .before .before .before .before .read in
     let p = c .before .before .replay-model in
-    rw (called-lines (now (a .text)) (narrow (now (a .work))) (ltb 8640 (length (now (a .run)))) (sym e ∙ c .before .before .before .before .before .before .before .before .if1 .left))
+    rw (called-lines (now (a .text)) (narrow (now (a .work))) (ltb limit.run (length (now (a .run)))) (sym e ∙ c .before .before .before .before .before .before .before .before .if1 .left))
     (replayed (now (a .text)) (r .result) (r .ensures) (c .before .before .before .before .before .enum-told .given .1)
     (now (a .run)) (now (a .work)) (p .last .1 .1 .0) (p .result) (p .ensures .0) (p .ensures .1))
 

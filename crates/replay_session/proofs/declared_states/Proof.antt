@@ -4,13 +4,14 @@ use Prim.Native.Nat.{_-_, _≤_}
 use native.Mathlib.Omega.{arith}
 use borrow.Author.Needs.{needs}
 use lib.ListN.{length, take}
+use Rattle.limits.specs.Limits as limit
 use Rattle.model.specs.WellFormed.{inClass}
 use Rattle.replay_session.proofs.Relations.{state-more, other-more}
 use Rattle.replay_session.proofs.declared_states.Statement.{statement}
 use Rattle.replay_session.proofs.declared_states.Tie as tie
 
 abbrev Inv-loop : tie.InvT-loop
-Inv-loop relations n found₀ i₀ found i = (i ≤ n) × (n ≤ 23) × (length (relations .codes) ≡ 23) × (found ≤ i) × (found ≡ inClass 0 (take i (relations .codes)))
+Inv-loop relations n found₀ i₀ found i = (i ≤ n) × (n ≤ limit.declared) × (length (relations .codes) ≡ limit.declared) × (found ≤ i) × (found ≡ inClass 0 (take i (relations .codes)))
 
 abbrev μ-loop : tie.MeasureT-loop
 μ-loop relations n found₀ i₀ found i = n - i
@@ -38,7 +39,7 @@ loop-again c =
     let l = c .before .before .before .loop in
     let a = c .before .before .before .before .args in
     let h = c .before .before .loop-test .taken in
-    let n : length (a .t1 .codes) ≡ 23 = l .inv .2 in
+    let n : length (a .t1 .codes) ≡ limit.declared = l .inv .2 in
     ⊎-elim
     (λ w. let e = state-more (a .t1 .codes) (l .i) (omega arith) (w .0 .taken) in (omega arith, omega arith, n, omega arith, omega arith))
     (λ w. let e = other-more (a .t1 .codes) (l .i) (omega arith) (w .0 .left) in (omega arith, omega arith, n, omega arith, omega arith))

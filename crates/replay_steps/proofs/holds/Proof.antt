@@ -3,6 +3,7 @@ use native.Mathlib.Omega.{arith}
 use lib.ListN.{take}
 use denote.Ref.{now}
 use lib.Seq.{length-take-le}
+use Rattle.limits.specs.Limits as limit
 use Rattle.model.specs.Records.{bodyAt}
 use Rattle.replay_session.proofs.Effects.{size}
 use Rattle.replay_view.specs.Views.{rowOf}
@@ -37,7 +38,7 @@ find-requires : tie.Need-find-requires
 find-requires c κs =
     let s = c .before .before .before .before .before .before in
     let r = s .pre .0 in
-    let e = to-end (s .args .m .literals) 544 (s .args .first) (r .accepted .literals) in
+    let e = to-end (s .args .m .literals) limit.literals (s .args .first) (r .accepted .literals) in
     (r .sees .known .agree, rw e (s .pre .2), rw e (s .pre .3))
 
 enum-told : tie.Need-enum-told
@@ -48,7 +49,7 @@ returns c =
     let s = c .before .before .before .before .before .before .before .before .before in
     let a = s .args in
     let r = s .pre .0 in
-    let e = to-end (a .m .literals) 544 (a .first) (r .accepted .literals) in
+    let e = to-end (a .m .literals) limit.literals (a .first) (r .accepted .literals) in
     let d = c .before .before .find .ensures (rowOf (a .v)) (take (a .s .objects) (a .s .states)) (r .sees .known .states)
     (placed (take (a .s .objects) (a .s .states)) (a .v) (a .s .objects) (size (a .m) (r .accepted) (a .s) (r .long) (r .fits)) (r .fits .objects) (r .sees .views)) in
     found (a .m) (a .s) (a .v) (now (a .work)) r (bodyAt (a .m .literals) (a .first) (a .count)) (a .variables) (a .fixed) _ (rw (e, c .enum-told .given .1) at d)
@@ -61,7 +62,7 @@ returns-2 c =
     let s = c .before .before .before .before .before .before .before .before .before in
     let a = s .args in
     let r = s .pre .0 in
-    let e = to-end (a .m .literals) 544 (a .first) (r .accepted .literals) in
+    let e = to-end (a .m .literals) limit.literals (a .first) (r .accepted .literals) in
     let d = c .before .before .find .ensures (rowOf (a .v)) (take (a .s .objects) (a .s .states)) (r .sees .known .states)
     (placed (take (a .s .objects) (a .s .states)) (a .v) (a .s .objects) (size (a .m) (r .accepted) (a .s) (r .long) (r .fits)) (r .fits .objects) (r .sees .views)) in
     nowhere (a .m) (a .s) (a .v) (now (a .work)) r (bodyAt (a .m .literals) (a .first) (a .count)) (a .variables) (a .fixed) (rw (e, c .enum-told2 .given .1) at d)

@@ -4,6 +4,7 @@ use Prim.Native.Nat.{_-_, _≤_}
 use native.Mathlib.Omega.{arith}
 use lib.ListN.{length}
 use lib.Seq.{length-take-le}
+use Rattle.limits.specs.Limits as limit
 use Rattle.model.specs.Records.{programOf}
 use Rattle.grammar.specs.Bytes.{lines}
 use Rattle.grammar.specs.Texts.{readLines}
@@ -14,7 +15,7 @@ use Rattle.text.proofs.read_lines.Statement.{statement}
 use Rattle.text.proofs.read_lines.Tie as tie
 
 abbrev Inv-loop : tie.InvT-loop
-Inv-loop text d₀ m₀ at₀ line₀ t10 d m at line = (length text ≤ 16384) × Reached text at line d m × (readLines 1 [] [] (lines text) ≡ onwards text at line d m)
+Inv-loop text d₀ m₀ at₀ line₀ t10 d m at line = (length text ≤ limit.text) × Reached text at line d m × (readLines 1 [] [] (lines text) ≡ onwards text at line d m)
 
 abbrev μ-loop : tie.MeasureT-loop
 μ-loop text d₀ m₀ at₀ line₀ t10 d m at line = length text - at

@@ -3,6 +3,7 @@ use Prim.Native.Nat.{_-_, _≤_}
 use native.Mathlib.Omega.{arith}
 use lib.ListN.{length}
 use mathlib.Core.Logic.{⊎-elim}
+use Rattle.limits.specs.Limits as limit
 use Rattle.text_names.specs.Names.{tally}
 use Rattle.text_names.proofs.Laws.{tally-hit, tally-miss}
 use borrow.Author.Needs.{needs}
@@ -10,7 +11,7 @@ use Rattle.text_names.proofs.tally_of.Statement.{statement}
 use Rattle.text_names.proofs.tally_of.Tie as tie
 
 abbrev Inv-loop : tie.InvT-loop
-Inv-loop k d n i₀ sum₀ i sum = (i ≤ n) × (n ≡ d .count) × (n ≤ 23) × (length (d .codes) ≡ 23) × (sum ≤ i) × (sum ≡ tally k (d .codes) i)
+Inv-loop k d n i₀ sum₀ i sum = (i ≤ n) × (n ≡ d .count) × (n ≤ limit.declared) × (length (d .codes) ≡ limit.declared) × (sum ≤ i) × (sum ≡ tally k (d .codes) i)
 
 abbrev μ-loop : tie.MeasureT-loop
 μ-loop k d n i₀ sum₀ i sum = n - i
