@@ -3,8 +3,8 @@ use mathlib.Core.Path.{_≡_, refl, sym, ap, _∙_}
 use mathlib.Core.List.{List, [], _∷_, _++_}
 use mathlib.Core.Option.{some}
 use Prim.Native.Nat.{ℕ, _-_}
-use lib.ListN.{length, drop, getD, length-map}
-use lib.Seq.{drop-at}
+use lib.ListN.{length, take, drop, getD, length-map}
+use lib.Seq.{take-at, drop-at}
 use Rattle.semantics.specs.Runs.{meet}
 use Rattle.model.specs.declared.Model.{Model}
 use Rattle.model.specs.declared.Place.{Place}
@@ -52,8 +52,9 @@ module _ (m : Model) (wf : WellFormed m) where
       record {
         places = h .places;
         count = h .index;
-        written = h .decoded;
-        rest = ap (drop n) (h .written) ∙ drop-at (numbers (h .places)) (drop n run) n (length-map (h .places) numberOf ∙ sym (h .index));
+        written = ap (take n) (h .written) ∙ take-at (numbers (h .places)) (drop n run) n long;
+        decoded = h .decoded;
+        rest = ap (drop n) (h .written) ∙ drop-at (numbers (h .places)) (drop n run) n long;
         fits = h .few;
         kept = h .kept;
         before = h .last .0;
@@ -64,5 +65,8 @@ module _ (m : Model) (wf : WellFormed m) where
         playing = played-on m run run′ n h wf;
       }
     where
+      long : length (numbers (h .places)) ≡ n
+      long = length-map (h .places) numberOf ∙ sym (h .index)
+
       meets : standsFor place ≡ some (meet (length (questionOf m)) (h .last .1))
       meets = ap standsFor e ∙ parts (getD run′ (n - 1) 0) ∙ last-place m run run′ n h .1 ∙ ap (λ (i : ℕ). some (meet i (h .last .1))) (sym (stages m wf))

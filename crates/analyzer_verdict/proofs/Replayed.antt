@@ -12,4 +12,4 @@ use Rattle.analyzer_verdict.specs.Judging.{Shown}
 
 -- the first n numbers of the table are answered kept
 pub replay-keeps : (P : Program) (Q : Question) (run run′ : List ℕ) (n : ℕ) (place : Place) → Shown P Q run run′ n place → Replays P Q (start []) (take n run′) 0 Kept
-replay-keeps P Q run run′ n place h = kept-run P Q (take n run′) .1 (h .places, h .written, h .kept)
+replay-keeps P Q run run′ n place h = kept-run P Q (take n run′) .1 (h .places, h .decoded, h .kept)

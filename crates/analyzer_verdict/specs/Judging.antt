@@ -13,7 +13,7 @@ use Rattle.semantics.specs.Runs as runs
 use Rattle.semantics.specs.Runs.{meet, Kept}
 use Rattle.semantics.specs.PlayingOn.{PlayingOn}
 use Rattle.model.specs.declared.Place.{Place}
-use Rattle.model.specs.Places.{placed, standsFor, placeOf}
+use Rattle.model.specs.Places.{numberOf, placed, standsFor, placeOf}
 use Rattle.search_states.specs.Rising.{Rising}
 use Rattle.calls.specs.Wiping.{wiped}
 use Rattle.analyzer_verdict.specs.declared.Answer.{Answer}
@@ -22,13 +22,14 @@ use Rattle.analyzer_verdict.specs.declared.Analysis.{Analysis}
 
 -- THE RUN SHOWN, with its n and its last place: these may differ from one correct program to another
 pub record Shown (P : Program) (Q : Question) (run run′ : List ℕ) (n : ℕ) (place : Place) : Type 0 where
-  -- the first n numbers of the table stand for the places of the run, and "only its first n places" are written
+  -- the first n numbers of the table are those of the run's places, which they stand for, and "only its first n places" are written
   pub places : List runs.Place
   pub count : n ≡ length places
-  pub written : map placeOf (take n run′) ≡ map some places
+  pub written : take n run′ ≡ map numberOf places
+  pub decoded : map placeOf (take n run′) ≡ map some places
   pub rest : drop n run′ ≡ drop n run
-  -- it fits a table of 8,640 places
-  pub fits : n ≤ 8640
+  -- a shown run needs at most 8,633 steps; "with 4 meetings, 8,637 places"
+  pub fits : n ≤ 8637
   -- demand 2: the replay keeps it
   pub kept : Kept P Q places
   -- "inside a reached answer stands the kind of its last place, a meeting with its stage and objects": that of the last number, and of the last stage

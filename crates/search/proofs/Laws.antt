@@ -53,7 +53,7 @@ module _ (m : Model) (wf : WellFormed m) (w : List ℕ) (s : States) (l : Levels
   steady (new t b) o a k = a
   steady (next x plus minus b) o a k = λ σ shown. (
     a σ shown,
-    λ i h e. entry-of l i (suc _) (k σ shown i (rw (stages m wf) at h) (of-entry l i (suc _) e)),
+    λ n i h e. entry-of l i (suc _) (k σ shown n i (rw (stages m wf) at h) (of-entry l i (suc _) e)),
   )
   steady other o a k = tt
 

@@ -13,7 +13,7 @@ use lib.ListN.{length, getD, set, length-append, length-map, List·getD-append, 
 use lib.Seq.{getD-set-same, getD-set-other, getD-append-seam}
 use Rattle.semantics.specs.Models.{elem, Program, Question, Distinct}
 use Rattle.semantics.specs.Facts.{Database}
-use Rattle.semantics.specs.Tables.{Within, seat, Rows, entry, Entry, Arrival, first, moved, met, Hands, Came, held, FoundedRows}
+use Rattle.semantics.specs.Tables.{seat, Rows, entry, Entry, Arrival, first, moved, met, Hands, Came, held, FoundedRows}
 use Rattle.semantics.proofs.Tools.{either, same?, clash, or-true-cases, or-right, elem-here, elem-cases, seat-ok}
 use Rattle.semantics.proofs.Growth.{came-longer}
 use Rattle.search_states.proofs.Laws.{only-one}
@@ -146,7 +146,7 @@ module _ (P : Program) (Q : Question) (v : ℕ) (S : Database) (l : Levels) (pro
               (same? i k);
         }
       where
-        own : (c : ℕ) → suc c ≡ x → Within S c
+        own : (c : ℕ) → suc c ≡ x → elem c S ≡ true
         own c e = subst (Listed S) (sym e) listed
 
   pub founded-added : FoundedRows P Q v S (rowsOf (added l k x ℓ p)) (cameOf (added l k x ℓ p))
@@ -229,7 +229,7 @@ founded-begun P Q v S = record { arrived = arrived; distinct = λ i. distinct-he
     arrived zero (suc j) h = absurd (omega arith)
     arrived (suc i) j h = absurd (not-suc-le-zero (rw (numbers-begun i) at h))
 
-    within : (i c : ℕ) → elem c (held (rowsOf begun i)) ≡ true → Within S c
+    within : (i c : ℕ) → elem c (held (rowsOf begun i)) ≡ true → elem c S ≡ true
     within zero c e = absurd (false≢true e)
     within (suc i) c e = absurd (false≢true (rw (numbers-begun i) at e))
 

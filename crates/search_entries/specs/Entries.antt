@@ -7,7 +7,7 @@ use Prim.Native.Nat.{ℕ, zero, suc, _+_, _-_, _*_, _≤_, _<_}
 use lib.ListN.{length, take, drop, getD, set, replicate}
 use Rattle.semantics.specs.Models.{elem, Program, line, Question, Distinct}
 use Rattle.semantics.specs.Facts.{Database, Meets}
-use Rattle.semantics.specs.Tables.{Within, Rows, entry, Arrival, first, moved, met, Moves, Hands}
+use Rattle.semantics.specs.Tables.{Rows, entry, Arrival, first, moved, met, Moves, Hands}
 use Rattle.search_entries.specs.declared.Levels.{Levels}
 
 -- what a number stands for: nothing is carried yet, or the carried object's state
@@ -43,10 +43,10 @@ module _ (P : Program) (Q : Question) (v : ℕ) (S : Database) (rows : Rows) whe
   Brings zero (met p) d = ⊥
   Brings (suc i) (met p) d = (i < length Q) × (p < length (rows i)) × ((σ : ℕ → ℕ) × Meets P S σ (getD Q i []) × Hands v S (getD Q i []) σ (entry rows i p) d)
 
--- the state of an entry is empty or listed
+-- the state of an entry is listed
 abbrev pub Listed : Database → ℕ → Type 0
 Listed S zero = Unit {0}
-Listed S (suc c) = Within S c
+Listed S (suc c) = elem c S ≡ true
 
 -- no stage is met and nothing is carried
 abbrev pub begun : Levels

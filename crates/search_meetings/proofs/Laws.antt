@@ -1,6 +1,6 @@
 -- Meeting a stage from the entries of a level.
 use mathlib.Core.Path.{_≡_, refl, sym, ap, _∙_, subst}
-use mathlib.Core.Logic.{_⊎_, inr, ⊎-elim, _≢_}
+use mathlib.Core.Logic.{_⊎_, ⊎-elim, _≢_}
 use mathlib.Core.Bool.{true, false}
 use mathlib.Core.List.{List, [], map}
 use mathlib.Core.Option.{none}
@@ -125,7 +125,7 @@ module _ (w states : List ℕ) (m : ℕ) (o : Over w states m) (k : ℕ) (b : Bo
           real = λ P Q f inj sound l q real. h .real P Q (f x) S (globally f b inj (told .0)) real l
               (rw q (shows-meets P S (tableOf w) sound (globally f b inj (told .0)) (renamed f b) (shows-globally f b inj (told .0) S w (told .1))))
               (rw q (rw (vars-renamed f b) (elem-map f x (vars b) has), add-one (getD states e 0) ∙ ap suc (sym (ap (state S) (globally-at f b inj (told .0) x has ∙ told .2) ∙ at))))
-              (rw add-one (rw (sym at) (inr (elem-getD S e (rw (length-found w states m o) here)))));
+              (rw add-one (rw (sym at) (elem-getD S e (rw (length-found w states m o) here))));
           done = λ q σ shown a. rw (ap (state S) a ∙ at) (rw add-one at (h .there q));
         }
 

@@ -50,19 +50,23 @@ module _ (w : List ℕ) (states : List ℕ) (m : ℕ) (o : Over w states m) (n :
   S = take m states
 
   module _ (e : ℕ) (here : e < m) where
-    pub takes-moves : Tells S w b (At 0 e) true → (r : Carried) → MovesTo s n (getD states e 0 + 1) (relabel (getD states e 0) plus minus + 1) ℓ r
+    at : state S e ≡ getD states e 0
+    at = getD-take m states e 0 here
+
+    pub takes-moves : Tells S w b (At 0 e) true → relabel (getD states e 0) plus minus ≢ 0 → (r : Carried) → MovesTo s n (getD states e 0 + 1) (relabel (getD states e 0) plus minus + 1) ℓ r
         → Takes w S n s ℓ (next 0 plus minus b) r (KeepsAt w S n plus minus b e)
-    takes-moves told r mv =
+    takes-moves told n r mv =
         record {
           goes = mv .goes;
           real = λ P Q v q f l h real. mv .real P Q v S real h
               (rw (q, add-one (getD states e 0), add-one (relabel (getD states e 0) plus minus)) (refl, (told .0, ap (state S) (told .2) ∙ at, shows-meets P S (tableOf w) f (told .0) b (told .1))))
-              (rw add-one (subst (λ (t : ℕ). Within S (relabel t plus minus)) (ap (state S) (told .2) ∙ at) (l (told .0) (told .1))));
-          done = λ q σ h a k l. rw (ap (state S) a ∙ at) (rw (add-one (getD states e 0), add-one (relabel (getD states e 0) plus minus)) at (mv .there q k l));
+              (rw add-one (⊎-elim (λ z. absurd (n z)) (λ i. i) (subst (λ (t : ℕ). Within S (relabel t plus minus)) (ap (state S) (told .2) ∙ at) (l (told .0) (told .1)))));
+          done = λ q σ h a z k l. rw (ap (state S) a ∙ at) (rw (add-one (getD states e 0), add-one (relabel (getD states e 0) plus minus)) at (mv .there q k l));
         }
-      where
-        at : state S e ≡ getD states e 0
-        at = getD-take m states e 0 here
+
+    -- the object is wiped
+    pub takes-wiped : relabel (getD states e 0) plus minus ≡ 0 → Takes w S n s ℓ (next 0 plus minus b) s (KeepsAt w S n plus minus b e)
+    takes-wiped z = takes-nothing w S n ℓ (next 0 plus minus b) s (KeepsAt w S n plus minus b e) proper (λ σ h a q. absurd (q (rw (ap (state S) a ∙ at) z)))
 
     pub takes-still : Tells S w b (At 0 e) false → Takes w S n s ℓ (next 0 plus minus b) s (KeepsAt w S n plus minus b e)
     takes-still told = takes-nothing w S n ℓ (next 0 plus minus b) s (KeepsAt w S n plus minus b e) proper (λ σ h a. absurd (told σ h a))

@@ -13,7 +13,7 @@ ghost use Rattle.facts_holds.specs.Shows.{Evaluable};
 ghost use Rattle.search_clauses.specs.Reach.{Takable};
 ghost use Rattle.search_moves.specs.Moves.{Over, KeepsAt, Keeps, Takes};
 
-// Takes a `next` clause for the entries that have the state of slot e.
+// Takes a `next` clause for the entries that have the state of slot e. A wiped object is not entered: it moves and meets nothing again.
 fn take_next_at(
     work: &[u8],
     slots: &[u8],
@@ -34,6 +34,9 @@ fn take_next_at(
     if facts_holds::at(work, slots, n, literals, part, 0, e) {
         let from = states[e];
         let to = labels::relabel(from, plus, minus);
+        if to == 0 {
+            return s;
+        }
         return search_carried::move_all(s, stages, from + 1, to + 1, line);
     }
     s

@@ -136,7 +136,7 @@ module _ (H : Have) where
     steady (new s b) g = λ σ h. within s (λ n. g _ (λ x. state states (σ x), seen σ b h, n, refl))
     steady (next y plus minus b) g = λ σ h. (
       within (relabel (state states (σ y)) plus minus) (λ n. g _ (λ x. state states (σ x), seen σ b h, inl (n, refl))),
-      λ i l e. let c = entry-carries i _ e in entered i (state states (σ y)) _ c (g _ (λ x. state states (σ x), seen σ b h, inr (i, l, c, refl))),
+      λ n i l e. let c = entry-carries i _ e in entered i (state states (σ y)) _ c (g _ (λ x. state states (σ x), seen σ b h, inr (i, l, c, refl))),
     )
     steady other g = tt
 

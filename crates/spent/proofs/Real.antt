@@ -16,7 +16,7 @@ use Rattle.semantics.specs.Facts.{Database, state, Derived, Meets}
 use Rattle.semantics.specs.Facts as facts
 use Rattle.semantics.specs.Steps.{Reachable}
 use Rattle.semantics.specs.Questions.{Reached}
-use Rattle.semantics.specs.Tables.{Within, seat, Rows, entry, Entry, From, Founded, Arrival, first, moved, met, Came, held, FoundedRows}
+use Rattle.semantics.specs.Tables.{seat, Rows, entry, Entry, From, Founded, Arrival, first, moved, met, Came, held, FoundedRows}
 use Rattle.semantics.specs.Tables as tables
 use Rattle.semantics.specs.Building.{build}
 use Rattle.semantics.proofs.Tools.{either, same?, clash, no-none, and-false, or-right, or-false, or-true-cases, elem-here, elem-left, elem-right, elem-cases, seat-ok}
@@ -68,6 +68,15 @@ seats-same : (S more ss : List ℕ) → Each (λ (s : ℕ). elem s S ≡ true) s
 seats-same S more [] h = refl
 seats-same S more (s ∷ ss) h = ap₂ {C = List ℕ} (λ (a : ℕ) (l : List ℕ). a ∷ l) (seat-append s S more (h .0)) (seats-same S more ss (h .1))
 
+-- the level has an entry for what is carried; a wiped object may have any that holds a state
+abbrev EntryFor : Rows → ℕ → Option ℕ → Type 0
+EntryFor rows i none = Entry rows i none
+EntryFor rows i (some c) = (d : ℕ) × (c ≢ 0 → c ≡ d) × Entry rows i (some d)
+
+entered : (rows : Rows) (i : ℕ) (c : Option ℕ) → EntryFor rows i c → (j : ℕ) × (j < length (rows i))
+entered rows i none (j, l, e) = (j, l)
+entered rows i (some c) (d, same, (j, l, e)) = (j, l)
+
 -- FOUNDED TABLES of a search
 module _ (P : Program) (Q : Question) (v : ℕ) where
   -- the states in order of discovery, the rows of entries, and how each came
@@ -90,7 +99,7 @@ module _ (P : Program) (Q : Question) (v : ℕ) where
   abbrev Shown : Tables → Item → Type 0
   Shown T (derived r ss) = Each (λ (s : ℕ). elem s (T .S) ≡ true) ss × Derived P (T .S) r (map (λ s. seat s (T .S)) ss)
   Shown T (found s) = (s ≢ 0) × (elem s (T .S) ≡ true)
-  Shown T (carried i c) = Entry (T .rows) i c
+  Shown T (carried i c) = EntryFor (T .rows) i c
 
   -- before the first pass
   abbrev outset : Rows
@@ -117,9 +126,9 @@ module _ (P : Program) (Q : Question) (v : ℕ) where
       distinct zero = tt
       distinct (suc i) = tt
 
-      within : (i c : ℕ) → elem c (held (outset i)) ≡ true → Within [] c
-      within zero c e = absurd (false≢true e)
-      within (suc i) c e = absurd (false≢true e)
+      within : (i c : ℕ) → elem c (held (outset i)) ≡ true → elem c [] ≡ true
+      within zero c e = e
+      within (suc i) c e = e
 
   -- the same with a state more
   with-state : (T : Tables) (s p ℓ : ℕ) → Safe P → From P (T .S) s p (line P ℓ) → (T′ : Tables) × Grows T T′ × (elem s (T′ .S) ≡ true)
@@ -135,7 +144,7 @@ module _ (P : Program) (Q : Question) (v : ℕ) where
       levels = record {
         arrived = λ i j l. came-grows P safe Q v (T .S) (T .S ++ (s ∷ [])) (under-append (T .S) (T .S) (s ∷ []) (under-refl (T .S))) (T .rows) i j (T .came i j) (T .levels .arrived i j l);
         distinct = T .levels .distinct;
-        within = λ i c e. ⊎-elim (λ q. inl q) (λ q. inr (elem-left c (T .S) (s ∷ []) q)) (T .levels .within i c e);
+        within = λ i c e. elem-left c (T .S) (s ∷ []) (T .levels .within i c e);
       };
     },
     record { more = s ∷ []; states = refl; longer = λ k. ([], sym (append-nil (T .rows k))) },
@@ -166,7 +175,7 @@ module _ (P : Program) (Q : Question) (v : ℕ) where
     stays : (k j : ℕ) → j < length (T .rows k) → (j < length (extended k)) × (entry extended k j ≡ entry (T .rows) k j)
     stays k j l = let (m, e) = longer k in (rw (e, length-append) (omega arith), rw e (List·getD-append (T .rows k) m none j l))
 
-    with-entry : Came P Q v (T .S) extended i (length (T .rows i)) a → Distinct (held (T .rows i ++ (d ∷ []))) → ((c : ℕ) → elem c (held (d ∷ [])) ≡ true → Within (T .S) c)
+    with-entry : Came P Q v (T .S) extended i (length (T .rows i)) a → Distinct (held (T .rows i ++ (d ∷ []))) → ((c : ℕ) → elem c (held (d ∷ [])) ≡ true → elem c (T .S) ≡ true)
         → (T′ : Tables) × Grows T T′ × Entry (T′ .rows) i d
     with-entry came distinct within = (
       record {
@@ -202,7 +211,7 @@ module _ (P : Program) (Q : Question) (v : ℕ) where
         distinct′ : (k : ℕ) → Distinct (held (extended k))
         distinct′ k = ⊎-elim (λ (q : eqb k i ≡ true). rw (q, eqb-true k i q) distinct) (λ (q : eqb k i ≡ false). rw q (T .levels .distinct k)) (either (eqb k i))
 
-        within′ : (k c : ℕ) → elem c (held (extended k)) ≡ true → Within (T .S) c
+        within′ : (k c : ℕ) → elem c (held (extended k)) ≡ true → elem c (T .S) ≡ true
         within′ k c = ⊎-elim
             (λ (q : eqb k i ≡ true). rw q (λ e. ⊎-elim (λ w. T .levels .within k c w) (λ w. within c w) (elem-cases c (held (T .rows k)) (held (d ∷ [])) (rw held-append at e))))
             (λ (q : eqb k i ≡ false). rw q (T .levels .within k c)) (either (eqb k i))
@@ -212,7 +221,7 @@ module _ (P : Program) (Q : Question) (v : ℕ) where
   grows-not T = record { more = []; states = sym (append-nil (T .S)); longer = λ k. ([], sym (append-nil (T .rows k))) }
 
   -- an entry more, or the same if it is there
-  add-entry : (T : Tables) (i : ℕ) (d : Option ℕ) (a : Arrival) → Came P Q v (T .S) (extended T i d a) i (length (T .rows i)) a → ((c : ℕ) → elem c (held (d ∷ [])) ≡ true → Within (T .S) c)
+  add-entry : (T : Tables) (i : ℕ) (d : Option ℕ) (a : Arrival) → Came P Q v (T .S) (extended T i d a) i (length (T .rows i)) a → ((c : ℕ) → elem c (held (d ∷ [])) ≡ true → elem c (T .S) ≡ true)
       → (T′ : Tables) × Grows T T′ × Entry (T′ .rows) i d
   add-entry T i none a c w = with-entry T i none a c (rw (held-append, append-nil) (T .levels .distinct i)) w
   add-entry T i (some t) a c w = ⊎-elim
@@ -221,6 +230,9 @@ module _ (P : Program) (Q : Question) (v : ℕ) where
       (either (elem t (held (T .rows i))))
 
   module _ (safe : Safe P) where
+    entry-grows : (T T′ : Tables) → Grows T T′ → (i : ℕ) (c : Option ℕ) → Entry (T .rows) i c → Entry (T′ .rows) i c
+    entry-grows T T′ g i c (j, l, e) = let (m, q) = g .longer i in (j, rw (q, length-append) (omega arith), rw q (List·getD-append (T .rows i) m none j l) ∙ e)
+
     -- what is shown stays shown
     shown-grows : (T T′ : Tables) → Grows T T′ → (x : Item) → Shown T x → Shown T′ x
     shown-grows T T′ g (derived r ss) (placed, d) = rw (g .states) (
@@ -228,7 +240,8 @@ module _ (P : Program) (Q : Question) (v : ℕ) where
       rw (seats-same (T .S) (g .more) ss placed) (derived-grows P safe (T .S) (T .S ++ g .more) (under-append (T .S) (T .S) (g .more) (under-refl (T .S))) r _ d),
     )
     shown-grows T T′ g (found s) (n, e) = (n, rw (g .states) (elem-left s (T .S) (g .more) e))
-    shown-grows T T′ g (carried i c) (j, l, e) = let (m, q) = g .longer i in (j, rw (q, length-append) (omega arith), rw q (List·getD-append (T .rows i) m none j l) ∙ e)
+    shown-grows T T′ g (carried i none) n = entry-grows T T′ g i none n
+    shown-grows T T′ g (carried i (some c)) (d, same, n) = (d, same, entry-grows T T′ g i (some d) n)
 
     -- the item can be shown too
     abbrev More : Tables → Item → Type 0
@@ -240,7 +253,7 @@ module _ (P : Program) (Q : Question) (v : ℕ) where
       abbrev slot : (ℕ → ℕ) → ℕ → ℕ
       slot σ x = seat (σ x) (T .S)
 
-      carries-entry : (i : ℕ) (c : Option ℕ) → Carries H i c → Entry (T .rows) i c
+      carries-entry : (i : ℕ) (c : Option ℕ) → Carries H i c → EntryFor (T .rows) i c
       carries-entry zero c e = rw e begins
       carries-entry (suc i) c h = covers (carried (suc i) c) h
 
@@ -257,45 +270,51 @@ module _ (P : Program) (Q : Question) (v : ℕ) where
       meets : (σ : ℕ → ℕ) (b : Body) → Shows H σ b → Meets P (T .S) (slot σ) b
       meets σ b m = (λ x e. seated σ b m x e .0, all-meet σ b (λ x e. seated σ b m x e .1) (m .1))
 
-      hands : (σ : ℕ → ℕ) (b : Body) → Shows H σ b → (c d : Option ℕ) → Hands v b σ c d → tables.Hands v (T .S) b (slot σ) c d
-      hands σ b m none none k = k
-      hands σ b m none (some d) k = (k .0, k .1 ∙ sym (seated σ b m v (k .0) .1))
-      hands σ b m (some c) none k = k
-      hands σ b m (some c) (some d) k = ((λ e. seated σ b m v e .1 ∙ k .0 e), k .1)
+      -- a variable's state is not empty
+      live : (σ : ℕ → ℕ) (b : Body) → Shows H σ b → (x : ℕ) → elem x (vars b) ≡ true → σ x ≢ 0
+      live σ b m x e = covers (found (σ x)) (m .0 x e) .0
 
-      entry-within : (i c : ℕ) → Carries H i (some c) → Within (T .S) c
-      entry-within i c h = let (j, l, e) = carries-entry i (some c) h in T .levels .within i c (entry-held (T .rows i) j c l e)
+      entry-listed : (i c : ℕ) → Entry (T .rows) i (some c) → elem c (T .S) ≡ true
+      entry-listed i c (j, l, e) = T .levels .within i c (entry-held (T .rows i) j c l e)
 
-      -- a state that is given, a carried object's move, and a stage met
+      -- a state that is given, a carried object's move, its wiping, and a stage met
       more-state : (s p ℓ : ℕ) → s ≢ 0 → From P (T .S) s p (line P ℓ) → More T (found s)
       more-state s p ℓ n f = let (T′, g, e) = with-state T s p ℓ safe f in (T′, shown-grows T T′ g, (n, e))
 
       more-moved : (ℓ y plus minus : ℕ) (b : Body) → line P ℓ ≡ next y plus minus b → elem y (vars b) ≡ true → (σ : ℕ → ℕ) → Shows H σ b → (i : ℕ) → i < length Q → Carries H i (some (σ y))
-          → Within (T .S) (relabel (σ y) plus minus) → More T (carried i (some (relabel (σ y) plus minus)))
+          → elem (relabel (σ y) plus minus) (T .S) ≡ true → More T (carried i (some (relabel (σ y) plus minus)))
       more-moved ℓ y plus minus b q h σ m i l c w =
           let t = relabel (σ y) plus minus in
-          let (j, k, e) = carries-entry i (some (σ y)) c in
+          let (d, same, (j, k, e)) = carries-entry i (some (σ y)) c in
           let a = moved ℓ j in
-          let came : Came P Q v (T .S) (extended T i (some t) a) i (length (T .rows i)) a = (l, k, rw (q, stays T i (some t) a i j k .1, last T i (some t) a, e) (refl, (slot σ, seated σ b m y h .1, meets σ b m))) in
+          let came : Came P Q v (T .S) (extended T i (some t) a) i (length (T .rows i)) a = (l, k, rw (q, stays T i (some t) a i j k .1, last T i (some t) a, e, ← same (live σ b m y h)) (refl, (slot σ, seated σ b m y h .1, meets σ b m))) in
           let (T′, g, shown) = add-entry T i (some t) a came (λ d p. rw (only d t p) w) in
-          (T′, shown-grows T T′ g, shown)
+          (T′, shown-grows T T′ g, (t, (λ n. refl), shown))
+
+      more-wiped : (i s t : ℕ) → Carries H i (some s) → t ≡ 0 → More T (carried i (some t))
+      more-wiped i s t c z = let (d, same, n) = carries-entry i (some s) c in (T, λ y h. h, (d, (λ q. absurd (q z)), n))
 
       more-stage : (i : ℕ) (x : Item) → ByStage P Q v H i x → More T x
-      more-stage i x (l, (σ, m, (c, d, h, k, e))) =
-          let (j, n, q) = carries-entry i c h in
-          let a = met j in
-          let came : Came P Q v (T .S) (extended T (suc i) d a) (suc i) (length (T .rows (suc i))) a = (
-            l,
-            stays T (suc i) d a i j n .0,
-            (slot σ, meets σ (getD Q i []) m, rw (stays T (suc i) d a i j n .1, last T (suc i) d a, q) (hands σ (getD Q i []) m c d k)),
-          ) in
-          let (T′, g, shown) = add-entry T (suc i) d a came (within c d h k) in
-          (T′, shown-grows T T′ g, subst (Shown T′) (sym e) shown)
+      more-stage i x (l, (σ, m, (c, d, h, k, e))) = subst (More T) (sym e) (go c d h k)
         where
-          within : (c d : Option ℕ) → Carries H i c → Hands v (getD Q i []) σ c d → (t : ℕ) → elem t (held (d ∷ [])) ≡ true → Within (T .S) t
-          within c none h k t p = absurd (false≢true p)
-          within none (some d) h k t p = rw (only t d p, k .1) (inr (covers (found (σ v)) (m .0 v (k .0)) .1))
-          within (some c) (some d) h k t p = rw (only t d p, k .1) (entry-within i c h)
+          b : Body
+          b = getD Q i []
+
+          enter : (c d : Option ℕ) → Entry (T .rows) i c → tables.Hands v (T .S) b (slot σ) c d → ((t : ℕ) → elem t (held (d ∷ [])) ≡ true → elem t (T .S) ≡ true) → (T′ : Tables) × Grows T T′ × Entry (T′ .rows) (suc i) d
+          enter c d (j, n, q) k w =
+              let a = met j in
+              add-entry T (suc i) d a (l, stays T (suc i) d a i j n .0, (slot σ, meets σ b m, rw (stays T (suc i) d a i j n .1, last T (suc i) d a, q) k)) w
+
+          go : (c d : Option ℕ) → Carries H i c → Hands v b σ c d → More T (carried (suc i) d)
+          go none none h k = let (T′, g, n) = enter none none (carries-entry i none h) k (λ t p. absurd (false≢true p)) in (T′, shown-grows T T′ g, n)
+          go none (some d) h k =
+              let (T′, g, n) = enter none (some d) (carries-entry i none h) (k .0, k .1 ∙ sym (seated σ b m v (k .0) .1)) (λ t p. rw (only t d p, k .1) (covers (found (σ v)) (m .0 v (k .0)) .1)) in
+              (T′, shown-grows T T′ g, (d, (λ q. refl), n))
+          go (some c) none h k = absurd k
+          go (some c) (some d) h k =
+              let (s, same, n) = carries-entry i (some c) h in
+              let (T′, g, n′) = enter (some s) (some s) n ((λ e. seated σ b m v e .1 ∙ k .0 e ∙ same (λ z. live σ b m v e (k .0 e ∙ z))), refl) (λ t p. rw (only t s p) (entry-listed i s n)) in
+              (T′, shown-grows T T′ g, (s, (λ q. k .1 ∙ same (λ z. q (k .1 ∙ z))), n′))
 
       -- what a line founds
       from-new : (ℓ s : ℕ) (b : Body) → line P ℓ ≡ new s b → (σ : ℕ → ℕ) → Shows H σ b → From P (T .S) s 0 (line P ℓ)
@@ -326,10 +345,10 @@ module _ (P : Program) (Q : Question) (v : ℕ) where
         go : Changes P Q v H (σ y) t x → More T x
         go (inl (n, e)) = subst (More T) (sym e) (state-too n)
         go (inr (i, l, c, e)) = subst (More T) (sym e) (⊎-elim
-            (λ (z : t ≡ 0). more-moved T H covers begins ℓ y plus minus b q stands σ m i l c (inl z))
+            (λ (z : t ≡ 0). more-wiped T H covers begins i (σ y) t c z)
             (λ (n : t ≢ 0).
             let (T₁, k₁, h₁) = state-too n in
-            let (T₂, k₂, h₂) = more-moved T₁ H (λ x h. k₁ x (covers x h)) (k₁ (carried 0 none) begins) ℓ y plus minus b q stands σ m i l c (inr (h₁ .1)) in
+            let (T₂, k₂, h₂) = more-moved T₁ H (λ x h. k₁ x (covers x h)) (k₁ (carried 0 none) begins) ℓ y plus minus b q stands σ m i l c (h₁ .1) in
             (T₂, λ x h. k₂ x (k₁ x h), h₂))
             (same? t 0))
     more-line T H covers begins ℓ other q s x g = absurd g
@@ -371,6 +390,6 @@ module _ (P : Program) (Q : Question) (v : ℕ) where
         go zero e o h = absurd (omega arith)
         go (suc n) e o h =
             let (T, covers, begins) = search-real k p i l in
-            let (j, m, w) = covers (carried (suc n) c) h in
+            let (j, m) = entered (T .rows) (suc n) c (covers (carried (suc n) c) h) in
             let r = shown P safe Q v carries (T .S) (T .by) (T .from) (T .founded) (T .rows) (T .came) (T .levels) n j (sym e) m in
             kept-reached P Q (r .0) (r .1)

@@ -70,7 +70,7 @@ module _ (m : Model) (w : List ℕ) (s : States) (known : Known m w s) where
     count : r ≡ length all
     count = omega (arith, index, h .index, length-append (building m s (s .count)) (h .places))
 
-    fits : r ≤ 8640
+    fits : r ≤ 8637
     fits = let a = h .few in let b = building-few in let c = h .index in omega arith
 
     whole : run₂ ≡ backwards run 0 all

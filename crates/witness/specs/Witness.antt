@@ -15,7 +15,7 @@ pub record Shown (m : Model) (run run′ : List ℕ) (r : ℕ) : Type 0 where
   pub places : List Place
   pub kept : Kept (programOf m) (questionOf m) places
   pub index : r ≡ length places
-  pub few : r ≤ 8640
+  pub few : r ≤ 8637
   pub written : run′ ≡ numbers places ++ drop r run
   pub decoded : map placeOf (take r run′) ≡ map some places
   pub last : (first : List Place) × (os : List ℕ) × (places ≡ first ++ (meet (m .stagecount) os ∷ []))

@@ -38,7 +38,7 @@ module _ (m : Model) (w : List ℕ) (s : States) (l : Levels) (rec : Recorded m 
   pub entry-number : (i j : ℕ) → j < length (rowsOf l i) → entry (rowsOf l) i j ≡ entryOf (getD (l .entries) (i * 129 + j) 0)
   entry-number i j h = entry-at l i j ∙ ap entryOf (getD-take (count l i) _ j 0 (rw (length-rows l (rec .levels)) at h) ∙ getD-drop (i * 129) (l .entries) j 0)
 
-  rank-few : (i j c : ℕ) → j < length (rowsOf l i) → entry (rowsOf l) i j ≡ some c → rank (rowsOf l) i j ≤ s .count
+  rank-few : (i j c : ℕ) → j < length (rowsOf l i) → entry (rowsOf l) i j ≡ some c → rank (rowsOf l) i j < s .count
   rank-few i j c h e = rw (← length-row s (rec .known .proper)) (rank-most (programOf m) (rec .known .model .safe) (questionOf m) (m .carried) (rec .known .model .carries) (row s) (by s) (from s) (rec .known .found)
       (rowsOf l) (cameOf l) (rec .rows) i j c h e)
 
@@ -90,7 +90,7 @@ module _ (m : Model) (w : List ℕ) (s : States) (l : Levels) (rec : Recorded m 
         ends none = sym (stages m (rec .known .model))
         ends (some c) = sym (stages m (rec .known .model))
 
-        fits : (c : Option ℕ) → 0 + m .stagecount + moves (s .count) (m .stagecount) c 0 ≤ m .stagecount + m .stagecount * s .count
+        fits : (c : Option ℕ) → 0 + m .stagecount + moves (s .count) (m .stagecount) c 0 ≤ m .stagecount + suc (m .stagecount * (s .count - 1))
         fits none = omega arith
         fits (some c) = omega arith
 
@@ -102,7 +102,7 @@ module _ (m : Model) (w : List ℕ) (s : States) (l : Levels) (rec : Recorded m 
       numerable = h .numerable;
       written = h .written;
       index = h .index;
-      few = let a = h .few in let b = rec .known .model .stages in let c = rec .known .proper .count in omega (arith, mul-le-mul b c);
+      few = let a = h .few in let b = rec .known .model .stages in let c = rec .known .proper .count in omega (arith, mul-le-mul b (let k : s .count - 1 ≤ 126 = omega arith in k));
     }
       where
         bare : entry (rowsOf l) 0 j ≡ none
@@ -112,7 +112,7 @@ module _ (m : Model) (w : List ℕ) (s : States) (l : Levels) (rec : Recorded m 
     module _ (run : List ℕ) (k j at : ℕ) (h : Behind m s l run₀ run (suc k) j at) where
       -- there is room for a leg
       pub behind-room : 8640 ≤ length run → at + s .count + 1 ≤ length run
-      behind-room r = let a = h .few in let b = rec .known .model .stages in let c = rec .known .proper .count in let d = h .index in omega (arith, mul-le-mul b c)
+      behind-room r = let a = h .few in let b = rec .known .model .stages in let c = rec .known .proper .count in let d = h .index in omega (arith, mul-le-mul b (let k : s .count - 1 ≤ 126 = omega arith in k))
 
       -- A MEETING is written before
       pub behind-met : lineTo l (suc k) j ≡ 0 → (run′ : List ℕ) (at′ : ℕ)
@@ -135,8 +135,8 @@ module _ (m : Model) (w : List ℕ) (s : States) (l : Levels) (rec : Recorded m 
           t = met-before k j (h .inside) z
 
           fits : (c d : Option ℕ) → entry (rowsOf l) k (originOf l (suc k) j) ≡ c → Hands (m .carried) (row s) (getD (questionOf m) k []) (t .2 .0) c d
-              → length (g .places) ≤ suc (effort (s .count) c d) → length (h .places) + suc k + moves (s .count) (suc k) d (h .before) ≤ m .stagecount + m .stagecount * s .count
-              → length (g .places) + length (h .places) + k + moves (s .count) k c (rank (rowsOf l) k (originOf l (suc k) j)) ≤ m .stagecount + m .stagecount * s .count
+              → length (g .places) ≤ suc (effort (s .count) c d) → length (h .places) + suc k + moves (s .count) (suc k) d (h .before) ≤ m .stagecount + suc (m .stagecount * (s .count - 1))
+              → length (g .places) + length (h .places) + k + moves (s .count) k c (rank (rowsOf l) k (originOf l (suc k) j)) ≤ m .stagecount + suc (m .stagecount * (s .count - 1))
           fits none none e q a b = omega arith
           fits none (some d) e q a b = omega arith
           fits (some c) none e q a b = absurd q

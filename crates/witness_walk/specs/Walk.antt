@@ -2,7 +2,7 @@
 use mathlib.Core.Path.{_≡_}
 use mathlib.Core.List.{List}
 use mathlib.Core.Option.{Option, none, some}
-use Prim.Native.Nat.{ℕ, _+_, _*_, _≤_, _<_}
+use Prim.Native.Nat.{ℕ, suc, _+_, _-_, _*_, _≤_, _<_}
 use lib.ListN.{length, getD}
 use Rattle.semantics.specs.Runs.{Place, nobody, Plays}
 use Rattle.semantics.specs.Tables.{entry, rank, FoundedRows}
@@ -29,10 +29,11 @@ lineTo l i j = getD (l .lines) (i * 129 + j) 0
 abbrev pub originOf : Levels → ℕ → ℕ → ℕ
 originOf l i j = getD (l .origins) (i * 129 + j) 0
 
--- the moves that may have led to an entry of level i with r states before it in its row, where there are n states: none while nothing is carried
+-- The steps that may have led to an entry of level i with r states before it in its row, where there are n states: none while nothing is carried.
+-- Else n for the making of the carried object, r moves, and n - 1 for each of the i - 1 levels below that carry: together 1 + r + i (n - 1).
 abbrev pub moves : ℕ → ℕ → Option ℕ → ℕ → ℕ
 moves n i none r = 0
-moves n i (some c) r = r + i * n
+moves n i (some c) r = suc r + i * (n - 1)
 
 -- BEHIND entry j of level i the run is written, and index `at` is the next: it is played from there to its end, and what is still to come fits
 pub record Behind (m : Model) (s : States) (l : Levels) (run₀ run : List ℕ) (i j at : ℕ) : Type 0 where
@@ -45,13 +46,13 @@ pub record Behind (m : Model) (s : States) (l : Levels) (run₀ run : List ℕ) 
   pub level : i ≤ m .stagecount
   pub before : ℕ
   pub ranked : i < m .stagecount → before ≡ rank (rowsOf l) i j
-  pub few : length places + i + moves (s .count) i (entry (rowsOf l) i j) before ≤ m .stagecount + m .stagecount * s .count
+  pub few : length places + i + moves (s .count) i (entry (rowsOf l) i j) before ≤ m .stagecount + suc (m .stagecount * (s .count - 1))
 
--- THE WALK is written: it is played with one object of each state, and has at most 512 places
+-- THE WALK is written: it is played with one object of each state, and has at most 509 places: 127 steps for the carried object, 3 x 126 between stages, and 4 meetings
 pub record Walked (m : Model) (s : States) (run run′ : List ℕ) (r : ℕ) : Type 0 where
   pub places : List Place
   pub plays : Plays (programOf m) (questionOf m) (session (row s) 0 nobody) places
   pub numerable : AllNumerable places
   pub written : run′ ≡ backwards run 0 places
   pub index : r ≡ length places
-  pub few : length places ≤ 512
+  pub few : length places ≤ 509
