@@ -26,11 +26,6 @@ abbrev pub right : List Example → Bool
 right [] = true
 right (e ∷ es) = answers (outcome (bytes (e .0))) (e .1) (e .2) && right es
 
--- * "empty text: refused 1, line 0"
-pub empty-text : outcome (bytes "") ≡ refused 1 0
-unfolding outcome
-empty-text = refl
-
 -- the small examples of the table, rows 1 to 11
 unfoldable pub examples : List Example
 examples =
