@@ -8,7 +8,6 @@ use model::Model;
 ghost use Prim.Native.Nat.{_≤_};
 ghost use lib.ListN.{length, take};
 ghost use Rattle.io.specs.Counts.{Counts};
-ghost use Rattle.grammar.specs.Texts.{outcome};
 ghost use Rattle.listing.specs.Report.{size};
 ghost use Rattle.eon.specs.Output.{Front, Ready, Shows, Output};
 
@@ -63,7 +62,7 @@ fn list(out: &mut [u8], text: &[u8], m: Model, a: Analysis, run: &[u32]) -> usiz
 // Analyzes the text and writes what the program is to write into the slice; says how many bytes that is.
 fn mark(text: &[u8], work: &mut [u8], run: &mut [u32], out: &mut [u8]) -> usize
     requires { ⌜ (32768 ≤ length (now work)) × (8640 ≤ length (now run)) × (size ≤ length (now out)) ⌝ }
-    ensures { λ r. ⌜ Output (outcome (now (text .entry))) (now (text .entry)) (take r (now (out .exit))) × Counts r (now (out .exit)) ⌝ }
+    ensures { λ r. ⌜ Output (now (text .entry)) (now (work .entry)) (now (run .entry)) (now (work .exit)) (now (run .exit)) (take r (now (out .exit))) × Counts r (now (out .exit)) ⌝ }
 {
     let reading = text::read(text);
     let analysis = analyzer::analyze(text, work, run);

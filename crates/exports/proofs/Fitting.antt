@@ -3,7 +3,6 @@ use mathlib.Core.Path.{_≡_, sym, ap, _∙_}
 use mathlib.Core.Logic.{⊎-elim}
 use mathlib.Core.Bool.{Bool, true, false}
 use mathlib.Core.List.{List, [], _∷_, map}
-use mathlib.Core.Option.{some}
 use Prim.Native.Nat.{ℕ, suc, _+_, _≤_}
 use native.Mathlib.Omega.{arith}
 use lib.Dec.{eqb, ltb}
@@ -12,7 +11,7 @@ use borrow.Author.Tests.{eqb-true, eqb-false, ltb-false}
 use Rattle.semantics.specs.Models.{Line, rule, new, next, other, line, Program, Question}
 use Rattle.semantics.specs.Runs as runs
 use Rattle.semantics.specs.Runs.{step, meet, start, after}
-use Rattle.model.specs.Places.{placeOf}
+use Rattle.model.specs.Places.{numberOf}
 use Rattle.grammar.specs.Declarations.{Declared}
 use Rattle.grammar.specs.Texts.{Outcome, accepted, refused, outcome}
 use Rattle.grammar.proofs.Tests.{either}
@@ -22,7 +21,6 @@ use Rattle.calls.proofs.Laws.{called-early, called-lines, sizes}
 use Rattle.analyzer_verdict.specs.declared.Answer.{Answer}
 use Rattle.analyzer_verdict.specs.declared.Answer.the-variants.{Reached, Unreached, Refused}
 use Rattle.analyzer_verdict.specs.declared.Analysis.{Analysis}
-use Rattle.analyzer_verdict.specs.Judging as judging
 use Rattle.analyzer_verdict.specs.Judging.{Answered}
 use Rattle.analyzer.specs.Analyzing.{Leaves}
 use Rattle.replay_session.specs.declared.Answer as session
@@ -54,8 +52,8 @@ called-taken text short long D P Q e = ⊎-elim
 
 -- THE ANALYSIS
 module _ (P : Program) (Q : Question) (run run′ : List ℕ) where
-  run-places : (n : ℕ) (ps : List runs.Place) → map placeOf (take n run′) ≡ map some ps → n ≡ length ps → n ≤ length run′
-  run-places n ps e h = omega (arith, h, length-take n run′, length-map (take n run′) placeOf, length-map {B = _} ps some, ap length e)
+  run-places : (n : ℕ) (ps : List runs.Place) → take n run′ ≡ map numberOf ps → n ≡ length ps → n ≤ length run′
+  run-places n ps e h = omega (arith, h, length-take n run′, length-map ps numberOf, ap length e)
 
   answer-fits : (a : Answer) → Answered P Q run run′ a → ShortRun a × Shown (length run′) a
   answer-fits (Reached n last) h =
