@@ -147,7 +147,7 @@ pub extern "C" fn eon_place(
     ensures { λ r. ⌜ Placed (now (text .entry)) (now (session .entry)) place (now (work .entry)) r (now (session .exit)) (now (work .exit)) ⌝ }
 {
     let cells = *session;
-    let reply = replay::place(text, unpack(cells), place, work);
+    let reply = lent::place(text, unpack(cells), place, work);
     let after = reply.session;
     let left = pack(after);
     *session = left;
