@@ -9,6 +9,7 @@ use lib.Dec.{eqb, ltb, leb}
 use lib.ListN.{length, take, getD}
 use lib.Seq.{getD-take, length-slice, length-take-le}
 use borrow.Author.Tests.{leb-true, le-ltb}
+use Rattle.limits.specs.Limits as limit
 use Rattle.semantics.specs.Models.{Program, Question}
 use Rattle.model.specs.declared.Model.{Model}
 use Rattle.grammar.specs.Bytes.{bytes, Word, letter, alphanumeric, every, same, isName, lines}
@@ -59,7 +60,7 @@ module _ (text : List ℕ) (D : Declared) (P : Program) (Q : Question) (m : Mode
   }
 
   -- an analysis of it can be listed
-  listable : (states : List ℕ) (k : ℕ) (run : List ℕ) (n : ℕ) → k ≤ 127 → length states ≡ 127 → n ≤ 8637 → 8640 ≤ length run → Listable text m states k run n
+  listable : (states : List ℕ) (k : ℕ) (run : List ℕ) (n : ℕ) → k ≤ limit.atomic → length states ≡ limit.atomic → n ≤ limit.shown → limit.run ≤ length run → Listable text m states k run n
   listable states k run n few whole short long = record {
     relations = accepted-well-formed text D P Q m ok rep .relations;
     names = named;
@@ -69,8 +70,8 @@ module _ (text : List ℕ) (D : Declared) (P : Program) (Q : Question) (m : Mode
     short = omega arith;
   }
 
-  module _ (states : List ℕ) (k : ℕ) (run run′ : List ℕ) (whole : length states ≡ 127) (l : Listed P states k) where
-    pub ready : (a : Answer) → Answered P Q run run′ a → 8640 ≤ length run′ → Ready text m states k run′ a
+  module _ (states : List ℕ) (k : ℕ) (run run′ : List ℕ) (whole : length states ≡ limit.atomic) (l : Listed P states k) where
+    pub ready : (a : Answer) → Answered P Q run run′ a → limit.run ≤ length run′ → Ready text m states k run′ a
     ready (Reached n last) h long = listable states k run′ n (l .count) whole (h .1 .fits) long
     ready Unreached h long = listable states k run′ 0 (l .count) whole (omega arith) long
     ready (Refused n ℓ) h long = tt
@@ -121,14 +122,14 @@ unfolding called early outcome
 in-room text short e = rw e (⊎-elim (λ (q : bytes-wrong ≡ true). rw q refl) (λ (q : bytes-wrong ≡ false). rw q refl) (either bytes-wrong))
   where
     bytes-wrong : Bool
-    bytes-wrong = eqb (length text) 0 || ltb 16384 (length text)
+    bytes-wrong = eqb (length text) 0 || ltb limit.text (length text)
 
-pub answered : (text work run : List ℕ) (a : Analysis) (work′ run′ : List ℕ) → 32768 ≤ length work → 8640 ≤ length run → Analyzes text work run a work′ run′ → Leaves (outcome text) work run a work′ run′
-answered text work run a work′ run′ h l w = rw (in-room text (short (length work) (length run)) (rw (le-ltb (length work) 32768 h, le-ltb (length run) 8640 l) refl)) at w
+pub answered : (text work run : List ℕ) (a : Analysis) (work′ run′ : List ℕ) → limit.work ≤ length work → limit.run ≤ length run → Analyzes text work run a work′ run′ → Leaves (outcome text) work run a work′ run′
+answered text work run a work′ run′ h l w = rw (in-room text (short (length work) (length run)) (rw (le-ltb (length work) limit.work h, le-ltb (length run) limit.run l) refl)) at w
 
 -- EVERY TEXT. What reading and analyzing it leave can be listed, and the listing is the output
-module _ (text work run : List ℕ) (r : Reading) (a : Analysis) (work′ run′ : List ℕ) (whole : length (a .states) ≡ 127) where
-  pub text-ready : (o : Outcome) → outcome text ≡ o → Reads o text r → Leaves o work run a work′ run′ → 8640 ≤ length run′ → Ready text (r .model) (a .states) (a .count) run′ (a .answer)
+module _ (text work run : List ℕ) (r : Reading) (a : Analysis) (work′ run′ : List ℕ) (whole : length (a .states) ≡ limit.atomic) where
+  pub text-ready : (o : Outcome) → outcome text ≡ o → Reads o text r → Leaves o work run a work′ run′ → limit.run ≤ length run′ → Ready text (r .model) (a .states) (a .count) run′ (a .answer)
   text-ready (refused n ℓ) ok reads leaves long = rw (leaves .0) tt
   text-ready (accepted D P Q) ok reads leaves long = ready text D P Q (r .model) ok (reads .1) (reads .2) (a .states) (a .count) run run′ whole (leaves .1 .states) (a .answer) (leaves .1 .verdict) long
 

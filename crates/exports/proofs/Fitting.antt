@@ -8,6 +8,7 @@ use native.Mathlib.Omega.{arith}
 use lib.Dec.{eqb, ltb}
 use lib.ListN.{length, take, length-append, length-map, length-take}
 use borrow.Author.Tests.{eqb-true, eqb-false, ltb-false}
+use Rattle.limits.specs.Limits as limit
 use Rattle.semantics.specs.Models.{Line, rule, new, next, other, line, Program, Question}
 use Rattle.semantics.specs.Runs as runs
 use Rattle.semantics.specs.Runs.{step, meet, start, after}
@@ -63,7 +64,7 @@ module _ (P : Program) (Q : Question) (run run′ : List ℕ) where
   answer-fits (Refused n l) h = absurd h
 
 pub analysis-fits : (o : Outcome) (work run : List ℕ) (a : Analysis) (work′ run′ : List ℕ) → Leaves o work run a work′ run′
-    → ShortRun (a .answer) × Shown (length run′) (a .answer) × (a .count ≤ 127)
+    → ShortRun (a .answer) × Shown (length run′) (a .answer) × (a .count ≤ limit.atomic)
 analysis-fits (refused n l) work run a work′ run′ h = rw (h .0) (tt, tt, omega arith)
 analysis-fits (accepted D P Q) work run a work′ run′ h =
     let f = answer-fits P Q run run′ (a .answer) (h .1 .verdict) in
@@ -71,17 +72,17 @@ analysis-fits (accepted D P Q) work run a work′ run′ h =
 
 -- THE REPLAY
 module _ (P : Program) (Q : Question) where
-  within : (s : runs.Session) (ns : List ℕ) (i : ℕ) (a : session.Answer) → i + length ns ≤ 8640 → Replays P Q s ns i a → LowPlace a
+  within : (s : runs.Session) (ns : List ℕ) (i : ℕ) (a : session.Answer) → i + length ns ≤ limit.run → Replays P Q s ns i a → LowPlace a
   within s [] i reply.Kept h r = tt
   within s [] i (reply.Broken j) h r = omega (arith, r .1)
   within s [] i (reply.Refused n l) h r = tt
   within s (n ∷ ns) i a h r = ⊎-elim (λ w. within (after P Q s (w .0)) ns (suc i) a (omega arith) (w .3)) (λ w. rw (w .1) (omega arith)) r
 
-pub replay-fits : (text run work : List ℕ) (short : Bool) (a : session.Answer) (work′ : List ℕ) (o : Outcome) → called text short (ltb 8640 (length run)) ≡ o
+pub replay-fits : (text run work : List ℕ) (short : Bool) (a : session.Answer) (work′ : List ℕ) (o : Outcome) → called text short (ltb limit.run (length run)) ≡ o
     → Replayed o run work a work′ → LowPlace a
 replay-fits text run work short a work′ (refused n l) e h = rw (h .0) tt
 replay-fits text run work short a work′ (accepted D P Q) e h =
-    within P Q (start []) run 0 a (omega (arith, ltb-false 8640 (length run) (called-taken text short (ltb 8640 (length run)) D P Q e .long-not))) (h .0)
+    within P Q (start []) run 0 a (omega (arith, ltb-false limit.run (length run) (called-taken text short (ltb limit.run (length run)) D P Q e .long-not))) (h .0)
 
 -- ONE PLACE
 stepped-small : (Q : Question) (d : ℕ) (s : Session) → Fits d Q s → Small s → (o : ℕ) (l : Line) → Small (stepped s o l)
