@@ -5,6 +5,7 @@ use mathlib.Core.List.{List}
 use Prim.Native.Nat.{ℕ}
 use lib.Dec.{ltb}
 use lib.ListN.{length, replicate}
+use Rattle.limits.specs.Limits as limit
 use Rattle.grammar.specs.Texts.{Outcome, accepted, refused}
 use Rattle.acceptance.specs.Sound.{carriedOf}
 use Rattle.spent.specs.Passes.{Spent}
@@ -15,13 +16,13 @@ use Rattle.analyzer_verdict.specs.Judging.{Judges}
 
 -- row 12: "work area under 32,768 bytes, or a run table lent for writing under 8,640 places"
 abbrev pub short : ℕ → ℕ → Bool
-short bytes places = ltb bytes 32768 || ltb places 8640
+short bytes places = ltb bytes limit.work || ltb places limit.run
 
 -- A REFUSAL with its number and line; the states "beside a refusal" are "none and 0"
 abbrev pub refusal : ℕ → ℕ → Analysis
-refusal n l = record { answer = Refused n l; states = replicate 127 0; count = 0 }
+refusal n l = record { answer = Refused n l; states = replicate limit.atomic 0; count = 0 }
 
--- WHAT THE CALL LEAVES, by the table's answer to it: after a refusal "both buffers are untouched"; an accepted text has no 100,000 search passes, so that row 13 is never given
+-- WHAT THE CALL LEAVES, by the table's answer to it: after a refusal "both buffers are untouched"; no accepted text has 100,000 search passes the last of which still added something, so that row 13 is never given
 abbrev pub Leaves : Outcome → List ℕ → List ℕ → Analysis → List ℕ → List ℕ → Type 0
 Leaves (refused n l) work run a work′ run′ = (a ≡ refusal n l) × (work′ ≡ work) × (run′ ≡ run)
 Leaves (accepted D P Q) work run a work′ run′ = (Spent P Q (carriedOf Q) → ⊥) × Judges P Q work run a work′ run′

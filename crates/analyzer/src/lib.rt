@@ -1,13 +1,12 @@
 // The analysis of a text.
 use analyzer_verdict::Analysis;
 use analyzer_verdict::Answer;
+use limits::ATOMIC;
+use limits::RUN;
 use limits::WORK;
 use text::Acceptance;
 ghost use mathlib.Core.Path.{_≡_};
 ghost use Rattle.analyzer.specs.Analyzing.{short as tooShort, refusal, Analyzes};
-
-// The places that a run table lent for writing has at least.
-const PLACES: usize = 8_640;
 
 // Is the work area or the run table too short?
 fn short(bytes: usize, places: usize) -> bool
@@ -16,7 +15,7 @@ fn short(bytes: usize, places: usize) -> bool
     if bytes < WORK {
         return true;
     }
-    places < PLACES
+    places < RUN
 }
 
 // A refusal, with no states beside it.
@@ -25,7 +24,7 @@ fn refuse(number: u32, line: u32) -> Analysis
 {
     Analysis {
         answer: Answer::Refused { number, line },
-        states: [0u32; 127],
+        states: [0u32; ATOMIC],
         count: 0,
     }
 }

@@ -6,6 +6,7 @@ use mathlib.Core.List.{List, [], _∷_, _++_, map}
 use mathlib.Core.Option.{some}
 use Prim.Native.Nat.{ℕ, _-_, _≤_}
 use lib.ListN.{length, take, drop, getD, replicate}
+use Rattle.limits.specs.Limits as limit
 use Rattle.semantics.specs.Models.{elem, Program, Question}
 use Rattle.semantics.specs.Steps.{Reachable}
 use Rattle.semantics.specs.Questions as questions
@@ -29,7 +30,7 @@ pub record Shown (P : Program) (Q : Question) (run run′ : List ℕ) (n : ℕ) 
   pub decoded : map placeOf (take n run′) ≡ map some places
   pub rest : drop n run′ ≡ drop n run
   -- a shown run needs at most 8,633 steps; "with 4 meetings, 8,637 places"
-  pub fits : n ≤ 8637
+  pub fits : n ≤ limit.shown
   -- demand 2: the replay keeps it
   pub kept : Kept P Q places
   -- "inside a reached answer stands the kind of its last place, a meeting with its stage and objects": that of the last number, and of the last stage
@@ -39,7 +40,7 @@ pub record Shown (P : Program) (Q : Question) (run run′ : List ℕ) (n : ℕ) 
   pub meeting : standsFor place ≡ some (meet (length Q) objects)
   pub last : place ≡ placed (getD run′ (n - 1) 0)
   -- demand 3
-  pub playing : PlayingOn P Q 8640 places
+  pub playing : PlayingOn P Q limit.run places
 
 -- THE VERDICT is right, and the run table "is written only for reached"
 abbrev pub Answered : Program → Question → List ℕ → List ℕ → Answer → Type 0
@@ -49,10 +50,10 @@ Answered P Q run run′ (Refused n l) = ⊥
 
 -- THE STATES beside a verdict: "the reachable atomic states and their number, in the listing's order"; the numbers behind them are zero
 pub record Listed (P : Program) (states : List ℕ) (n : ℕ) : Type 0 where
-  pub count : n ≤ 127
+  pub count : n ≤ limit.atomic
   pub rising : Rising states n
   pub reachable : (s : ℕ) → Reachable P s ↔ (elem s (take n states) ≡ true)
-  pub rest : drop n states ≡ replicate (127 - n) 0
+  pub rest : drop n states ≡ replicate (limit.atomic - n) 0
 
 -- THE ANALYSIS a of a program and a question, with the work area and the run table before and after it
 pub record Judges (P : Program) (Q : Question) (work run : List ℕ) (a : Analysis) (work′ run′ : List ℕ) : Type 0 where

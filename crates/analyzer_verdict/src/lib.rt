@@ -1,10 +1,12 @@
 // The analysis of an accepted model: the verdict with the run of a reached question, and the reachable states.
+use limits::ATOMIC;
 use limits::WORK;
 use model::Model;
 use model::Place;
 use search::Found;
 ghost use Prim.Native.Nat.{_≤_};
 ghost use lib.ListN.{length};
+ghost use Rattle.limits.specs.Limits as limit;
 ghost use Rattle.model.specs.Records.{programOf, questionOf};
 ghost use Rattle.model.specs.WellFormed.{WellFormed};
 ghost use Rattle.search.specs.Search.{Searched};
@@ -20,13 +22,13 @@ pub enum Answer {
 // An answer, and beside a verdict the reachable atomic states by rising number and how many they are.
 pub struct Analysis {
     pub answer: Answer,
-    pub states: [u32; 127],
+    pub states: [u32; ATOMIC],
     pub count: usize,
 }
 
 // The answer that a search gives; the run of a reached question is written.
 fn conclude(m: Model, work: &[u8], run: &mut [u32], found: Found) -> Answer
-    requires { ⌜ WellFormed m × Searched m (now work) found × (8640 ≤ length (now run)) ⌝ }
+    requires { ⌜ WellFormed m × Searched m (now work) found × (limit.run ≤ length (now run)) ⌝ }
     ensures { λ r. ⌜ Answered (programOf m) (questionOf m) (now (run .entry)) (now (run .exit)) r ⌝ }
 {
     if !found.reached {
@@ -41,7 +43,7 @@ fn conclude(m: Model, work: &[u8], run: &mut [u32], found: Found) -> Answer
 
 // Searches a well-formed model, writes the run of a reached question, and leaves the work bytes zero.
 pub fn decide(m: Model, work: &mut [u8], run: &mut [u32]) -> Analysis
-    requires { ⌜ WellFormed m × (32768 ≤ length (now work)) × (8640 ≤ length (now run)) ⌝ }
+    requires { ⌜ WellFormed m × (limit.work ≤ length (now work)) × (limit.run ≤ length (now run)) ⌝ }
     ensures { λ r. ⌜ Judges (programOf m) (questionOf m) (now (work .entry)) (now (run .entry)) r (now (work .exit)) (now (run .exit)) ⌝ }
 {
     let found = search::search(&mut work[..WORK], m);

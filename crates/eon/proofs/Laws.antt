@@ -9,6 +9,7 @@ use lib.Dec.{eqb, ltb, leb}
 use lib.ListN.{length, take, getD}
 use lib.Seq.{getD-take, length-slice, length-take-le}
 use borrow.Author.Tests.{leb-true, le-ltb}
+use Rattle.limits.specs.Limits as limit
 use Rattle.semantics.specs.Models.{Program, Question}
 use Rattle.model.specs.declared.Model.{Model}
 use Rattle.grammar.specs.Bytes.{bytes, Word, letter, alphanumeric, every, same, isName, lines}
@@ -30,7 +31,7 @@ use Rattle.calls.specs.Calls.{early, called}
 use Rattle.analyzer.specs.Analyzing.{short, Leaves, Analyzes}
 use Rattle.listing_lines.specs.Lines.{Named}
 use Rattle.listing.specs.Report.{Listable}
-use Rattle.eon.specs.Output.{Ready, Shows, Lists, Output}
+use Rattle.eon.specs.Output.{Ready, Shows, Lists, Listing}
 
 -- a name has at most 16 bytes
 name-short : (w : Word) → isName w ≡ true → length w ≤ 16
@@ -59,25 +60,25 @@ module _ (text : List ℕ) (D : Declared) (P : Program) (Q : Question) (m : Mode
   }
 
   -- an analysis of it can be listed
-  listable : (states : List ℕ) (k : ℕ) (run : List ℕ) (n : ℕ) → k ≤ 127 → length states ≡ 127 → n ≤ 8640 → 8640 ≤ length run → Listable text m states k run n
+  listable : (states : List ℕ) (k : ℕ) (run : List ℕ) (n : ℕ) → k ≤ limit.atomic → length states ≡ limit.atomic → n ≤ limit.shown → limit.run ≤ length run → Listable text m states k run n
   listable states k run n few whole short long = record {
     relations = accepted-well-formed text D P Q m ok rep .relations;
     names = named;
     count = omega arith;
     few = few;
     places = omega arith;
-    short = short;
+    short = omega arith;
   }
 
-  module _ (states : List ℕ) (k : ℕ) (run run′ : List ℕ) (whole : length states ≡ 127) (l : Listed P states k) where
-    pub ready : (a : Answer) → Answered P Q run run′ a → 8640 ≤ length run′ → Ready text m states k run′ a
+  module _ (states : List ℕ) (k : ℕ) (run run′ : List ℕ) (whole : length states ≡ limit.atomic) (l : Listed P states k) where
+    pub ready : (a : Answer) → Answered P Q run run′ a → limit.run ≤ length run′ → Ready text m states k run′ a
     ready (Reached n last) h long = listable states k run′ n (l .count) whole (h .1 .fits) long
     ready Unreached h long = listable states k run′ 0 (l .count) whole (omega arith) long
     ready (Refused n ℓ) h long = tt
 
     -- and its listing is the output
     module _ (d : List ℕ) (r : ℕ) (e : List ℕ) where
-      pub lists : (a : Answer) → Answered P Q run run′ a → Shows text m states k run′ a d r e → Lists text D P Q (take r e)
+      pub lists : (a : Answer) → Answered P Q run run′ a → Shows text m states k run′ a d r e → Lists text D P Q (record { answer = a; states = states; count = k }) run′ (take r e)
       lists (Reached n last) h w = record {
         model = m;
         represents = rep;
@@ -85,11 +86,13 @@ module _ (text : List ℕ) (D : Declared) (P : Program) (Q : Question) (m : Mode
         reached = true;
         verdict = h .0;
         states = take k states;
+        first = refl;
         rising = rising-front states k (omega (arith, l .count)) (l .rising);
         reachable = l .reachable;
         run = h .1 .places;
         shown = h .1 .kept;
-        bytes = w (h .1 .places) (h .1 .written) .front;
+        told = (refl, h .1 .decoded);
+        bytes = w (h .1 .places) (h .1 .decoded) .front;
       }
       lists Unreached h w = record {
         model = m;
@@ -98,16 +101,18 @@ module _ (text : List ℕ) (D : Declared) (P : Program) (Q : Question) (m : Mode
         reached = false;
         verdict = h .0;
         states = take k states;
+        first = refl;
         rising = rising-front states k (omega (arith, l .count)) (l .rising);
         reachable = l .reachable;
         run = [];
         shown = refl;
+        told = refl;
         bytes = w [] refl .front;
       }
       lists (Refused n ℓ) h w = absurd h
 
       pub room : (a : Answer) → Answered P Q run run′ a → Shows text m states k run′ a d r e → r ≤ length d
-      room (Reached n last) h w = w (h .1 .places) (h .1 .written) .room
+      room (Reached n last) h w = w (h .1 .places) (h .1 .decoded) .room
       room Unreached h w = w [] refl .room
       room (Refused n ℓ) h w = absurd h
 
@@ -117,19 +122,19 @@ unfolding called early outcome
 in-room text short e = rw e (⊎-elim (λ (q : bytes-wrong ≡ true). rw q refl) (λ (q : bytes-wrong ≡ false). rw q refl) (either bytes-wrong))
   where
     bytes-wrong : Bool
-    bytes-wrong = eqb (length text) 0 || ltb 16384 (length text)
+    bytes-wrong = eqb (length text) 0 || ltb limit.text (length text)
 
-pub answered : (text work run : List ℕ) (a : Analysis) (work′ run′ : List ℕ) → 32768 ≤ length work → 8640 ≤ length run → Analyzes text work run a work′ run′ → Leaves (outcome text) work run a work′ run′
-answered text work run a work′ run′ h l w = rw (in-room text (short (length work) (length run)) (rw (le-ltb (length work) 32768 h, le-ltb (length run) 8640 l) refl)) at w
+pub answered : (text work run : List ℕ) (a : Analysis) (work′ run′ : List ℕ) → limit.work ≤ length work → limit.run ≤ length run → Analyzes text work run a work′ run′ → Leaves (outcome text) work run a work′ run′
+answered text work run a work′ run′ h l w = rw (in-room text (short (length work) (length run)) (rw (le-ltb (length work) limit.work h, le-ltb (length run) limit.run l) refl)) at w
 
 -- EVERY TEXT. What reading and analyzing it leave can be listed, and the listing is the output
-module _ (text work run : List ℕ) (r : Reading) (a : Analysis) (work′ run′ : List ℕ) (whole : length (a .states) ≡ 127) where
-  pub text-ready : (o : Outcome) → outcome text ≡ o → Reads o text r → Leaves o work run a work′ run′ → 8640 ≤ length run′ → Ready text (r .model) (a .states) (a .count) run′ (a .answer)
+module _ (text work run : List ℕ) (r : Reading) (a : Analysis) (work′ run′ : List ℕ) (whole : length (a .states) ≡ limit.atomic) where
+  pub text-ready : (o : Outcome) → outcome text ≡ o → Reads o text r → Leaves o work run a work′ run′ → limit.run ≤ length run′ → Ready text (r .model) (a .states) (a .count) run′ (a .answer)
   text-ready (refused n ℓ) ok reads leaves long = rw (leaves .0) tt
   text-ready (accepted D P Q) ok reads leaves long = ready text D P Q (r .model) ok (reads .1) (reads .2) (a .states) (a .count) run run′ whole (leaves .1 .states) (a .answer) (leaves .1 .verdict) long
 
   module _ (d : List ℕ) (n : ℕ) (e : List ℕ) (w : Shows text (r .model) (a .states) (a .count) run′ (a .answer) d n e) where
-    pub text-output : (o : Outcome) → outcome text ≡ o → Reads o text r → Leaves o work run a work′ run′ → Output o text (take n e) × (n ≤ length d)
+    pub text-output : (o : Outcome) → outcome text ≡ o → Reads o text r → Leaves o work run a work′ run′ → Listing o text a run′ (take n e) × (n ≤ length d)
     text-output (refused k ℓ) ok reads leaves = let v = (rw (leaves .0) at w) in (v .front, v .room)
     text-output (accepted D P Q) ok reads leaves = (
       lists text D P Q (r .model) ok (reads .1) (reads .2) (a .states) (a .count) run run′ whole (leaves .1 .states) d n e (a .answer) (leaves .1 .verdict) w,

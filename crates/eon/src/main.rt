@@ -3,20 +3,19 @@ use analyzer_verdict::Analysis;
 use analyzer_verdict::Answer;
 use libc::STDIN_FILENO;
 use libc::STDOUT_FILENO;
+use limits::RUN;
+use limits::TEXT;
 use limits::WORK;
 use model::Model;
 ghost use Prim.Native.Nat.{_≤_};
 ghost use lib.ListN.{length, take};
+ghost use Rattle.limits.specs.Limits as limit;
 ghost use Rattle.io.specs.Counts.{Counts};
-ghost use Rattle.grammar.specs.Texts.{outcome};
 ghost use Rattle.listing.specs.Report.{size};
 ghost use Rattle.eon.specs.Output.{Front, Ready, Shows, Output};
 
 // One byte more than a text may have, so that a longer one is refused by its first bytes.
-const TEXT: usize = 16_385;
-
-// The places of the run table.
-const RUN: usize = 8_640;
+const INPUT: usize = TEXT + 1;
 
 // How many bytes were read, or that reading failed.
 enum Input {
@@ -56,14 +55,14 @@ fn list(out: &mut [u8], text: &[u8], m: Model, a: Analysis, run: &[u32]) -> usiz
             listing::put_listing(out, text, m, true, &states, k, run, places)
         }
         Answer::Unreached => listing::put_listing(out, text, m, false, &states, k, run, 0),
-        Answer::Refused { number, line } => listing_lines::refused_line(out, number, line),
+        Answer::Refused { number, line } => listing::put_refusal(out, number, line),
     }
 }
 
 // Analyzes the text and writes what the program is to write into the slice; says how many bytes that is.
 fn mark(text: &[u8], work: &mut [u8], run: &mut [u32], out: &mut [u8]) -> usize
-    requires { ⌜ (32768 ≤ length (now work)) × (8640 ≤ length (now run)) × (size ≤ length (now out)) ⌝ }
-    ensures { λ r. ⌜ Output (outcome (now (text .entry))) (now (text .entry)) (take r (now (out .exit))) × Counts r (now (out .exit)) ⌝ }
+    requires { ⌜ (limit.work ≤ length (now work)) × (limit.run ≤ length (now run)) × (size ≤ length (now out)) ⌝ }
+    ensures { λ r. ⌜ Output (now (text .entry)) (now (work .entry)) (now (run .entry)) (now (work .exit)) (now (run .exit)) (take r (now (out .exit))) × Counts r (now (out .exit)) ⌝ }
 {
     let reading = text::read(text);
     let analysis = analyzer::analyze(text, work, run);
@@ -83,7 +82,7 @@ fn answer(text: &[u8]) {
 }
 
 fn main() {
-    let mut text = [0u8; TEXT];
+    let mut text = [0u8; INPUT];
     let input = read_input(&mut text);
     match input {
         Input::Bytes { count } => answer(&text[..count]),

@@ -5,13 +5,14 @@ use Prim.Native.Nat.{ℕ, _+_}
 use native.Mathlib.Omega.{arith}
 use lib.ListN.{length, take, drop, getD, set, replicate, take-append-drop}
 use lib.Seq.{paste, take-all, drop-cons, drop-length, length-take-le}
+use Rattle.limits.specs.Limits as limit
 use Rattle.analyzer_verdict.specs.declared.Analysis.{Analysis}
 use Rattle.analyzer.specs.Analyzing as analyzing
 use Rattle.replay_session.specs.declared.Session.{Session}
 use Rattle.exports.specs.Cells.{table, stateOf, cellsOf}
 
 -- beside an answer of the analysis
-pub table-filled : (a : Analysis) (last : ℕ) → length (a .states) ≡ 127
+pub table-filled : (a : Analysis) (last : ℕ) → length (a .states) ≡ limit.atomic
     → paste (set (set (replicate 129 0) 0 (a .count)) 128 last) 1 (a .states) (length (a .states)) ≡ table a last
 table-filled a last h = rw (take-all (length (a .states)) (a .states) (omega arith), h) refl
 

@@ -3,16 +3,16 @@ use mathlib.Core.Path.{_≡_, sym, ap, _∙_}
 use mathlib.Core.Logic.{⊎-elim}
 use mathlib.Core.Bool.{Bool, true, false}
 use mathlib.Core.List.{List, [], _∷_, map}
-use mathlib.Core.Option.{some}
 use Prim.Native.Nat.{ℕ, suc, _+_, _≤_}
 use native.Mathlib.Omega.{arith}
 use lib.Dec.{eqb, ltb}
 use lib.ListN.{length, take, length-append, length-map, length-take}
 use borrow.Author.Tests.{eqb-true, eqb-false, ltb-false}
+use Rattle.limits.specs.Limits as limit
 use Rattle.semantics.specs.Models.{Line, rule, new, next, other, line, Program, Question}
 use Rattle.semantics.specs.Runs as runs
 use Rattle.semantics.specs.Runs.{step, meet, start, after}
-use Rattle.model.specs.Places.{placeOf}
+use Rattle.model.specs.Places.{numberOf}
 use Rattle.grammar.specs.Declarations.{Declared}
 use Rattle.grammar.specs.Texts.{Outcome, accepted, refused, outcome}
 use Rattle.grammar.proofs.Tests.{either}
@@ -22,7 +22,6 @@ use Rattle.calls.proofs.Laws.{called-early, called-lines, sizes}
 use Rattle.analyzer_verdict.specs.declared.Answer.{Answer}
 use Rattle.analyzer_verdict.specs.declared.Answer.the-variants.{Reached, Unreached, Refused}
 use Rattle.analyzer_verdict.specs.declared.Analysis.{Analysis}
-use Rattle.analyzer_verdict.specs.Judging as judging
 use Rattle.analyzer_verdict.specs.Judging.{Answered}
 use Rattle.analyzer.specs.Analyzing.{Leaves}
 use Rattle.replay_session.specs.declared.Answer as session
@@ -54,8 +53,8 @@ called-taken text short long D P Q e = ⊎-elim
 
 -- THE ANALYSIS
 module _ (P : Program) (Q : Question) (run run′ : List ℕ) where
-  run-places : (n : ℕ) (ps : List runs.Place) → map placeOf (take n run′) ≡ map some ps → n ≡ length ps → n ≤ length run′
-  run-places n ps e h = omega (arith, h, length-take n run′, length-map (take n run′) placeOf, length-map {B = _} ps some, ap length e)
+  run-places : (n : ℕ) (ps : List runs.Place) → take n run′ ≡ map numberOf ps → n ≡ length ps → n ≤ length run′
+  run-places n ps e h = omega (arith, h, length-take n run′, length-map ps numberOf, ap length e)
 
   answer-fits : (a : Answer) → Answered P Q run run′ a → ShortRun a × Shown (length run′) a
   answer-fits (Reached n last) h =
@@ -65,7 +64,7 @@ module _ (P : Program) (Q : Question) (run run′ : List ℕ) where
   answer-fits (Refused n l) h = absurd h
 
 pub analysis-fits : (o : Outcome) (work run : List ℕ) (a : Analysis) (work′ run′ : List ℕ) → Leaves o work run a work′ run′
-    → ShortRun (a .answer) × Shown (length run′) (a .answer) × (a .count ≤ 127)
+    → ShortRun (a .answer) × Shown (length run′) (a .answer) × (a .count ≤ limit.atomic)
 analysis-fits (refused n l) work run a work′ run′ h = rw (h .0) (tt, tt, omega arith)
 analysis-fits (accepted D P Q) work run a work′ run′ h =
     let f = answer-fits P Q run run′ (a .answer) (h .1 .verdict) in
@@ -73,17 +72,17 @@ analysis-fits (accepted D P Q) work run a work′ run′ h =
 
 -- THE REPLAY
 module _ (P : Program) (Q : Question) where
-  within : (s : runs.Session) (ns : List ℕ) (i : ℕ) (a : session.Answer) → i + length ns ≤ 8640 → Replays P Q s ns i a → LowPlace a
+  within : (s : runs.Session) (ns : List ℕ) (i : ℕ) (a : session.Answer) → i + length ns ≤ limit.run → Replays P Q s ns i a → LowPlace a
   within s [] i reply.Kept h r = tt
   within s [] i (reply.Broken j) h r = omega (arith, r .1)
   within s [] i (reply.Refused n l) h r = tt
   within s (n ∷ ns) i a h r = ⊎-elim (λ w. within (after P Q s (w .0)) ns (suc i) a (omega arith) (w .3)) (λ w. rw (w .1) (omega arith)) r
 
-pub replay-fits : (text run work : List ℕ) (short : Bool) (a : session.Answer) (work′ : List ℕ) (o : Outcome) → called text short (ltb 8640 (length run)) ≡ o
+pub replay-fits : (text run work : List ℕ) (short : Bool) (a : session.Answer) (work′ : List ℕ) (o : Outcome) → called text short (ltb limit.run (length run)) ≡ o
     → Replayed o run work a work′ → LowPlace a
 replay-fits text run work short a work′ (refused n l) e h = rw (h .0) tt
 replay-fits text run work short a work′ (accepted D P Q) e h =
-    within P Q (start []) run 0 a (omega (arith, ltb-false 8640 (length run) (called-taken text short (ltb 8640 (length run)) D P Q e .long-not))) (h .0)
+    within P Q (start []) run 0 a (omega (arith, ltb-false limit.run (length run) (called-taken text short (ltb limit.run (length run)) D P Q e .long-not))) (h .0)
 
 -- ONE PLACE
 stepped-small : (Q : Question) (d : ℕ) (s : Session) → Fits d Q s → Small s → (o : ℕ) (l : Line) → Small (stepped s o l)

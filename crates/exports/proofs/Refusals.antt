@@ -9,6 +9,7 @@ use native.Mathlib.Omega.{arith}
 use lib.Dec.{eqb, ltb}
 use lib.ListN.{length}
 use borrow.Author.Tests.{ltb-false}
+use Rattle.limits.specs.Limits as limit
 use Rattle.semantics.specs.Models.{Program}
 use Rattle.grammar.specs.Bytes as bytes
 use Rattle.grammar.specs.Bytes.{Word, ended, unended, every, allowed, lines}
@@ -142,16 +143,16 @@ read-range m (l ∷ ls) n D P h = go (step n D P (judge l)) (step-range n D P (j
     go (adds E R) g rec = rec E R
     go (asks o) g rec = finish-range n m o ls g (omega arith)
 
-outcome-range : (text : List ℕ) → InRange 16385 (outcome text)
+outcome-range : (text : List ℕ) → InRange (limit.text + 1) (outcome text)
 unfolding outcome
 outcome-range text = go (either wrong-size)
   where
     wrong-size : Bool
-    wrong-size = eqb (length text) 0 || ltb 16384 (length text)
+    wrong-size = eqb (length text) 0 || ltb limit.text (length text)
 
-    go : (wrong-size ≡ true) ⊎ (wrong-size ≡ false) → InRange 16385 (outcome text)
+    go : (wrong-size ≡ true) ⊎ (wrong-size ≡ false) → InRange (limit.text + 1) (outcome text)
     go (inl q) = rw q (omega arith, omega arith)
-    go (inr q) = rw q (read-range 16385 (lines text) 1 [] [] (omega (arith, length-lines text, ltb-false 16384 (length text) (or-false (eqb (length text) 0) (ltb 16384 (length text)) q .1))))
+    go (inr q) = rw q (read-range (limit.text + 1) (lines text) 1 [] [] (omega (arith, length-lines text, ltb-false limit.text (length text) (or-false (eqb (length text) 0) (ltb limit.text (length text)) q .1))))
 
 -- EVERY CALL
 rows-range : (b short long : Bool) → cond b 1 (cond short 12 (cond long 14 0)) ≤ 14
@@ -160,16 +161,16 @@ rows-range false true long = omega arith
 rows-range false false true = omega arith
 rows-range false false false = omega arith
 
-pub called-range : (text : List ℕ) (short long : Bool) → InRange 16385 (called text short long)
+pub called-range : (text : List ℕ) (short long : Bool) → InRange (limit.text + 1) (called text short long)
 unfolding called early
-called-range text short long = ⊎-elim (λ (q : eqb first 0 ≡ true). rw q (outcome-range text)) (λ (q : eqb first 0 ≡ false). rw q (rows-range (eqb (length text) 0 || ltb 16384 (length text)) short long, omega arith)) (either (eqb first 0))
+called-range text short long = ⊎-elim (λ (q : eqb first 0 ≡ true). rw q (outcome-range text)) (λ (q : eqb first 0 ≡ false). rw q (rows-range (eqb (length text) 0 || ltb limit.text (length text)) short long, omega arith)) (either (eqb first 0))
   where
     first : ℕ
-    first = cond (eqb (length text) 0 || ltb 16384 (length text)) 1 (cond short 12 (cond long 14 0))
+    first = cond (eqb (length text) 0 || ltb limit.text (length text)) 1 (cond short 12 (cond long 14 0))
 
 -- KIND AND VALUE are read off an answer's number, and a refusal's number and line off its value
 pub code-read : (kind value : ℕ) → value < 4294967296 → (code kind value / 4294967296 ≡ kind) × (code kind value % 4294967296 ≡ value)
 code-read kind value h = (omega arith, omega arith)
 
-pub refusal-read : (n l : ℕ) → n ≤ 14 → l ≤ 16385 → (n * 65536 + l < 4294967296) × ((n * 65536 + l) / 65536 ≡ n) × ((n * 65536 + l) % 65536 ≡ l)
+pub refusal-read : (n l : ℕ) → n ≤ 14 → l ≤ (limit.text + 1) → (n * 65536 + l < 4294967296) × ((n * 65536 + l) / 65536 ≡ n) × ((n * 65536 + l) % 65536 ≡ l)
 refusal-read n l h k = (omega arith, omega arith, omega arith)

@@ -1,7 +1,8 @@
 -- CELLS: rows of numbers in place of records.
 use mathlib.Core.List.{List, [], _∷_, _++_}
-use Prim.Native.Nat.{ℕ, _-_}
+use Prim.Native.Nat.{ℕ, _+_, _-_}
 use lib.ListN.{take, getD}
+use Rattle.limits.specs.Limits as limit
 use Rattle.analyzer_verdict.specs.declared.Answer.{Answer}
 use Rattle.analyzer_verdict.specs.declared.Answer.the-variants.{Reached, Unreached, Refused}
 use Rattle.analyzer_verdict.specs.declared.Analysis.{Analysis}
@@ -19,7 +20,7 @@ table a last = a .count ∷ (a .states ++ (last ∷ []))
 
 -- THE REPLAY'S STATE: 255 atomic states, the number of objects, the stages met, the carried object, the places kept
 abbrev pub stateOf : List ℕ → Session
-stateOf cells = record { states = take 255 cells; objects = getD cells 255 0; met = getD cells 256 0; carried = getD cells 257 0; kept = getD cells 258 0 }
+stateOf cells = record { states = take limit.objects cells; objects = getD cells limit.objects 0; met = getD cells (limit.objects + 1) 0; carried = getD cells (limit.objects + 2) 0; kept = getD cells (limit.objects + 3) 0 }
 
 abbrev pub cellsOf : Session → List ℕ
 cellsOf s = s .states ++ (s .objects ∷ s .met ∷ s .carried ∷ s .kept ∷ [])

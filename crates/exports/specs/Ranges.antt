@@ -1,14 +1,15 @@
 -- NUMBERS THAT FIT their cells and codes.
 use Prim.Native.Nat.{ℕ, _≤_, _<_}
+use Rattle.limits.specs.Limits as limit
 use Rattle.analyzer_verdict.specs.declared.Answer.{Answer}
 use Rattle.analyzer_verdict.specs.declared.Answer.the-variants.{Reached, Unreached, Refused}
 use Rattle.replay_session.specs.declared.Answer as session
 use Rattle.replay_session.specs.declared.Answer.the-variants as reply
 use Rattle.replay_session.specs.declared.Session.{Session}
 
--- a run has at most 8,640 places
+-- a shown run has at most 8,637 places
 abbrev pub ShortRun : Answer → Type 0
-ShortRun (Reached n last) = n ≤ 8640
+ShortRun (Reached n last) = n ≤ limit.shown
 ShortRun Unreached = Unit {0}
 ShortRun (Refused n l) = Unit {0}
 

@@ -1,16 +1,33 @@
 // The public calls for C and Rust: answers as numbers, records as rows of cells (include/eon.h).
 use analyzer_verdict::Analysis;
+use limits::ATOMIC;
+use limits::OBJECTS;
 use replay_session::Session;
 ghost use mathlib.Core.Path.{_≡_};
 ghost use Prim.Native.Nat.{_+_, _≤_};
 ghost use lib.ListN.{length};
 ghost use lib.Seq.{paste};
+ghost use Rattle.limits.specs.Limits as limit;
 ghost use Rattle.grammar.specs.Texts.{outcome};
 ghost use Rattle.lines.specs.Lines.{lineAt};
 ghost use Rattle.exports.specs.Codes.{refusal as refusalCode, coded as codeOf, replied as replyCode};
 ghost use Rattle.exports.specs.Cells.{lastNumber, table as tableOf, stateOf, cellsOf};
 ghost use Rattle.exports.specs.Calls.{Analyzed, Replayed, Placed};
 ghost use Rattle.exports.specs.Ranges.{ShortRun, LowPlace, Shown, Small};
+
+// The cells beside an answer of the analysis, of which the last has the shown run's last place.
+const LAST: usize = ATOMIC + 1;
+
+const OUT: usize = ATOMIC + 2;
+
+// The cells of a replay's state: behind the objects' states their number, the stages met, the carried object and the places kept.
+const MET: usize = OBJECTS + 1;
+
+const CARRIED: usize = OBJECTS + 2;
+
+const KEPT: usize = OBJECTS + 3;
+
+const SESSION: usize = OBJECTS + 4;
 
 // Copies the numbers into the cells from place `at` on.
 fn copy(cells: &mut [u32], at: usize, numbers: &[u32])
@@ -68,44 +85,44 @@ fn last_number(answer: analyzer_verdict::Answer, run: &[u32]) -> u32
 }
 
 // The cells beside an answer of the analysis.
-fn table(a: Analysis, last: u32) -> [u32; 129]
-    requires { ⌜ a .count ≤ 127 ⌝ }
+fn table(a: Analysis, last: u32) -> [u32; OUT]
+    requires { ⌜ a .count ≤ limit.atomic ⌝ }
     ensures { λ r. ⌜ r ≡ tableOf a last ⌝ }
 {
     let states = a.states;
-    let mut cells = [0u32; 129];
+    let mut cells = [0u32; OUT];
     cells[0] = a.count as u32;
-    cells[128] = last;
+    cells[LAST] = last;
     copy(&mut cells, 1, &states);
     cells
 }
 
 // The replay's state that the cells say.
-fn unpack(cells: [u32; 259]) -> Session
+fn unpack(cells: [u32; SESSION]) -> Session
     ensures { λ r. ⌜ (r ≡ stateOf cells) × Small r ⌝ }
 {
-    let mut states = [0u32; 255];
-    copy(&mut states, 0, &cells[..255]);
+    let mut states = [0u32; OBJECTS];
+    copy(&mut states, 0, &cells[..OBJECTS]);
     Session {
         states,
-        objects: cells[255] as usize,
-        met: cells[256] as usize,
-        carried: cells[257],
-        kept: cells[258] as usize,
+        objects: cells[OBJECTS] as usize,
+        met: cells[MET] as usize,
+        carried: cells[CARRIED],
+        kept: cells[KEPT] as usize,
     }
 }
 
 // The cells of a replay's state.
-fn pack(s: Session) -> [u32; 259]
+fn pack(s: Session) -> [u32; SESSION]
     requires { ⌜ Small s ⌝ }
     ensures { λ r. ⌜ r ≡ cellsOf s ⌝ }
 {
     let states = s.states;
-    let mut cells = [0u32; 259];
-    cells[255] = s.objects as u32;
-    cells[256] = s.met as u32;
-    cells[257] = s.carried;
-    cells[258] = s.kept as u32;
+    let mut cells = [0u32; SESSION];
+    cells[OBJECTS] = s.objects as u32;
+    cells[MET] = s.met as u32;
+    cells[CARRIED] = s.carried;
+    cells[KEPT] = s.kept as u32;
     copy(&mut cells, 0, &states);
     cells
 }
@@ -116,7 +133,7 @@ pub extern "C" fn eon_analyze(
     text: &[u8],
     work: &mut [u8],
     run: &mut [u32],
-    out: &mut [u32; 129],
+    out: &mut [u32; OUT],
 ) -> u64
     ensures { λ r. ⌜ Analyzed (now (text .entry)) (now (work .entry)) (now (run .entry)) r (now (work .exit)) (now (run .exit)) (now (out .exit)) ⌝ }
 {
@@ -140,14 +157,14 @@ pub extern "C" fn eon_replay(text: &[u8], run: &[u32], work: &mut [u8]) -> u64
 #[no_mangle]
 pub extern "C" fn eon_place(
     text: &[u8],
-    session: &mut [u32; 259],
+    session: &mut [u32; SESSION],
     place: u32,
     work: &mut [u8],
 ) -> u64
     ensures { λ r. ⌜ Placed (now (text .entry)) (now (session .entry)) place (now (work .entry)) r (now (session .exit)) (now (work .exit)) ⌝ }
 {
     let cells = *session;
-    let reply = replay::place(text, unpack(cells), place, work);
+    let reply = lent::place(text, unpack(cells), place, work);
     let after = reply.session;
     let left = pack(after);
     *session = left;

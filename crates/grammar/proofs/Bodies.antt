@@ -2,7 +2,6 @@
 use mathlib.Core.Path.{_≡_, refl, sym}
 use mathlib.Core.Bool.{true}
 use mathlib.Core.List.{List, [], _∷_, _++_, append-assoc, append-nil}
-use Rattle.semantics.specs.Models as meaning
 use Rattle.grammar.specs.Bytes.{Word}
 use Rattle.grammar.specs.Forms.{Literal, plain, negated}
 use Rattle.grammar.specs.Declarations.{Declared, member, extend, variables, variablesOf, supports, supportsOf}

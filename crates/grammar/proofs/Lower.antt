@@ -1,12 +1,12 @@
 -- The lower of two row numbers: 0 is neutral, and the order does not matter.
 use mathlib.Core.Path.{_≡_, sym, _∙_}
 use mathlib.Core.Logic.{⊎-elim, _⊎_, inl, inr}
-use mathlib.Core.Bool.{true, false, not}
-use Prim.Native.Nat.{ℕ, zero, min, _≤_}
+use mathlib.Core.Bool.{true, false}
+use Prim.Native.Nat.{ℕ, min, _≤_}
 use native.Mathlib.Omega.{arith}
 use lib.Dec.{eqb}
 use borrow.Author.Tests.{eqb-true, eqb-false, eq-eqb, ne-eqb}
-use Rattle.grammar.specs.Rows.{lower, row}
+use Rattle.grammar.specs.Rows.{lower}
 use Rattle.grammar.proofs.Tests.{either}
 
 module _ (a b : ℕ) where

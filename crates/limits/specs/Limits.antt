@@ -1,5 +1,5 @@
 -- THE LIMITS of document 01: each figure stands here, under its name, and everywhere else the name.
-use Prim.Native.Nat.{ℕ, _+_, _*_, _^_}
+use Prim.Native.Nat.{ℕ, _+_, _-_, _*_, _/_, _^_}
 
 -- THE BRACKET TEXT. Row 1: "no bytes, or over 16,384"
 abbrev pub text : ℕ
@@ -58,6 +58,13 @@ none = 255
 -- "1 + 2 + .. + 127 .. for one object of each state": the non-empty sets of state relations
 abbrev pub atomic : ℕ
 atomic = 127
+
+-- "A shown run needs at most 8,633 steps: 1 + 2 + .. + 127 = 8,128 for one object of each state, 127 for the carried object, and 3 × 126 between stages; with 4 meetings, 8,637 places."
+abbrev pub built : ℕ
+built = atomic * (atomic + 1) / 2
+
+abbrev pub shown : ℕ
+shown = built + atomic + (stages - 1) * (atomic - 1) + stages
 
 -- WHAT FOLLOWS: the declared relations, the numbers of atomic states, the literals of all lines, the variables of an `ask` line
 abbrev pub declared : ℕ

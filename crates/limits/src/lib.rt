@@ -43,6 +43,9 @@ pub const NONE: u32 = 255;
 // The reachable atomic states.
 pub const ATOMIC: usize = 127;
 
+// The numbers of atomic states.
+pub const SETS: u32 = 1 << STATES;
+
 // The declared relations.
 pub const DECLARED: usize = STATES + RELS;
 

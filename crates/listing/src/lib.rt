@@ -1,7 +1,8 @@
-// The listing of a verdict, written into a lent slice.
+// The listing of a verdict, or the line of a refusal, written into a lent slice.
 use listing_lines::LONGEST;
 use listing_lines::atomic_line;
 use listing_lines::place_line;
+use listing_lines::refused_line;
 use listing_lines::states_line;
 use listing_lines::verdict_line;
 use model::Model;
@@ -10,8 +11,8 @@ ghost use Prim.Native.Nat.{_+_, _*_, _≤_};
 ghost use lib.ListN.{length, take};
 ghost use Rattle.model.specs.Places.{placeOf};
 ghost use Rattle.model.specs.WellFormed.{GoodRelations};
-ghost use Rattle.listing_bytes.specs.Writing.{Writes};
-ghost use Rattle.listing_lines.specs.Lines.{verdictLine, statesLine, atomicLine, lineFor, Named, longest};
+ghost use Rattle.listing_bytes.specs.Writing.{Writes, WritesLine};
+ghost use Rattle.listing_lines.specs.Lines.{verdictLine, statesLine, atomicLine, lineFor, Named, refusedLine, longest};
 ghost use Rattle.listing.specs.Report.{stateLines, runLines, size, Listable, WritesListing};
 
 // Bytes that have room for every listing.
@@ -91,4 +92,12 @@ pub fn put_listing(
     let summary = put_summary(out, reached, k as u32);
     let listed = put_states(out, summary, text, m, states, k);
     put_run(out, listed, run, n)
+}
+
+// Writes the line of a refusal, and says how many bytes it has.
+pub fn put_refusal(out: &mut [u8], number: u32, line: u32) -> usize
+    requires { ⌜ size ≤ length (now out) ⌝ }
+    ensures { λ r. ⌜ WritesLine (now (out .entry)) (refusedLine number line) r (now (out .exit)) ⌝ }
+{
+    refused_line(out, number, line)
 }

@@ -1,6 +1,7 @@
 // Adding entries to the levels: the carried object is moved on its level, or a stage is met.
 use search_entries::Levels;
 ghost use Prim.Native.Nat.{_<_, _≤_, _+_};
+ghost use Rattle.limits.specs.Limits as limit;
 ghost use Rattle.search_entries.specs.Entries.{Proper};
 ghost use Rattle.search_carried.specs.Carry.{FindsEntry, MovesAt, MovesTo, HandsOn};
 
@@ -43,7 +44,7 @@ fn move_at(s: Carried, k: usize, from: u32, to: u32, line: u32) -> Carried
 
 // The same on each of the first n levels.
 pub fn move_all(s: Carried, n: usize, from: u32, to: u32, line: u32) -> Carried
-    requires { ⌜ Proper (s .levels) × (n ≤ 4) × (to < 129) × (1 ≤ line) ⌝ }
+    requires { ⌜ Proper (s .levels) × (n ≤ limit.stages) × (to < 129) × (1 ≤ line) ⌝ }
     ensures { λ r. ⌜ MovesTo s n from to line r ⌝ }
 {
     let mut r = s;
@@ -58,7 +59,7 @@ pub fn move_all(s: Carried, n: usize, from: u32, to: u32, line: u32) -> Carried
 
 // A stage is met on level k for an object that the entry stands for: where nothing is carried yet, or that object is.
 pub fn hand_on(s: Carried, k: usize, entry: u32) -> Carried
-    requires { ⌜ Proper (s .levels) × (k < 4) × (1 ≤ entry) × (entry < 129) ⌝ }
+    requires { ⌜ Proper (s .levels) × (k < limit.stages) × (1 ≤ entry) × (entry < 129) ⌝ }
     ensures { λ r. ⌜ HandsOn s k entry r ⌝ }
 {
     let levels = s.levels;

@@ -5,6 +5,7 @@ use mathlib.Core.Bool.{true, false}
 use mathlib.Core.List.{List, []}
 use Prim.Native.Nat.{ℕ, suc, _<_}
 use lib.ListN.{length, getD}
+use Rattle.limits.specs.Limits as limit
 use Rattle.semantics.specs.Models.{elem, Body, vars, Program, Question}
 use Rattle.semantics.specs.Facts.{Database, state, Meets}
 use Rattle.semantics.specs.Tables.{Shows, SoundFacts}
@@ -41,7 +42,7 @@ pub record MeetsFor (w : List ℕ) (S : Database) (k : ℕ) (b : Body) (x : ℕ)
 -- the stage can be met: its body can be evaluated, and its variables have different numbers in the question
 pub record Meetable (row : List ℕ) (t : Stage) : Type 0 where
   pub body : Evaluable row (record { first = t .first; count = t .count; variables = t .variables })
-  pub numbers : length (t .numbers) ≡ 3
+  pub numbers : length (t .numbers) ≡ limit.variables
   pub every : (x : ℕ) → elem x (vars (stageBody row t)) ≡ true ↔ x < t .variables
   pub different : Injective (numberIn t) (vars (stageBody row t))
 

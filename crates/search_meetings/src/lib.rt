@@ -4,6 +4,7 @@ use model::Stage;
 use search_carried::Carried;
 ghost use Prim.Native.Nat.{_<_};
 ghost use lib.ListN.{take};
+ghost use Rattle.limits.specs.Limits as limit;
 ghost use Rattle.model.specs.Records.{bodyAt, stageBody, numberIn};
 ghost use Rattle.facts_candidates.specs.Choices.{Own};
 ghost use Rattle.search_entries.specs.Entries.{Proper};
@@ -16,7 +17,7 @@ const ROOM: usize = 129;
 
 // A stage in which the carried variable does not stand is met on level k: every entry goes on as it is.
 fn pass_on(s: Carried, k: usize) -> Carried
-    requires { ⌜ Proper (s .levels) × (k < 4) ⌝ }
+    requires { ⌜ Proper (s .levels) × (k < limit.stages) ⌝ }
     ensures { λ r. ⌜ PassesOn s k r ⌝ }
 {
     let levels = s.levels;
@@ -46,7 +47,7 @@ fn meet_at(
     s: Carried,
     e: usize,
 ) -> Carried
-    requires { ⌜ Over (now work) (now states) n × Own 128 (now slots) × Evaluable (now literals) part × (x < part .variables) × (k < 4) × Proper (s .levels) × (e < n) ⌝ }
+    requires { ⌜ Over (now work) (now states) n × Own 128 (now slots) × Evaluable (now literals) part × (x < part .variables) × (k < limit.stages) × Proper (s .levels) × (e < n) ⌝ }
     ensures { λ r. ⌜ MeetsFor (now (work .entry)) (take n (now (states .entry))) k (bodyAt (now (literals .entry)) (part .first) (part .count)) x s r (HandedAt (now (work .entry)) (take n (now (states .entry))) k (bodyAt (now (literals .entry)) (part .first) (part .count)) x e) ⌝ }
 {
     if facts_holds::at(work, slots, n, literals, part, x, e) {
@@ -67,7 +68,7 @@ fn meet_carried(
     k: usize,
     s: Carried,
 ) -> Carried
-    requires { ⌜ Over (now work) (now states) n × Own 128 (now slots) × Evaluable (now literals) part × (x < part .variables) × (k < 4) × Proper (s .levels) ⌝ }
+    requires { ⌜ Over (now work) (now states) n × Own 128 (now slots) × Evaluable (now literals) part × (x < part .variables) × (k < limit.stages) × Proper (s .levels) ⌝ }
     ensures { λ r. ⌜ MeetsFor (now (work .entry)) (take n (now (states .entry))) k (bodyAt (now (literals .entry)) (part .first) (part .count)) x s r (Handed (now (work .entry)) (take n (now (states .entry))) k (bodyAt (now (literals .entry)) (part .first) (part .count)) x) ⌝ }
 {
     let mut r = s;
@@ -92,7 +93,7 @@ pub fn meet(
     k: usize,
     s: Carried,
 ) -> Carried
-    requires { ⌜ Over (now work) (now states) n × Own 128 (now slots) × Meetable (now literals) stage × (k < 4) × Proper (s .levels) ⌝ }
+    requires { ⌜ Over (now work) (now states) n × Own 128 (now slots) × Meetable (now literals) stage × (k < limit.stages) × Proper (s .levels) ⌝ }
     ensures { λ r. ⌜ Meeting (now (work .entry)) (take n (now (states .entry))) k (stageBody (now (literals .entry)) stage) (numberIn stage) carried s r ⌝ }
 {
     let variables = stage.variables as usize;

@@ -5,6 +5,7 @@ use mathlib.Core.Bool.{true, false}
 use mathlib.Core.List.{List}
 use Prim.Native.Nat.{ℕ, suc, _≤_, _<_}
 use lib.ListN.{length, take}
+use Rattle.limits.specs.Limits as limit
 use Rattle.semantics.specs.Labels.{relabel}
 use Rattle.semantics.specs.Models.{elem, Body, Line, rule, new, next, other, Program, line, Question}
 use Rattle.semantics.specs.Facts.{Database, state}
@@ -16,9 +17,9 @@ use Rattle.search_carried.specs.Carry.{Real, Has, Goes}
 
 -- the first n numbers are the found states, and the work area shows them
 pub record Over (w states : List ℕ) (n : ℕ) : Type 0 where
-  pub few : n ≤ 127
+  pub few : n ≤ limit.atomic
   pub long : n ≤ length states
-  pub atomic : (t : ℕ) → elem t (take n states) ≡ true → (1 ≤ t) × (t < 128)
+  pub atomic : (t : ℕ) → elem t (take n states) ≡ true → (1 ≤ t) × (t < limit.sets)
   pub agree : Consistent w
   pub shown : Rows (take n states) w
 

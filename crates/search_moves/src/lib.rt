@@ -5,6 +5,7 @@ use model::Clause;
 use search_carried::Carried;
 ghost use Prim.Native.Nat.{_<_, _≤_};
 ghost use lib.ListN.{take};
+ghost use Rattle.limits.specs.Limits as limit;
 ghost use Rattle.semantics.specs.Models.{next};
 ghost use Rattle.model.specs.Records.{bodyAt, clauseLine};
 ghost use Rattle.facts_candidates.specs.Choices.{Own};
@@ -28,7 +29,7 @@ fn take_next_at(
     s: Carried,
     e: usize,
 ) -> Carried
-    requires { ⌜ Over (now work) (now states) n × Own 128 (now slots) × Evaluable (now literals) part × (0 < part .variables) × (plus < 128) × (minus < 128) × (1 ≤ line) × (stages ≤ 4) × Proper (s .levels) × (e < n) ⌝ }
+    requires { ⌜ Over (now work) (now states) n × Own 128 (now slots) × Evaluable (now literals) part × (0 < part .variables) × (plus < limit.sets) × (minus < limit.sets) × (1 ≤ line) × (stages ≤ limit.stages) × Proper (s .levels) × (e < n) ⌝ }
     ensures { λ r. ⌜ Takes (now (work .entry)) (take n (now (states .entry))) stages s line (next 0 plus minus (bodyAt (now (literals .entry)) (part .first) (part .count))) r (KeepsAt (now (work .entry)) (take n (now (states .entry))) stages plus minus (bodyAt (now (literals .entry)) (part .first) (part .count)) e) ⌝ }
 {
     if facts_holds::at(work, slots, n, literals, part, 0, e) {
@@ -56,7 +57,7 @@ fn take_next(
     stages: usize,
     s: Carried,
 ) -> Carried
-    requires { ⌜ Over (now work) (now states) n × Own 128 (now slots) × Evaluable (now literals) part × (0 < part .variables) × (plus < 128) × (minus < 128) × (1 ≤ line) × (stages ≤ 4) × Proper (s .levels) ⌝ }
+    requires { ⌜ Over (now work) (now states) n × Own 128 (now slots) × Evaluable (now literals) part × (0 < part .variables) × (plus < limit.sets) × (minus < limit.sets) × (1 ≤ line) × (stages ≤ limit.stages) × Proper (s .levels) ⌝ }
     ensures { λ r. ⌜ Takes (now (work .entry)) (take n (now (states .entry))) stages s line (next 0 plus minus (bodyAt (now (literals .entry)) (part .first) (part .count))) r (Keeps (now (work .entry)) (take n (now (states .entry))) stages (next 0 plus minus (bodyAt (now (literals .entry)) (part .first) (part .count)))) ⌝ }
 {
     let mut r = s;
@@ -93,7 +94,7 @@ pub fn take(
     stages: usize,
     s: Carried,
 ) -> Carried
-    requires { ⌜ Over (now work) (now states) n × Own 128 (now slots) × Takable (now literals) c × (1 ≤ c .line) × (stages ≤ 4) × Proper (s .levels) ⌝ }
+    requires { ⌜ Over (now work) (now states) n × Own 128 (now slots) × Takable (now literals) c × (1 ≤ c .line) × (stages ≤ limit.stages) × Proper (s .levels) ⌝ }
     ensures { λ r. ⌜ Takes (now (work .entry)) (take n (now (states .entry))) stages s (c .line) (clauseLine (now (literals .entry)) c) r (Keeps (now (work .entry)) (take n (now (states .entry))) stages (clauseLine (now (literals .entry)) c)) ⌝ }
 {
     let part = Part {

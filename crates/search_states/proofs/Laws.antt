@@ -10,6 +10,7 @@ use borrow.Author.Tests.{eqb-true, eqb-false, eq-eqb}
 use lib.Dec.{eqb}
 use lib.ListN.{length, length-set}
 use lib.Seq.{take-suc-set, length-take-le, getD-set-same, getD-set-other}
+use Rattle.limits.specs.Limits as limit
 use Rattle.semantics.specs.Models.{elem, Program, line, Distinct}
 use Rattle.semantics.specs.Tables.{Within, From}
 use Rattle.semantics.proofs.Tools.{either, same?, clash, or-true-cases, or-false, or-right, elem-here, elem-right, elem-cases, distinct-length}
@@ -88,18 +89,18 @@ module _ (s : States) (proper : Proper s) where
     unlisted = or-false (eqb t 0) (elem t (row s)) fresh .1
 
     -- there is room for a state that is not empty and not listed
-    pub room : s .count < 127
-    room = omega (arith, length-row, few (t ∷ row s) 127 (unlisted, proper .distinct) atomic)
+    pub room : s .count < limit.atomic
+    room = omega (arith, length-row, few (t ∷ row s) limit.atomic (unlisted, proper .distinct) atomic)
       where
         atomic : (x : ℕ) → elem x (t ∷ row s) ≡ true → (1 ≤ x) × (x < 128)
         atomic x e = ⊎-elim (λ q. rw (eqb-true x t q) (some, small)) (λ q. proper .atomic x q) (or-true-cases (eqb x t) (elem x (row s)) e)
 
   module _ (t ℓ p : ℕ) (small : t < 128) where
-    row-appended : s .count < 127 → row (appended s t ℓ p) ≡ row s ++ (t ∷ [])
+    row-appended : s .count < limit.atomic → row (appended s t ℓ p) ≡ row s ++ (t ∷ [])
     row-appended r = rw add-one (take-suc-set (s .states) (s .count) t (let b = proper .states in omega arith))
 
     module _ (fresh : (eqb t 0 || elem t (row s)) ≡ false) where
-      room-here : s .count < 127
+      room-here : s .count < limit.atomic
       room-here = room t small fresh
 
       proper-appended : Proper (appended s t ℓ p)
@@ -153,7 +154,7 @@ module _ (s : States) (proper : Proper s) where
         (either (eqb t 0 || elem t (row s)))
 
     -- nothing is added where the state is empty or listed; else the row has it behind
-    pub added-cases : (Within (row s) t × (added s t ℓ p ≡ s)) ⊎ ((s .count < 127) × (row (added s t ℓ p) ≡ row s ++ (t ∷ [])) × (added s t ℓ p .count ≡ s .count + 1))
+    pub added-cases : (Within (row s) t × (added s t ℓ p ≡ s)) ⊎ ((s .count < limit.atomic) × (row (added s t ℓ p) ≡ row s ++ (t ∷ [])) × (added s t ℓ p .count ≡ s .count + 1))
     unfolding added
     added-cases =
         ⊎-elim

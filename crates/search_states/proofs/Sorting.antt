@@ -8,6 +8,7 @@ use native.Mathlib.Omega.{arith}
 use native.Mathlib.Numerals.{add-one}
 use lib.ListN.{length, take, drop, getD, set, length-set, replicate}
 use lib.Seq.{take-suc-set, drop-set-lt, drop-drop, getD-set-same, getD-set-other}
+use Rattle.limits.specs.Limits as limit
 use Rattle.semantics.specs.Models.{elem}
 use Rattle.semantics.proofs.Tools.{same?, clash, elem-here, elem-left, elem-right, elem-cases}
 use Rattle.search_states.specs.declared.States.{States}
@@ -17,16 +18,16 @@ use Rattle.search_states.proofs.Laws.{only-one}
 
 -- the first n numbers of the row are those of S below t, rising, and the others are zero
 pub record ListsTo (S : List ℕ) (t : ℕ) (row : List ℕ) (n : ℕ) : Type 0 where
-  pub long : length row ≡ 127
+  pub long : length row ≡ limit.atomic
   pub first : n + 1 ≤ t
   pub last : t ≤ 128
   pub rising : Rising row n
   pub under : (i : ℕ) → i < n → getD row i 0 < t
   pub only : (x : ℕ) → elem x (take n row) ≡ true → (elem x S ≡ true) × (x < t)
   pub all : (x : ℕ) → x < t → elem x S ≡ true → elem x (take n row) ≡ true
-  pub rest : drop n row ≡ replicate (127 - n) 0
+  pub rest : drop n row ≡ replicate (limit.atomic - n) 0
 
-pub lists-none : (s : States) → Proper s → ListsTo (row s) 1 (replicate 127 0) 0
+pub lists-none : (s : States) → Proper s → ListsTo (row s) 1 (replicate limit.atomic 0) 0
 lists-none s p =
     record {
       long = refl;
@@ -85,7 +86,7 @@ module _ (S : List ℕ) (t : ℕ) (row : List ℕ) (n : ℕ) (h : ListsTo S t ro
             (λ (r : x ≢ t). elem-left x (take n row) (t ∷ []) (h .all x (omega arith) q))
             (same? x t));
         rest = drop-set-lt (n + 1) row n t (omega arith) ∙ sym (drop-drop 1 n row) ∙ ap (drop 1) (h .rest)
-            ∙ ap (λ (k : ℕ). drop 1 (replicate k 0)) (let a = h .first in let k : 127 - n ≡ suc (127 - (n + 1)) = omega arith in k);
+            ∙ ap (λ (k : ℕ). drop 1 (replicate k 0)) (let a = h .first in let k : limit.atomic - n ≡ suc (limit.atomic - (n + 1)) = omega arith in k);
       }
     where
       rises : Rising (set row n t) (n + 1)

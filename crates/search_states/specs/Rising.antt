@@ -5,6 +5,7 @@ use mathlib.Core.Bool.{true}
 use mathlib.Core.List.{List}
 use Prim.Native.Nat.{ℕ, _-_, _≤_, _<_}
 use lib.ListN.{length, take, drop, getD, replicate}
+use Rattle.limits.specs.Limits as limit
 use Rattle.semantics.specs.Models.{elem}
 use Rattle.search_states.specs.declared.Listing.{Listing}
 
@@ -14,8 +15,8 @@ Rising row n = (i j : ℕ) → i < j → j < n → getD row i 0 < getD row j 0
 
 -- the listing has exactly the states S, by rising number, and their number; the numbers behind them are zero
 pub record Lists (S : List ℕ) (l : Listing) : Type 0 where
-  pub long : length (l .states) ≡ 127
-  pub count : l .count ≤ 127
+  pub long : length (l .states) ≡ limit.atomic
+  pub count : l .count ≤ limit.atomic
   pub rising : Rising (l .states) (l .count)
   pub same : (t : ℕ) → elem t (take (l .count) (l .states)) ≡ true ↔ elem t S ≡ true
-  pub rest : drop (l .count) (l .states) ≡ replicate (127 - l .count) 0
+  pub rest : drop (l .count) (l .states) ≡ replicate (limit.atomic - l .count) 0

@@ -4,6 +4,7 @@ use mathlib.Core.Bool.{true, cond, _||_}
 use Prim.Native.Nat.{ℕ, _+_, _≤_, _<_}
 use lib.Dec.{eqb}
 use lib.ListN.{length, take, getD, set, replicate}
+use Rattle.limits.specs.Limits as limit
 use Rattle.semantics.specs.Models.{elem, Program, Distinct}
 use Rattle.semantics.specs.Facts.{Database}
 use Rattle.semantics.specs.Tables.{Founded}
@@ -22,7 +23,7 @@ from s i = getD (s .origins) i 0
 
 -- no state is found
 abbrev pub nothing : States
-nothing = record { states = replicate 127 0; lines = replicate 127 0; origins = replicate 127 0; count = 0 }
+nothing = record { states = replicate limit.atomic 0; lines = replicate limit.atomic 0; origins = replicate limit.atomic 0; count = 0 }
 
 -- the state t behind, which came by line ℓ from state p
 abbrev pub appended : States → ℕ → ℕ → ℕ → States
@@ -35,12 +36,12 @@ added s t ℓ p = cond (eqb t 0 || elem t (row s)) s (appended s t ℓ p)
 
 -- the states are different, none is empty, and each is a set of at most 7 relations
 pub record Proper (s : States) : Type 0 where
-  pub count : s .count ≤ 127
-  pub states : length (s .states) ≡ 127
-  pub lines : length (s .lines) ≡ 127
-  pub origins : length (s .origins) ≡ 127
+  pub count : s .count ≤ limit.atomic
+  pub states : length (s .states) ≡ limit.atomic
+  pub lines : length (s .lines) ≡ limit.atomic
+  pub origins : length (s .origins) ≡ limit.atomic
   pub distinct : Distinct (row s)
-  pub atomic : (t : ℕ) → elem t (row s) ≡ true → (1 ≤ t) × (t < 128)
+  pub atomic : (t : ℕ) → elem t (row s) ≡ true → (1 ≤ t) × (t < limit.sets)
 
 -- every state came from those before it
 abbrev pub Discovered : Program → States → Type 0

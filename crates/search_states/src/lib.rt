@@ -2,22 +2,25 @@
 ghost use mathlib.Core.Path.{_≡_};
 ghost use Prim.Native.Nat.{_≤_, _<_};
 ghost use lib.ListN.{length, take};
+ghost use Rattle.limits.specs.Limits as limit;
 ghost use Rattle.semantics.specs.Models.{elem};
 ghost use Rattle.semantics.specs.Tables.{seat};
 ghost use Rattle.search_states.specs.States.{row, nothing, appended, added, Proper};
 ghost use Rattle.search_states.specs.Rising.{Lists};
+use limits::ATOMIC;
+use limits::SETS;
 
 // State i came by line lines[i] from state origins[i].
 pub struct States {
-    pub states: [u32; 127],
-    pub lines: [u32; 127],
-    pub origins: [u32; 127],
+    pub states: [u32; ATOMIC],
+    pub lines: [u32; ATOMIC],
+    pub origins: [u32; ATOMIC],
     pub count: usize,
 }
 
 // The states by rising number.
 pub struct Listing {
-    pub states: [u32; 127],
+    pub states: [u32; ATOMIC],
     pub count: usize,
 }
 
@@ -25,9 +28,9 @@ pub struct Listing {
 pub fn none() -> States
     ensures { λ r. ⌜ r ≡ nothing ⌝ }
 {
-    let states = [0u32; 127];
-    let lines = [0u32; 127];
-    let origins = [0u32; 127];
+    let states = [0u32; ATOMIC];
+    let lines = [0u32; ATOMIC];
+    let origins = [0u32; ATOMIC];
     States {
         states,
         lines,
@@ -61,7 +64,7 @@ pub fn among(row: &[u32], n: usize, x: u32) -> bool
 
 // The row with the state behind.
 fn append(mut s: States, state: u32, line: u32, origin: u32) -> States
-    requires { ⌜ s .count < 127 ⌝ }
+    requires { ⌜ s .count < limit.atomic ⌝ }
     ensures { λ r. ⌜ r ≡ appended s state line origin ⌝ }
 {
     let n = s.count;
@@ -74,7 +77,7 @@ fn append(mut s: States, state: u32, line: u32, origin: u32) -> States
 
 // The row with the state behind, unless it is empty or listed already.
 pub fn add(s: States, state: u32, line: u32, origin: u32) -> States
-    requires { ⌜ Proper s × (state < 128) ⌝ }
+    requires { ⌜ Proper s × (state < limit.sets) ⌝ }
     ensures { λ r. ⌜ r ≡ added s state line origin ⌝ }
 {
     if state == 0 {
@@ -91,10 +94,10 @@ pub fn rising(s: States) -> Listing
     requires { ⌜ Proper s ⌝ }
     ensures { λ r. ⌜ Lists (row s) r ⌝ }
 {
-    let mut states = [0u32; 127];
+    let mut states = [0u32; ATOMIC];
     let mut count: usize = 0;
     let mut t: u32 = 1;
-    while t < 128 {
+    while t < SETS {
         if among(&s.states, s.count, t) {
             states[count] = t;
             count += 1;

@@ -7,6 +7,7 @@ use native.Mathlib.Omega.{arith}
 use native.Mathlib.Nat.{zero-add, mul-le-mul}
 use lib.ListN.{length, take, drop, getD, length-append, length-map, List·getD-map}
 use lib.Seq.{take-at, getD-at, getD-take}
+use Rattle.limits.specs.Limits as limit
 use Rattle.semantics.specs.Models.{Program, Question}
 use Rattle.semantics.specs.Steps.{Steps}
 use Rattle.semantics.specs.Runs.{Place, step, meet, Session, start, nobody, after, Plays, Kept}
@@ -62,7 +63,7 @@ module _ (m : Model) (w : List ℕ) (s : States) (known : Known m w s) where
         mul-le-mul few (let k : suc (s .count) ≤ 128 = omega arith in k),
       )
 
-  module _ (run run₁ run₂ : List ℕ) (n r : ℕ) (h : Walked m s run run₁ n) (long : 8640 ≤ length run)
+  module _ (run run₁ run₂ : List ℕ) (n r : ℕ) (h : Walked m s run run₁ n) (long : limit.run ≤ length run)
       (index : r ≡ n + length (building m s (s .count))) (written : run₂ ≡ backwards run₁ n (building m s (s .count))) where
     abbrev all : List Place
     all = building m s (s .count) ++ h .places
@@ -70,7 +71,7 @@ module _ (m : Model) (w : List ℕ) (s : States) (known : Known m w s) where
     count : r ≡ length all
     count = omega (arith, index, h .index, length-append (building m s (s .count)) (h .places))
 
-    fits : r ≤ 8637
+    fits : r ≤ limit.shown
     fits = let a = h .few in let b = building-few in let c = h .index in omega arith
 
     whole : run₂ ≡ backwards run 0 all
@@ -114,5 +115,5 @@ module _ (m : Model) (run run′ : List ℕ) (r : ℕ) (h : Shown m run run′ r
           ∙ List·getD-map placeOf (take r run′) (r - 1) 0 ∙ ap placeOf (getD-take r run′ (r - 1) 0 (omega (arith, long)))
 
   -- demand 3: it is played on after any list of pairs, and has at most 8,640 steps
-  pub played-on : WellFormed m → PlayingOn (programOf m) (questionOf m) 8640 (h .places)
-  played-on w = playing-on (programOf m) (w .safe) (questionOf m) (h .places) (h .kept) 8640 (omega (arith, h .few, h .index, kept-length (programOf m) (questionOf m) (h .places) (h .kept)))
+  pub played-on : WellFormed m → PlayingOn (programOf m) (questionOf m) limit.run (h .places)
+  played-on w = playing-on (programOf m) (w .safe) (questionOf m) (h .places) (h .kept) limit.run (omega (arith, h .few, h .index, kept-length (programOf m) (questionOf m) (h .places) (h .kept)))

@@ -4,6 +4,7 @@ use mathlib.Core.List.{List, [], _∷_, _++_, map}
 use mathlib.Core.Option.{some}
 use Prim.Native.Nat.{ℕ, _≤_}
 use lib.ListN.{length, take, drop}
+use Rattle.limits.specs.Limits as limit
 use Rattle.semantics.specs.Runs.{Place, meet, Kept}
 use Rattle.model.specs.declared.Model.{Model}
 use Rattle.model.specs.Records.{programOf, questionOf}
@@ -15,7 +16,7 @@ pub record Shown (m : Model) (run run′ : List ℕ) (r : ℕ) : Type 0 where
   pub places : List Place
   pub kept : Kept (programOf m) (questionOf m) places
   pub index : r ≡ length places
-  pub few : r ≤ 8637
+  pub few : r ≤ limit.shown
   pub written : run′ ≡ numbers places ++ drop r run
   pub decoded : map placeOf (take r run′) ≡ map some places
   pub last : (first : List Place) × (os : List ℕ) × (places ≡ first ++ (meet (m .stagecount) os ∷ []))

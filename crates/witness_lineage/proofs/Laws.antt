@@ -8,6 +8,7 @@ use native.Mathlib.Omega.{arith}
 use native.Mathlib.Nat.{not-suc-le-zero}
 use lib.ListN.{length, take, getD}
 use lib.Seq.{length-take-le}
+use Rattle.limits.specs.Limits as limit
 use Rattle.semantics.specs.Models.{Line, rule, new, next, other, Program, line}
 use Rattle.semantics.specs.Facts.{Database}
 use Rattle.semantics.specs.Tables.{From, Founded}
@@ -64,7 +65,7 @@ module _ (P : Program) (S : Database) (by from : ℕ → ℕ) (found : Founded P
       go other f q = absurd f
 
 -- what stands on a line stands on one of the text's
-pub small-line : (m : Model) → WellFormed m → (R : Line → Type 0) → (R other → ⊥) → (ℓ : ℕ) → R (line (programOf m) ℓ) → ℓ < 16384
+pub small-line : (m : Model) → WellFormed m → (R : Line → Type 0) → (R other → ⊥) → (ℓ : ℕ) → R (line (programOf m) ℓ) → ℓ < limit.text
 small-line m w R never ℓ h =
     ⊎-elim
     (λ t. let a = w .clause (t .0) (t .1) .last in let b = w .lines in let e = t .2 in omega arith)

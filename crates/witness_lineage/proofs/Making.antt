@@ -6,6 +6,7 @@ use mathlib.Core.List.{List, [], _∷_, _++_, append-assoc, append-nil, map-appe
 use Prim.Native.Nat.{ℕ, zero, suc, _+_, _≤_, _<_}
 use native.Mathlib.Omega.{arith}
 use lib.ListN.{length, take, getD, set, length-append, length-map}
+use Rattle.limits.specs.Limits as limit
 use Rattle.semantics.specs.Models.{Line, rule, new, next, other, line}
 use Rattle.semantics.specs.Steps.{Pair}
 use Rattle.semantics.specs.Runs.{step}
@@ -47,7 +48,7 @@ module _ (m : Model) (wf : WellFormed m) (s : States) (proper : Proper s) (found
   listed h = omega (arith, length-row s proper)
 
   -- the line that a state came by has a number that leaves the object its room
-  pub small-by : (i : ℕ) → i < s .count → by s i < 16384
+  pub small-by : (i : ℕ) → i < s .count → by s i < limit.text
   small-by i h = small-line m wf (From (programOf m) _ _ (from s i)) (λ f. f) (by s i) (found i (listed h))
 
   pub step-number : (i o : ℕ) → i < s .count → o < 255 → numeral (Step (by s i) o) ≡ numberOf (step (by s i) o)

@@ -6,6 +6,7 @@ use search_states::States;
 ghost use mathlib.Core.Path.{_≡_};
 ghost use Prim.Native.Nat.{_+_, _≤_, _<_};
 ghost use lib.ListN.{length};
+ghost use Rattle.limits.specs.Limits as limit;
 ghost use Rattle.semantics.specs.Models.{line};
 ghost use Rattle.model.specs.Records.{programOf, lineOf};
 ghost use Rattle.model.specs.WellFormed.{WellFormed};
@@ -46,7 +47,7 @@ fn creates(m: Model, number: u32) -> bool
 
 // Writes the places by which the object is made with the state, the last first, from index k on. Returns the index behind them.
 pub fn make(run: &mut [u32], m: Model, s: States, state: usize, object: u32, k: usize) -> usize
-    requires { ⌜ WellFormed m × Proper s × Discovered (programOf m) s × (state < s .count) × (object < 255) × (k + length (linesTo m s state) ≤ length (now run)) ⌝ }
+    requires { ⌜ WellFormed m × Proper s × Discovered (programOf m) s × (state < s .count) × (object < limit.objects) × (k + length (linesTo m s state) ≤ length (now run)) ⌝ }
     ensures { λ r. ⌜ (r ≡ k + length (making m s object state)) × (now (run .exit) ≡ backwards (now (run .entry)) k (making m s object state)) ⌝ }
 {
     let mut i = state;

@@ -10,6 +10,7 @@ use native.Mathlib.Nat.{not-suc-le-zero, add-zero, add-suc, suc-add, zero-add}
 use borrow.Author.Tests.{eq-eqb, ne-eqb}
 use lib.Dec.{eqb}
 use lib.ListN.{length, set, getD, length-map, length-append}
+use Rattle.limits.specs.Limits as limit
 use Rattle.semantics.specs.Models.{elem, Body, vars, names, supported, Supported, Distinct}
 use Rattle.semantics.specs.Facts.{Database, state, In, Derived, Meets}
 use Rattle.semantics.specs.Runs.{Place, named}
@@ -80,15 +81,15 @@ objects-below h k zero b = tt
 objects-below h k (suc n) b = (b k (omega arith) (omega arith), objects-below h (suc k) n (λ x a c. b x (omega arith) (omega arith)))
 
 -- the meeting has a number
-pub numerable-meeting : (k n : ℕ) (c : Choice) → k < 127 → n ≤ 3 → ((x : ℕ) → x < n → chosen c x < 255) → Numerable (meeting k n c)
+pub numerable-meeting : (k n : ℕ) (c : Choice) → k < limit.atomic → n ≤ 3 → ((x : ℕ) → x < n → chosen c x < 255) → Numerable (meeting k n c)
 numerable-meeting k n c h few b = (omega arith, omega (arith, length-map (upFrom 0 n) (chosen c), length-upFrom 0 n), objects-below (chosen c) 0 n (λ x p q. b x (omega arith)))
 
 -- and this is its number
-pub meeting-number : (k n a b d : ℕ) (c : Choice) → k < 127 → (a ≡ getD (map (chosen c) (upFrom 0 n)) 0 255) × (a < 256) → (b ≡ getD (map (chosen c) (upFrom 0 n)) 1 255) × (b < 256)
+pub meeting-number : (k n a b d : ℕ) (c : Choice) → k < limit.atomic → (a ≡ getD (map (chosen c) (upFrom 0 n)) 0 255) × (a < 256) → (b ≡ getD (map (chosen c) (upFrom 0 n)) 1 255) × (b < 256)
     → (d ≡ getD (map (chosen c) (upFrom 0 n)) 2 255) × (d < 256) → numeral (Meeting (k + 1) a b d) ≡ numberOf (meeting k n c)
 meeting-number k n a b d c h (ea, la) (eb, lb) (ed, ld) = rw (← ea, ← eb, ← ed) (parts k a b d h la lb ld)
   where
-    parts : (k a b d : ℕ) → k < 127 → a < 256 → b < 256 → d < 256 → numeral (Meeting (k + 1) a b d) ≡ 2147483648 + suc k * 16777216 + a * 65536 + b * 256 + d
+    parts : (k a b d : ℕ) → k < limit.atomic → a < 256 → b < 256 → d < 256 → numeral (Meeting (k + 1) a b d) ≡ 2147483648 + suc k * 16777216 + a * 65536 + b * 256 + d
     parts k a b d h la lb ld = omega arith
 
 -- no variable is fixed, and nothing is asked

@@ -2,6 +2,7 @@
 use facts_candidates::Choice;
 use facts_find::Found;
 use facts_holds::Part;
+use limits::NONE;
 use model::Model;
 use model::Place;
 use model::Stage;
@@ -12,6 +13,7 @@ ghost use mathlib.Core.Logic.{_≢_};
 ghost use mathlib.Core.Option.{Option, some};
 ghost use Prim.Native.Nat.{ℕ, suc, _+_, _≤_, _<_};
 ghost use lib.ListN.{length, getD};
+ghost use Rattle.limits.specs.Limits as limit;
 ghost use Rattle.semantics.specs.Tables.{Shows};
 ghost use Rattle.model.specs.Places.{numberOf};
 ghost use Rattle.model.specs.Records.{upFrom, bodyAt, numberIn, stageBody, stageAt};
@@ -25,7 +27,7 @@ ghost use Rattle.witness_meetings.specs.Legs.{Known, Meetable, Spots, me
 
 // The stage's own number of a variable, or the number of its variables where it has not that one.
 fn spot(stage: Stage, variable: u32) -> usize
-    requires { ⌜ (length (stage .numbers) ≡ 3) × (stage .variables ≤ 3) ⌝ }
+    requires { ⌜ (length (stage .numbers) ≡ limit.variables) × (stage .variables ≤ limit.variables) ⌝ }
     ensures { λ r. ⌜ Spots stage variable r ⌝ }
 {
     let n = stage.variables as usize;
@@ -68,18 +70,18 @@ fn choice(
 
 // The object that a meeting names for variable x of n, or 255 where there is none.
 fn object(n: usize, x: usize, c: Choice) -> u32
-    requires { ⌜ (x < n → chosen c x < 255) ⌝ }
-    ensures { λ r. ⌜ (r ≡ getD (map (chosen c) (upFrom 0 n)) x 255) × (r < 256) ⌝ }
+    requires { ⌜ (x < n → chosen c x < limit.objects) ⌝ }
+    ensures { λ r. ⌜ (r ≡ getD (map (chosen c) (upFrom 0 n)) x limit.none) × (r < 256) ⌝ }
 {
     if x < n {
         return facts_candidates::element(c, x) as u32;
     }
-    255
+    NONE
 }
 
 // The number of the meeting of stage k + 1 with the chosen objects of its n variables.
 fn number(k: usize, n: usize, c: Choice) -> u32
-    requires { ⌜ (k < 127) × (n ≤ 3) × ((x : ℕ) → x < n → chosen c x < 255) ⌝ }
+    requires { ⌜ (k < 127) × (n ≤ limit.variables) × ((x : ℕ) → x < n → chosen c x < limit.objects) ⌝ }
     ensures { λ r. ⌜ r ≡ numberOf (meeting k n c) ⌝ }
 {
     let first = object(n, 0, c);

@@ -8,6 +8,7 @@ use native.Mathlib.Omega.{arith}
 use native.Mathlib.Nat.{zero-add, mul-le-mul}
 use lib.ListN.{length, set, getD, length-append}
 use lib.Seq.{getD-take, getD-drop}
+use Rattle.limits.specs.Limits as limit
 use Rattle.semantics.specs.Models.{Line, rule, new, next, other, line}
 use Rattle.semantics.specs.Runs.{step, Plays}
 use Rattle.semantics.specs.Tables.{entry, Moves, Hands, Came, rank}
@@ -64,7 +65,7 @@ module _ (m : Model) (w : List ℕ) (s : States) (l : Levels) (rec : Recorded m 
         go (suc n) z h = (rw (stages m (rec .known .model)) at (h .0), h .1, h .2)
 
     -- its line has a number that leaves the object its room
-    pub moved-small : lineTo l (suc k) j ≢ 0 → lineTo l (suc k) j < 16384
+    pub moved-small : lineTo l (suc k) j ≢ 0 → lineTo l (suc k) j < limit.text
     moved-small z = small-line m (rec .known .model) (λ (L : Line). Moves (programOf m) (row s) L (entry (rowsOf l) (suc k) (originOf l (suc k) j)) (entry (rowsOf l) (suc k) j)) (λ f. f) (lineTo l (suc k) j) (moved-before z .2)
 
     pub moved-number : lineTo l (suc k) j ≢ 0 → numeral (Step (lineTo l (suc k) j) (s .count)) ≡ numberOf (step (lineTo l (suc k) j) (s .count))
@@ -111,7 +112,7 @@ module _ (m : Model) (w : List ℕ) (s : States) (l : Levels) (rec : Recorded m 
 
     module _ (run : List ℕ) (k j at : ℕ) (h : Behind m s l run₀ run (suc k) j at) where
       -- there is room for a leg
-      pub behind-room : 8640 ≤ length run → at + s .count + 1 ≤ length run
+      pub behind-room : limit.run ≤ length run → at + s .count + 1 ≤ length run
       behind-room r = let a = h .few in let b = rec .known .model .stages in let c = rec .known .proper .count in let d = h .index in omega (arith, mul-le-mul b (let k : s .count - 1 ≤ 126 = omega arith in k))
 
       -- A MEETING is written before
@@ -217,6 +218,6 @@ module _ (m : Model) (w : List ℕ) (s : States) (l : Levels) (rec : Recorded m 
   back-moved run₀ run zero j at p h z = absurd (omega arith)
   back-moved run₀ run (suc k) j at p h z = (rw (moved-number k j (h .inside) z) (behind-moved run₀ run k j at h z), moved-before k j (h .inside) z .1)
 
-  pub back-room : (run₀ run : List ℕ) (i j at : ℕ) → 0 < i → Behind m s l run₀ run i j at → 8640 ≤ length run → at + s .count + 1 ≤ length run
+  pub back-room : (run₀ run : List ℕ) (i j at : ℕ) → 0 < i → Behind m s l run₀ run i j at → limit.run ≤ length run → at + s .count + 1 ≤ length run
   back-room run₀ run zero j at p h r = absurd (omega arith)
   back-room run₀ run (suc k) j at p h r = behind-room run₀ run k j at h r

@@ -7,6 +7,7 @@ ghost use mathlib.Core.Path.{_≡_};
 ghost use mathlib.Core.List.{List};
 ghost use Prim.Native.Nat.{ℕ, _+_, _*_, _≤_, _<_};
 ghost use lib.ListN.{length};
+ghost use Rattle.limits.specs.Limits as limit;
 ghost use Rattle.search_entries.specs.Entries.{count};
 ghost use Rattle.facts_candidates.specs.Choices.{Own};
 ghost use Rattle.witness_walk.specs.Walk.{Recorded, Behind, Walked};
@@ -31,7 +32,7 @@ fn back(
     l: Levels,
     p: Stand,
 ) -> Stand
-    requires { ⌜ Recorded m (now work) s l × Own 128 (now slots) × (0 < p .level) × (8640 ≤ length (now run)) × ((run₀ : List ℕ) × Behind m s l run₀ (now run) (p .level) (p .entry) (p .at)) ⌝ }
+    requires { ⌜ Recorded m (now work) s l × Own 128 (now slots) × (0 < p .level) × (limit.run ≤ length (now run)) × ((run₀ : List ℕ) × Behind m s l run₀ (now run) (p .level) (p .entry) (p .at)) ⌝ }
     ensures { λ r. ⌜ ((run₀ : List ℕ) → Behind m s l run₀ (now (run .entry)) (p .level) (p .entry) (p .at) → Behind m s l run₀ (now (run .exit)) (r .level) (r .entry) (r .at)) × (r .level * 129 + r .entry < p .level * 129 + p .entry) × (length (now (run .exit)) ≡ length (now (run .entry))) ⌝ }
 {
     let level = p.level;
@@ -80,7 +81,7 @@ pub fn walk(
     l: Levels,
     entry: usize,
 ) -> usize
-    requires { ⌜ Recorded m (now work) s l × Own 128 (now slots) × (entry < count l (m .stagecount)) × (8640 ≤ length (now run)) ⌝ }
+    requires { ⌜ Recorded m (now work) s l × Own 128 (now slots) × (entry < count l (m .stagecount)) × (limit.run ≤ length (now run)) ⌝ }
     ensures { λ r. ⌜ Walked m s (now (run .entry)) (now (run .exit)) r ⌝ }
 {
     let level = m.stagecount;

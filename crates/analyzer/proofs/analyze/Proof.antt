@@ -5,6 +5,7 @@ use lib.Dec.{ltb}
 use lib.ListN.{length}
 use borrow.Author.Needs.{needs}
 use borrow.Author.Tests.{ltb-false}
+use Rattle.limits.specs.Limits as limit
 use Rattle.semantics.proofs.Tools.{or-false}
 use Rattle.grammar.specs.Texts.{outcome}
 use Rattle.calls.specs.Calls.{early, called}
@@ -66,10 +67,10 @@ decide-requires c κs =
     let a = c .before .before .before .before .before .before .before .before .before .before .before .before .args in
     let r = c .before .before .before .before .before .read in
     let s = sizes (length (now (a .text))) (short (length (now (a .work))) (length (now (a .run)))) false (none (c .before .before .before .before .before .before)) in
-    let l = or-false (ltb (length (now (a .work))) 32768) (ltb (length (now (a .run))) 8640) (s .0) in (
+    let l = or-false (ltb (length (now (a .work))) limit.work) (ltb (length (now (a .run))) limit.run) (s .0) in (
       good-model (now (a .text)) (r .result) (r .ensures) (c .before .before .before .enum-told .given .1),
-      ltb-false (length (now (a .work))) 32768 (l .0),
-      ltb-false (length (now (a .run))) 8640 (l .1),
+      ltb-false (length (now (a .work))) limit.work (l .0),
+      ltb-false (length (now (a .run))) limit.run (l .1),
     )
 
 same-length : tie.Need-same-length

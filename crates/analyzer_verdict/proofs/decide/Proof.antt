@@ -6,6 +6,7 @@ use borrow.Author.Needs.{needs}
 use denote.Ref.{now}
 use lib.ListN.{length, drop, length-append}
 use lib.Seq.{length-take-le, take-at}
+use Rattle.limits.specs.Limits as limit
 use Rattle.calls.specs.Wiping.{wiped}
 use Rattle.calls.proofs.Wiped.{length-wiped, wiped-over}
 use Rattle.analyzer_verdict.proofs.Laws.{listed}
@@ -16,33 +17,33 @@ slice-relend-prefix-search : tie.Need-slice-relend-prefix-search
 slice-relend-prefix-search c = search needs
 
 slice-aggregate-search : tie.Need-slice-aggregate-search
-slice-aggregate-search c = let s = c .before .before .before in sym (length-take-le 32768 (now (s .args .work)) (s .pre .1))
+slice-aggregate-search c = let s = c .before .before .before in sym (length-take-le limit.work (now (s .args .work)) (s .pre .1))
 
 search-requires : tie.Need-search-requires
-search-requires c κs = let s = c .before .before .before in (s .pre .0, rw (length-take-le 32768 (now (s .args .work)) (s .pre .1)) (omega arith))
+search-requires c κs = let s = c .before .before .before in (s .pre .0, rw (length-take-le limit.work (now (s .args .work)) (s .pre .1)) (omega arith))
 
 -- the part that the search was lent
-long : (c : tie.After-search) → length (c .search .last .0) ≡ 32768
-long c = let s = c .before .before .before .before in c .search .ensures .1 ∙ length-take-le 32768 (now (s .args .work)) (s .pre .1)
+long : (c : tie.After-search) → length (c .search .last .0) ≡ limit.work
+long c = let s = c .before .before .before .before in c .search .ensures .1 ∙ length-take-le limit.work (now (s .args .work)) (s .pre .1)
 
 -- the work area after it
 abbrev filled : (c : tie.After-search) → List ℕ
-filled c = c .search .last .0 ++ drop 32768 (now (c .before .before .before .before .args .work))
+filled c = c .search .last .0 ++ drop limit.work (now (c .before .before .before .before .args .work))
 
-enough : (c : tie.After-search) → 32768 ≤ length (filled c)
-enough c = omega (arith, long c, length-append (c .search .last .0) (drop 32768 (now (c .before .before .before .before .args .work))))
+enough : (c : tie.After-search) → limit.work ≤ length (filled c)
+enough c = omega (arith, long c, length-append (c .search .last .0) (drop limit.work (now (c .before .before .before .before .args .work))))
 
 slice-reshare-prefix-conclude : tie.Need-slice-reshare-prefix-conclude
 slice-reshare-prefix-conclude c = enough (c .before .before)
 
 slice-aggregate-conclude : tie.Need-slice-aggregate-conclude
-slice-aggregate-conclude c = sym (length-take-le 32768 (filled (c .before .before .before)) (enough (c .before .before .before)))
+slice-aggregate-conclude c = sym (length-take-le limit.work (filled (c .before .before .before)) (enough (c .before .before .before)))
 
 conclude-requires : tie.Need-conclude-requires
 conclude-requires c κs =
     let s = c .before .before .before .before .before .before .before .before in
     let f = c .before .before .before .before in
-    (s .pre .0, rw (take-at (f .search .last .0) (drop 32768 (now (s .args .work))) 32768 (long f)) (f .search .ensures .0), s .pre .2)
+    (s .pre .0, rw (take-at (f .search .last .0) (drop limit.work (now (s .args .work))) limit.work (long f)) (f .search .ensures .0), s .pre .2)
 
 wipe-requires : tie.Need-wipe-requires
 wipe-requires c κs = enough (c .before .before .before .before .before .before .before .before)

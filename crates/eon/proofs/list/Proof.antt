@@ -24,8 +24,8 @@ put-listing-requires-2 c κs = let s = c .before .before .before .before .before
 enum-known-answer-2 : tie.Need-enum-known-answer-2
 enum-known-answer-2 c = search needs
 
-refused-line-requires : tie.Need-refused-line-requires
-refused-line-requires c κs = search needs
+put-refusal-requires : tie.Need-put-refusal-requires
+put-refusal-requires c κs = search needs
 
 same-length : tie.Need-same-length
 same-length c = search needs
@@ -43,7 +43,7 @@ same-length-3 : tie.Need-same-length-3
 same-length-3 c = search needs
 
 returns-3 : tie.Need-returns-3
-returns-3 c = rw (c .before .before .before .before .before .answer2 .given .1) (c .before .before .refused-line .ensures)
+returns-3 c = rw (c .before .before .before .before .before .answer2 .given .1) (c .before .before .put-refusal .ensures)
 
 pub list-spec : {M : Type 1} → statement M
 list-spec =
@@ -56,7 +56,7 @@ list-spec =
     slice-aggregate-put-listing-2
     put-listing-requires-2
     enum-known-answer-2
-    refused-line-requires
+    put-refusal-requires
     same-length
     returns
     same-length-2

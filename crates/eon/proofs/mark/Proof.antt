@@ -49,7 +49,7 @@ returns c =
     let leaves = answered text work run (a .result) (a .last .1 .0) (a .last .1 .1 .0) (s .pre .0) (s .pre .1) (a .ensures) in
     let o = text-output text work run (r .result) (a .result) (a .last .1 .0) (a .last .1 .1 .0) (search needs) (now (s .args .out)) (w .result) (w .last .0) (w .ensures) (outcome text) refl (r .ensures) leaves in
     let room : w .result ≤ length (w .last .0) = omega (arith, o .1) in
-    (o .0, (room, sym (length-take-le (w .result) (w .last .0) room)))
+    ((a .result, a .ensures, o .0), (room, sym (length-take-le (w .result) (w .last .0) room)))
 
 pub mark-spec : {M : Type 1} → statement M
 mark-spec =

@@ -3,6 +3,7 @@ use borrow.Author.Needs.{needs}
 use mathlib.Core.Path.{refl}
 use lib.Dec.{eqb}
 use denote.Ref.{now}
+use Rattle.limits.specs.Limits as limit
 use Rattle.replay.specs.Replies.{narrow, placeOutcome}
 use Rattle.exports.proofs.Fitting.{place-fits}
 use Rattle.exports.proofs.eon_place.Statement.{statement}
@@ -21,7 +22,7 @@ pack-requires c κs =
     let u = c .before .before .before .before .before .unpack in
     let text = now (s .args .text) in
     let work = now (s .args .work) in
-    place-fits text (narrow work) (eqb (u .result .kept) 8640) (u .result) (s .args .place) work (r .result .answer) (r .result .session) (r .last .1 .1 .1 .0) (u .ensures .1) (placeOutcome text (u .result) work) refl (r .ensures) .1
+    place-fits text (narrow work) (eqb (u .result .kept) limit.run) (u .result) (s .args .place) work (r .result .answer) (r .result .session) (r .last .1 .1 .1 .0) (u .ensures .1) (placeOutcome text (u .result) work) refl (r .ensures) .1
 
 replied-requires : tie.Need-replied-requires
 replied-requires c κs =
@@ -30,7 +31,7 @@ replied-requires c κs =
     let u = c .before .before .before .before .before .before .unpack in
     let text = now (s .args .text) in
     let work = now (s .args .work) in
-    place-fits text (narrow work) (eqb (u .result .kept) 8640) (u .result) (s .args .place) work (r .result .answer) (r .result .session) (r .last .1 .1 .1 .0) (u .ensures .1) (placeOutcome text (u .result) work) refl (r .ensures) .0
+    place-fits text (narrow work) (eqb (u .result .kept) limit.run) (u .result) (s .args .place) work (r .result .answer) (r .result .session) (r .last .1 .1 .1 .0) (u .ensures .1) (placeOutcome text (u .result) work) refl (r .ensures) .0
 
 same-length : tie.Need-same-length
 same-length c = search needs

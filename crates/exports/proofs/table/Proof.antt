@@ -3,12 +3,13 @@ use borrow.Author.Needs.{needs}
 use mathlib.Core.Path.{_≡_, _∙_}
 use native.Mathlib.Omega.{arith}
 use lib.ListN.{length}
+use Rattle.limits.specs.Limits as limit
 use Rattle.exports.proofs.Cells.{table-filled}
 use Rattle.exports.proofs.table.Statement.{statement}
 use Rattle.exports.proofs.table.Tie as tie
 
 -- the row of states has its size
-whole : (c : tie.Start) → length (c .args .a .states) ≡ 127
+whole : (c : tie.Start) → length (c .args .a .states) ≡ limit.atomic
 whole c = search needs
 
 cast-cells : tie.Need-cast-cells

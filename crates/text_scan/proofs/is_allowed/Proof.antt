@@ -3,9 +3,6 @@ use Rattle.text_scan.proofs.Laws.{allowed-word, allowed-space, allowed-
 use borrow.Author.Needs.{needs}
 use Rattle.text_scan.proofs.is_allowed.Statement.{statement}
 use Rattle.text_scan.proofs.is_allowed.Tie as tie
-use Rattle.text_scan.proofs.is_allowed.Reads as reads
-use Rattle.text_scan.proofs.is_allowed.Lts as lts
-use Rattle.text_scan.proofs.is_alphanumeric.Reads as is-alphanumeric-reads
 
 is-alphanumeric-requires : tie.Need-is-alphanumeric-requires
 is-alphanumeric-requires c κs = search needs

@@ -3,9 +3,6 @@ use Rattle.text_scan.proofs.Laws.{alphanumeric-letter, alphanumeric-low
 use borrow.Author.Needs.{needs}
 use Rattle.text_scan.proofs.is_alphanumeric.Statement.{statement}
 use Rattle.text_scan.proofs.is_alphanumeric.Tie as tie
-use Rattle.text_scan.proofs.is_alphanumeric.Reads as reads
-use Rattle.text_scan.proofs.is_alphanumeric.Lts as lts
-use Rattle.text_scan.proofs.is_letter.Reads as is-letter-reads
 
 is-letter-requires : tie.Need-is-letter-requires
 is-letter-requires c κs = search needs

@@ -2,8 +2,6 @@ use mathlib.Core.Path.{sym}
 use Rattle.text_scan.proofs.Laws.{letter-low, letter-upper, letter-between, letter-rest}
 use Rattle.text_scan.proofs.is_letter.Statement.{statement}
 use Rattle.text_scan.proofs.is_letter.Tie as tie
-use Rattle.text_scan.proofs.is_letter.Reads as reads
-use Rattle.text_scan.proofs.is_letter.Lts as lts
 
 returns : tie.Need-returns
 returns c = sym (letter-low _ (c .if1 .taken))

@@ -1,29 +1,22 @@
 use borrow.Author.Needs.{needs}
 use Rattle.witness_lineage.proofs.creating.Statement.{statement}
 use Rattle.witness_lineage.proofs.creating.Tie as tie
-use Rattle.witness_lineage.proofs.creating.Lts as lts
 
--- src/lib.rt:18:14
 enum-told : tie.Need-enum-told
 enum-told c = search needs
 
--- src/lib.rt:19:35
 enum-told-2 : tie.Need-enum-told-2
 enum-told-2 c = search needs
 
--- src/lib.rt:20:47
 enum-told-3 : tie.Need-enum-told-3
 enum-told-3 c = search needs
 
--- src/lib.rt:11:1
 returns : tie.Need-returns
 returns c b = rw (c .enum-told .given .1)
 
--- src/lib.rt:11:1
 returns-2 : tie.Need-returns-2
 returns-2 c b = rw (c .enum-told2 .given .1)
 
--- src/lib.rt:11:1
 returns-3 : tie.Need-returns-3
 returns-3 c b = rw (c .enum-told3 .given .1)
 
