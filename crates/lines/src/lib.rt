@@ -4,7 +4,7 @@ use model::Clause;
 use model::Model;
 use text::Acceptance;
 ghost use mathlib.Core.Path.{_≡_};
-ghost use Prim.Native.Nat.{_<_};
+ghost use Prim.Native.Nat.{_<_, _≤_};
 ghost use lib.ListN.{length, getD};
 ghost use Rattle.grammar.specs.Texts.{outcome};
 ghost use Rattle.lines.specs.Lines.{nothing, recorded, lineAt};
@@ -34,12 +34,13 @@ fn describe_at(row: &[Clause], i: usize) -> u64
     describe(c)
 }
 
-// Clause i of a model, whose row of clauses is lent on.
+// Clause i of a model, whose accepted clauses are lent on as a row.
 fn clause(m: Model, i: usize) -> u64
-    requires { ⌜ i < 64 ⌝ }
+    requires { ⌜ (i < m .clausecount) × (m .clausecount ≤ 64) ⌝ }
     ensures { λ r. ⌜ r ≡ recorded (getD (m .clauses) i nothing) ⌝ }
 {
-    describe_at(&m.clauses, i)
+    let n = m.clausecount;
+    describe_at(&m.clauses[..n], i)
 }
 
 // Clause i of an accepted text, from 0: its line and what stands on it; 0 where there is none.

@@ -26,8 +26,7 @@ clause-requires : tie.Need-clause-requires
 clause-requires c κs =
     let a = c .before .before .before .before .before .before .before .args in
     let r = c .before .before .before .before .before .read in
-    let few = few-clauses (now (a .text)) (r .result) (r .ensures) (a .i) (c .before .before .before .enum-told2 .given .1) in
-    omega (arith, c .if1 .taken)
+    (omega (arith, c .if1 .taken), few-clauses (now (a .text)) (r .result) (r .ensures) (a .i) (c .before .before .before .enum-told2 .given .1))
 
 returns-2 : tie.Need-returns-2
 returns-2 c =
