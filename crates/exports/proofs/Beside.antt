@@ -7,7 +7,8 @@ use Prim.Native.Nat.{ℕ}
 use lib.ListN.{length, replicate}
 use Rattle.grammar.specs.Texts.{Outcome, accepted, refused}
 use Rattle.calls.specs.Calls.{called}
-use Rattle.analyzer.specs.Analyzing.{short, Leaves}
+use Rattle.calls.specs.Calls.{short}
+use Rattle.analyzer.specs.Analyzing.{Leaves}
 use Rattle.analyzer_verdict.specs.declared.Analysis.{Analysis}
 use Rattle.replay_session.specs.declared.Answer.{Answer}
 use Rattle.replay_session.specs.declared.Answer.the-variants.{Kept}
