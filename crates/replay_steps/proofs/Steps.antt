@@ -102,37 +102,37 @@ module _ (m : Model) (s : Session) (v : View) (w : List ℕ) (ready : Ready m s 
           objects = ap (map (chosen c)) (sym names);
         }
 
-    fails : (k : ℕ) → (Enabled (programOf m) db o L → ⊥) → Tried m s (step ℓ o) false s k
-    fails k n = ((λ a. n (subst (Enabled (programOf m) db o) on (a .1))), refl)
+    fails : (Enabled (programOf m) db o L → ⊥) → Tried m s (step ℓ o) false s 0
+    fails n = ((λ a. n (subst (Enabled (programOf m) db o) on (a .1))), refl)
 
   -- a line that is no `new` or `next` line
-  pub no-clause : (k : ℕ) → line (programOf m) ℓ ≡ other → Tried m s (step ℓ o) false s k
-  no-clause k on = fails other on k (λ e. e)
+  pub no-clause : line (programOf m) ℓ ≡ other → Tried m s (step ℓ o) false s 0
+  no-clause on = fails other on (λ e. e)
 
-  pub no-step : (r : ℕ) (xs : List ℕ) (b : Body) (k : ℕ) → line (programOf m) ℓ ≡ rule r xs b → Tried m s (step ℓ o) false s k
-  no-step r xs b k on = fails (rule r xs b) on k (λ e. e)
+  pub no-step : (r : ℕ) (xs : List ℕ) (b : Body) → line (programOf m) ℓ ≡ rule r xs b → Tried m s (step ℓ o) false s 0
+  no-step r xs b on = fails (rule r xs b) on (λ e. e)
 
   -- a `new` line
-  module _ (t : ℕ) (b : Body) (n k : ℕ) (on : line (programOf m) ℓ ≡ new t b) where
-    pub new-kept : lineNames (new t b) ≡ upFrom 0 n → o ≡ s .objects → (c : Choice) → First (upFrom 0 n) (Holding m s b n (only 255)) (chosen c) → k ≡ standing (map (chosen c) (upFrom 0 n))
+  module _ (t : ℕ) (b : Body) (n : ℕ) (on : line (programOf m) ℓ ≡ new t b) where
+    pub new-kept : lineNames (new t b) ≡ upFrom 0 n → o ≡ s .objects → (c : Choice) (k : ℕ) → First (upFrom 0 n) (Holding m s b n (only 255)) (chosen c) → k ≡ standing (map (chosen c) (upFrom 0 n))
         → Tried m s (step ℓ o) true (created s t) k
-    new-kept names e c = stands (new t b) on n (Holding m s b n (only 255)) c k names (λ σ. ((λ h. (e ∙ sym sized, h .0)), λ h. (h .1, fixed-free n σ)))
+    new-kept names e c k = stands (new t b) on n (Holding m s b n (only 255)) c k names (λ σ. ((λ h. (e ∙ sym sized, h .0)), λ h. (h .1, fixed-free n σ)))
 
-    pub new-other : o ≢ s .objects → Tried m s (step ℓ o) false s k
-    new-other e = fails (new t b) on k (λ q. e (q .0 ∙ sized))
+    pub new-other : o ≢ s .objects → Tried m s (step ℓ o) false s 0
+    new-other e = fails (new t b) on (λ q. e (q .0 ∙ sized))
 
-    pub new-fails : ((σ : ℕ → ℕ) → Holding m s b n (only 255) σ → ⊥) → Tried m s (step ℓ o) false s k
-    new-fails h = fails (new t b) on k (λ q. h (q .1 .0) (q .1 .1, fixed-free n (q .1 .0)))
+    pub new-fails : ((σ : ℕ → ℕ) → Holding m s b n (only 255) σ → ⊥) → Tried m s (step ℓ o) false s 0
+    new-fails h = fails (new t b) on (λ q. h (q .1 .0) (q .1 .1, fixed-free n (q .1 .0)))
 
   -- a `next` line
-  module _ (plus minus : ℕ) (b : Body) (n k : ℕ) (on : line (programOf m) ℓ ≡ next 0 plus minus b) where
-    pub next-kept : lineNames (next 0 plus minus b) ≡ upFrom 0 n → 0 < n → o < 255 → o < s .objects → (c : Choice) → First (upFrom 0 n) (Holding m s b n (only o)) (chosen c)
+  module _ (plus minus : ℕ) (b : Body) (n : ℕ) (on : line (programOf m) ℓ ≡ next 0 plus minus b) where
+    pub next-kept : lineNames (next 0 plus minus b) ≡ upFrom 0 n → 0 < n → o < 255 → o < s .objects → (c : Choice) (k : ℕ) → First (upFrom 0 n) (Holding m s b n (only o)) (chosen c)
         → k ≡ standing (map (chosen c) (upFrom 0 n)) → Tried m s (step ℓ o) true (relabeled s o plus minus) k
-    next-kept names z h l c = stands (next 0 plus minus b) on n (Holding m s b n (only o)) c k names
+    next-kept names z h l c k = stands (next 0 plus minus b) on n (Holding m s b n (only o)) c k names
         (λ σ. ((λ g. (let q = sized in omega arith, g .1 0 z (λ e. omega arith), g .0)), λ g. (g .2, fixed-only n o σ (g .1))))
 
-    pub next-other : s .objects ≤ o → Tried m s (step ℓ o) false s k
-    next-other l = fails (next 0 plus minus b) on k (λ q. let i = q .0 in let z = sized in omega arith)
+    pub next-other : s .objects ≤ o → Tried m s (step ℓ o) false s 0
+    next-other l = fails (next 0 plus minus b) on (λ q. let i = q .0 in let z = sized in omega arith)
 
-    pub next-fails : ((σ : ℕ → ℕ) → Holding m s b n (only o) σ → ⊥) → Tried m s (step ℓ o) false s k
-    next-fails h = fails (next 0 plus minus b) on k (λ q. h (q .1 .0) (q .1 .2, fixed-only n o (q .1 .0) (q .1 .1)))
+    pub next-fails : ((σ : ℕ → ℕ) → Holding m s b n (only o) σ → ⊥) → Tried m s (step ℓ o) false s 0
+    next-fails h = fails (next 0 plus minus b) on (λ q. h (q .1 .0) (q .1 .2, fixed-only n o (q .1 .0) (q .1 .1)))

@@ -26,7 +26,7 @@ returns c =
     let f = c .before .before .clause-on in
     let g = c .before .if1 .taken in
     rw (c .disallow .ensures .0, c .disallow .ensures .1)
-    (no-clause (a .t1) (a .s) (a .v) (now (a .work)) (s .pre .0) (s .pre .1) (a .line) (a .object) (c .disallow .result .stood) (line-other (a .t1) (a .line) (λ i h. f .ensures .2 i (omega arith))))
+    (no-clause (a .t1) (a .s) (a .v) (now (a .work)) (s .pre .0) (s .pre .1) (a .line) (a .object) (line-other (a .t1) (a .line) (λ i h. f .ensures .2 i (omega arith))))
 
 mul-c : tie.Need-mul-c
 mul-c c = search needs
@@ -64,7 +64,7 @@ returns-2 c =
     let b = clauseBody (a .t1 .literals) (clauseAt (a .t1) (f .result)) in
     let on = on-action (a .t1) (s .pre .0 .accepted) (f .result) h (Rule r n) (told .1) in
     rw (c .disallow2 .ensures .0, c .disallow2 .ensures .1)
-    (no-step (a .t1) (a .s) (a .v) (now (a .work)) (s .pre .0) (s .pre .1) (a .line) (a .object) r (upFrom 0 n) b (c .disallow2 .result .stood) (subst (λ (ℓ : ℕ). line (programOf (a .t1)) ℓ ≡ rule r (upFrom 0 n) b) (f .ensures .1 h) on))
+    (no-step (a .t1) (a .s) (a .v) (now (a .work)) (s .pre .0) (s .pre .1) (a .line) (a .object) r (upFrom 0 n) b (subst (λ (ℓ : ℕ). line (programOf (a .t1)) ℓ ≡ rule r (upFrom 0 n) b) (f .ensures .1 h) on))
 
 returns-3 : tie.Need-returns-3
 returns-3 c =
