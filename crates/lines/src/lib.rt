@@ -6,6 +6,7 @@ use text::Acceptance;
 ghost use mathlib.Core.Path.{_≡_};
 ghost use Prim.Native.Nat.{_<_, _≤_};
 ghost use lib.ListN.{length, getD};
+ghost use Rattle.limits.specs.Limits as limit;
 ghost use Rattle.grammar.specs.Texts.{outcome};
 ghost use Rattle.lines.specs.Lines.{nothing, recorded, lineAt};
 
@@ -36,7 +37,7 @@ fn describe_at(row: &[Clause], i: usize) -> u64
 
 // Clause i of a model, whose accepted clauses are lent on as a row.
 fn clause(m: Model, i: usize) -> u64
-    requires { ⌜ (i < m .clausecount) × (m .clausecount ≤ 64) ⌝ }
+    requires { ⌜ (i < m .clausecount) × (m .clausecount ≤ limit.clauses) ⌝ }
     ensures { λ r. ⌜ r ≡ recorded (getD (m .clauses) i nothing) ⌝ }
 {
     let n = m.clausecount;

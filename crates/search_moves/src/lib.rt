@@ -14,6 +14,14 @@ ghost use Rattle.facts_holds.specs.Shows.{Evaluable};
 ghost use Rattle.search_clauses.specs.Reach.{Takable};
 ghost use Rattle.search_moves.specs.Moves.{Over, KeepsAt, Keeps, Takes};
 
+// A `next` clause: its body's part of the literal row, its two lists and its line.
+struct Next {
+    part: Part,
+    plus: u32,
+    minus: u32,
+    line: u32,
+}
+
 // Takes a `next` clause for the entries that have the state of slot e. A wiped object is not entered: it moves and meets nothing again.
 fn take_next_at(
     work: &[u8],
@@ -21,24 +29,22 @@ fn take_next_at(
     states: &[u32],
     n: usize,
     literals: &[u32],
-    part: Part,
-    plus: u32,
-    minus: u32,
-    line: u32,
+    c: Next,
     stages: usize,
     s: Carried,
     e: usize,
 ) -> Carried
-    requires { ⌜ Over (now work) (now states) n × Own 128 (now slots) × Evaluable (now literals) part × (0 < part .variables) × (plus < limit.sets) × (minus < limit.sets) × (1 ≤ line) × (stages ≤ limit.stages) × Proper (s .levels) × (e < n) ⌝ }
-    ensures { λ r. ⌜ Takes (now (work .entry)) (take n (now (states .entry))) stages s line (next 0 plus minus (bodyAt (now (literals .entry)) (part .first) (part .count))) r (KeepsAt (now (work .entry)) (take n (now (states .entry))) stages plus minus (bodyAt (now (literals .entry)) (part .first) (part .count)) e) ⌝ }
+    requires { ⌜ Over (now work) (now states) n × Own 128 (now slots) × Evaluable (now literals) (c .part) × (0 < c .part .variables) × (c .plus < limit.sets) × (c .minus < limit.sets) × (1 ≤ c .line) × (stages ≤ limit.stages) × Proper (s .levels) × (e < n) ⌝ }
+    ensures { λ r. ⌜ Takes (now (work .entry)) (take n (now (states .entry))) stages s (c .line) (next 0 (c .plus) (c .minus) (bodyAt (now (literals .entry)) (c .part .first) (c .part .count))) r (KeepsAt (now (work .entry)) (take n (now (states .entry))) stages (c .plus) (c .minus) (bodyAt (now (literals .entry)) (c .part .first) (c .part .count)) e) ⌝ }
 {
+    let part = c.part;
     if facts_holds::at(work, slots, n, literals, part, 0, e) {
         let from = states[e];
-        let to = labels::relabel(from, plus, minus);
+        let to = labels::relabel(from, c.plus, c.minus);
         if to == 0 {
             return s;
         }
-        return search_carried::move_all(s, stages, from + 1, to + 1, line);
+        return search_carried::move_all(s, stages, from + 1, to + 1, c.line);
     }
     s
 }
@@ -50,33 +56,17 @@ fn take_next(
     states: &[u32],
     n: usize,
     literals: &[u32],
-    part: Part,
-    plus: u32,
-    minus: u32,
-    line: u32,
+    c: Next,
     stages: usize,
     s: Carried,
 ) -> Carried
-    requires { ⌜ Over (now work) (now states) n × Own 128 (now slots) × Evaluable (now literals) part × (0 < part .variables) × (plus < limit.sets) × (minus < limit.sets) × (1 ≤ line) × (stages ≤ limit.stages) × Proper (s .levels) ⌝ }
-    ensures { λ r. ⌜ Takes (now (work .entry)) (take n (now (states .entry))) stages s line (next 0 plus minus (bodyAt (now (literals .entry)) (part .first) (part .count))) r (Keeps (now (work .entry)) (take n (now (states .entry))) stages (next 0 plus minus (bodyAt (now (literals .entry)) (part .first) (part .count)))) ⌝ }
+    requires { ⌜ Over (now work) (now states) n × Own 128 (now slots) × Evaluable (now literals) (c .part) × (0 < c .part .variables) × (c .plus < limit.sets) × (c .minus < limit.sets) × (1 ≤ c .line) × (stages ≤ limit.stages) × Proper (s .levels) ⌝ }
+    ensures { λ r. ⌜ Takes (now (work .entry)) (take n (now (states .entry))) stages s (c .line) (next 0 (c .plus) (c .minus) (bodyAt (now (literals .entry)) (c .part .first) (c .part .count))) r (Keeps (now (work .entry)) (take n (now (states .entry))) stages (next 0 (c .plus) (c .minus) (bodyAt (now (literals .entry)) (c .part .first) (c .part .count)))) ⌝ }
 {
     let mut r = s;
     let mut e: usize = 0;
     while e < n {
-        let more = take_next_at(
-            work,
-            slots,
-            states,
-            n,
-            literals,
-            part,
-            plus,
-            minus,
-            line,
-            stages,
-            r,
-            e,
-        );
+        let more = take_next_at(work, slots, states, n, literals, c, stages, r, e);
         r = more;
         e += 1;
     }
@@ -110,18 +100,14 @@ pub fn take(
             arity: _,
         } => s,
         Action::New { set: _ } => s,
-        Action::Next { plus, minus } => take_next(
-            work,
-            slots,
-            states,
-            n,
-            literals,
-            part,
-            plus,
-            minus,
-            line,
-            stages,
-            s,
-        ),
+        Action::Next { plus, minus } => {
+            let next = Next {
+                part,
+                plus,
+                minus,
+                line,
+            };
+            take_next(work, slots, states, n, literals, next, stages, s)
+        },
     }
 }

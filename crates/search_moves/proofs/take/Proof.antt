@@ -9,8 +9,8 @@ use borrow.Author.Needs.{needs}
 use Rattle.search_moves.proofs.take.Statement.{statement}
 use Rattle.search_moves.proofs.take.Tie as tie
 
-cast-t14 : tie.Need-cast-t14
-cast-t14 c = search needs
+cast-t15 : tie.Need-cast-t15
+cast-t15 c = search needs
 
 enum-told : tie.Need-enum-told
 enum-told c = search needs
@@ -48,7 +48,7 @@ pub take-spec : {M : Type 1} → statement M
 take-spec =
     tie.close
     (tie.spec
-    cast-t14
+    cast-t15
     enum-told
     enum-told-2
     enum-known-action
