@@ -10,13 +10,13 @@
  *   kind 0  unreached                value 0
  *   kind 1  reached                  value: the number n of places of the run shown
  *   kind 2  refused                  value: number * 65,536 + line
- *   kind 3  kept                     value 0
+ *   kind 3  kept                     value 0; from eon_place the number of those who stood by
  *   kind 4  broken                   value: the place, from 0
  *
  * Numbers of refusals: 1 no bytes, or over 16,384; 2 a bad byte, or a last line without byte 10; 3 a line that has no shape;
  * 4 one declaration or clause too many; 5 a name declared again; 6 a name undeclared or of the wrong kind; 7 a wrong number of variables;
  * 8 `not` before a derived relation; 9 a variable only under `not` or only in the head, a fourth variable, one repeated in a rule's head;
- * 10 a line after `ask`, or no `ask`; 11 two or more carried variables; 12 a work area under EON_WORK bytes, or a run table lent for writing
+ * 10 a line after `ask`, or no `ask`; 11 two or more carried variables; 12 a work area under EON_WORK bytes, or a table lent for writing
  * under EON_RUN places; 14 a run over EON_RUN places, or a state that has kept EON_RUN. Number 13 is never given.
  * The first line is 1; the line is 0 for numbers 1, 12 and 14.
  *
@@ -25,6 +25,10 @@
  *
  * A place of a run is a number of 32 bits. A step is line * 256 + object. A meeting is
  * 2,147,483,648 + stage * 16,777,216 + o1 * 65,536 + o2 * 256 + o3, with 255 where there is no object.
+ *
+ * The number of those who stood by at a step says which objects made the line's body hold: the first choice of objects for the line's variables in
+ * order of first appearance in the line, a `next` line's own variable first. It is o1 * 65,536 + o2 * 256 + o3, with 255 where there is no variable;
+ * 16,777,215 for a line without variables. A meeting has 0.
  *
  * An atomic state is a number of 32 bits: the relation of the first `state` line counts 1, the next 2, then 4, and so on.
  */
@@ -53,10 +57,14 @@ extern "C" {
  * run is written only for reached, and only its first n places. */
 uint64_t eon_analyze(const uint8_t *text, size_t bytes, uint8_t *work, size_t work_bytes, uint32_t *run, size_t places, uint32_t *out);
 
-/* Replays a run over a text: kind 2, 3 or 4. */
-uint64_t eon_replay(const uint8_t *text, size_t bytes, const uint32_t *run, size_t places, uint8_t *work, size_t work_bytes);
+/* Replays a run over a text: kind 2, 3 or 4.
+ *
+ * stood is a table lent for writing. Each place before the one at which the run breaks, or all of them, gets the number of those who stood by; its
+ * other places are left as they were, and all of them after a refusal. */
+uint64_t eon_replay(const uint8_t *text, size_t bytes, const uint32_t *run, size_t places, uint8_t *work, size_t work_bytes, uint32_t *stood, size_t numbers);
 
-/* Puts one place to a replay state over a text: kind 2, 3 or 4. Broken is answered with the number of places kept so far, or with 0 where the state
+/* Puts one place to a replay state over a text: kind 2, 3 or 4. Kept is answered with the number of those who stood by, the one that eon_replay writes
+ * at that place of a run. Broken is answered with the number of places kept so far, or with 0 where the state
  * does not fit the text.
  *
  * session has EON_SESSION cells: 255 atomic states of the objects in order of creation, then the number of objects, the stages met,

@@ -4,7 +4,7 @@ extern "C" {
     #[allow(improper_ctypes)]
     fn eon_analyze(text: &[u8], work: &mut [u8], run: &mut [u32], out: &mut [u32; 129]) -> u64;
     #[allow(improper_ctypes)]
-    fn eon_replay(text: &[u8], run: &[u32], work: &mut [u8]) -> u64;
+    fn eon_replay(text: &[u8], run: &[u32], work: &mut [u8], table: &mut [u32]) -> u64;
 }
 
 /// What the analysis of a text leaves.
@@ -17,6 +17,7 @@ pub struct Analysis {
 pub struct Buffers {
     work: Vec<u8>,
     run: Vec<u32>,
+    stood: Vec<u32>,
 }
 
 impl Buffers {
@@ -24,6 +25,7 @@ impl Buffers {
         Buffers {
             work: vec![0; 32_768],
             run: vec![0; 8_640],
+            stood: vec![0; 8_640],
         }
     }
 
@@ -45,7 +47,7 @@ impl Buffers {
 
     /// Replays a run of an accepted text: the place at which it breaks, or none.
     pub fn replay(&mut self, text: &[u8], run: &[u32]) -> Option<usize> {
-        let answer = unsafe { eon_replay(text, run, &mut self.work) };
+        let answer = unsafe { eon_replay(text, run, &mut self.work, &mut self.stood) };
         match answer >> 32 {
             3 => None,
             4 => Some(answer as u32 as usize),

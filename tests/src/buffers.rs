@@ -39,15 +39,15 @@ fn analyses(report: &mut Report, subject: &Subject) {
     }
 }
 
-/// The replay with every size of the work area and of the run.
+/// The replay with every size of the work area, of the run and of the table.
 fn replays(report: &mut Report, subject: &Subject) {
-    for work in AREAS {
+    for (work, numbers) in AREAS.iter().flat_map(|work| TABLES.map(|numbers| (*work, numbers))) {
         for places in TABLES {
-            let answer = subject.replay_with(report, &vec![512; places], work);
+            let answer = subject.replay_with(report, &vec![512; places], work, numbers);
             let row_1 = subject.read.as_ref().err() == Some(&(1, 0));
             let row = if row_1 {
                 1
-            } else if work < WORK {
+            } else if work < WORK || numbers < RUN {
                 12
             } else if places > RUN {
                 14
@@ -58,8 +58,10 @@ fn replays(report: &mut Report, subject: &Subject) {
                 Answer::Refused(number, 0) => number == row,
                 _ => row == 0,
             };
-            report.check(right, || format!("{answer:?} with {work} bytes and {places} places"));
+            report.check(right, || format!("{answer:?} with {work} bytes, {places} places and {numbers} numbers"));
         }
+    }
+    for work in AREAS {
         for kept in [0, 8_639, 8_640, 8_641] {
             let mut lent = fresh();
             lent[258] = kept;

@@ -2,7 +2,16 @@
 
 extern "C" {
     fn eon_analyze(text: *const u8, bytes: usize, work: *mut u8, area: usize, run: *mut u32, places: usize, out: *mut [u32; 129]) -> u64;
-    fn eon_replay(text: *const u8, bytes: usize, run: *const u32, places: usize, work: *mut u8, area: usize) -> u64;
+    fn eon_replay(
+        text: *const u8,
+        bytes: usize,
+        run: *const u32,
+        places: usize,
+        work: *mut u8,
+        area: usize,
+        table: *mut u32,
+        numbers: usize,
+    ) -> u64;
     fn eon_line(text: *const u8, bytes: usize, i: usize) -> u64;
     fn eon_place(text: *const u8, bytes: usize, session: *mut Lent, place: u32, work: *mut u8, area: usize) -> u64;
 }
@@ -126,22 +135,44 @@ fn shape(answer: &Answer, out: &[u32; 129], last: Option<u32>) -> bool {
 pub struct Replay {
     pub answer: Answer,
     pub area: bool,
+    table: Vec<u32>,
 }
 
-/// Replays a run with a work area of this size.
-pub fn replay(text: &[u8], run: &[u32], work: usize) -> Replay {
+impl Replay {
+    /// Whether the table has these numbers in its first places, and is untouched behind them.
+    pub fn has(&self, numbers: &[u32]) -> bool {
+        self.table.starts_with(numbers) && (numbers.len()..self.table.len()).all(|i| self.table[i] == run_pattern(i))
+    }
+
+    /// The numbers in the first places of the table.
+    pub fn first(&self, n: usize) -> &[u32] {
+        &self.table[..n.min(self.table.len())]
+    }
+}
+
+/// Replays a run with a work area and a table of these sizes.
+pub fn replay(text: &[u8], run: &[u32], work: usize, numbers: usize) -> Replay {
     let mut area = Area::new(work);
-    let code = unsafe { eon_replay(text.as_ptr(), text.len(), run.as_ptr(), run.len(), area.pointer(), work) };
+    let mut table: Vec<u32> = (0..numbers + BEHIND).map(run_pattern).collect();
+    let code = unsafe { eon_replay(text.as_ptr(), text.len(), run.as_ptr(), run.len(), area.pointer(), work, table.as_mut_ptr(), numbers) };
     let answer = Answer::decode(code);
-    Replay { answer, area: area.is_right(&answer) }
+    Replay { answer, area: area.is_right(&answer), table }
+}
+
+/// What one place left: beside kept stands the number of those who stood by.
+pub struct Put {
+    pub answer: Answer,
+    pub stood: Option<u32>,
+    pub area: bool,
 }
 
 /// Puts one place to a lent state, which is updated.
-pub fn place(text: &[u8], lent: &mut Lent, place: u32, work: usize) -> Replay {
+pub fn place(text: &[u8], lent: &mut Lent, place: u32, work: usize) -> Put {
     let mut area = Area::new(work);
     let code = unsafe { eon_place(text.as_ptr(), text.len(), lent, place, area.pointer(), work) };
-    let answer = Answer::decode(code);
-    Replay { answer, area: area.is_right(&answer) }
+    let kept = code >> 32 == 3;
+    let answer = if kept { Answer::Kept } else { Answer::decode(code) };
+    Put { answer, stood: kept.then_some(code as u32), area: area.is_right(&answer) }
 }
 
 /// The line of clause i and its kind, as one number.

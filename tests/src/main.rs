@@ -17,6 +17,7 @@ mod report;
 mod salad;
 mod search;
 mod seeded;
+mod standing;
 mod subject;
 
 use report::Report;
@@ -39,12 +40,16 @@ fn covered_enough(report: &mut Report) {
     report.met_often("models unreached with a carried variable", 40);
     report.met_often("shown runs that change the carried object between stages", 50);
     report.met_often("played on after other objects", 400);
+    for who in ["nobody", "one object", "two objects", "three objects"] {
+        report.met_often(&format!("stood by: {who}"), 300);
+    }
 }
 
 fn main() {
     let mut report = Report::default();
     cases::all(&mut report);
     models::all(&mut report);
+    standing::all(&mut report);
     longest::run(&mut report);
     salad::texts(&mut report);
     lent::all(&mut report);

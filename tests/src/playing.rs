@@ -1,7 +1,7 @@
 //! Playing on (demand 3): the shown run follows after any list of pairs that somebody played before.
 
 use crate::guess::pair;
-use crate::meaning::{sessions, Model, Place, NONE};
+use crate::meaning::{play, Model, Place, NONE};
 use crate::random::Random;
 use crate::report::Report;
 use crate::subject::Subject;
@@ -67,7 +67,7 @@ impl Playing<'_> {
 
 /// The first place at which the run cannot be played on, or its length if stages are left.
 fn fault(m: &Model, before: &[u32], run: &[u32]) -> Option<usize> {
-    let alone = sessions(m, run);
+    let alone = play(m, run).sessions;
     let mut p = Playing { m, k: before.len(), db: before.to_vec(), met: 0, carried: None };
     for (i, n) in run.iter().enumerate() {
         let allowed = p.place(*n);

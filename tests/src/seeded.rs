@@ -4,7 +4,7 @@ use crate::calls::Answer;
 use crate::damage;
 use crate::guess;
 use crate::guided;
-use crate::meaning::{sessions, Action, Clause, Model};
+use crate::meaning::{play, Action, Clause, Model};
 use crate::playing::play_on;
 use crate::random::{model, Random, Shape};
 use crate::report::Report;
@@ -91,7 +91,7 @@ fn replay_both_ways(report: &mut Report, subject: &Subject, run: &[u32]) {
 
 /// Whether a run changes the carried object after it was met first.
 fn moves_carried(m: &Model, run: &[u32]) -> bool {
-    let all = sessions(m, run);
+    let all = play(m, run).sessions;
     all.windows(2).any(|pair| pair[0].carried.is_some_and(|o| pair[0].db[o] != pair[1].db[o]))
 }
 

@@ -1,7 +1,7 @@
 //! A text under test: each call on it is compared with the plain reader and the plain meaning.
 
 use crate::calls::{self, Analysis, Answer, Lent, RUN, WORK};
-use crate::meaning::{broken_at, Action, Clause, Model, Place, Session};
+use crate::meaning::{broken_at, play, Action, Clause, Model, Place, Session};
 use crate::reader::{self, Outcome};
 use crate::report::Report;
 
@@ -75,22 +75,36 @@ impl Subject {
         a
     }
 
-    /// Replays a run with a work area that is large enough.
+    /// Replays a run with buffers that are large enough.
     pub fn replay(&self, report: &mut Report, run: &[u32]) -> Answer {
-        self.replay_with(report, run, WORK + 9)
+        self.replay_with(report, run, WORK + 9, RUN + 5)
     }
 
-    /// Replays a run with a work area of this size, and compares the answer with the plain one.
-    pub fn replay_with(&self, report: &mut Report, run: &[u32], work: usize) -> Answer {
-        let plain = match (self.refusal(&[(12, work < WORK), (14, run.len() > RUN)]), &self.read) {
-            (None, Ok(m)) => broken_at(m, run).map_or(Answer::Kept, Answer::Broken),
-            (refusal, _) => refused(refusal),
+    /// Replays a run with a work area and a table of these sizes, and compares the answer and the whole table with the plain ones.
+    pub fn replay_with(&self, report: &mut Report, run: &[u32], work: usize, numbers: usize) -> Answer {
+        let (plain, notes) = match (self.refusal(&[(12, work < WORK || numbers < RUN), (14, run.len() > RUN)]), &self.read) {
+            (None, Ok(m)) => {
+                let played = play(m, run);
+                (played.broken_at(m, run).map_or(Answer::Kept, Answer::Broken), played.notes)
+            }
+            (refusal, _) => (refused(refusal), Vec::new()),
         };
-        let r = calls::replay(&self.text, run, work);
-        let about = || format!("replay with {work} bytes answers {:?}, not {plain:?}, to {:?} in\n{}", r.answer, &run[..run.len().min(60)], self.show());
+        let r = calls::replay(&self.text, run, work, numbers);
+        let about = || {
+            format!(
+                "replay with {work} bytes and {numbers} numbers answers {:?}, not {plain:?}, to {:?} in\n{}",
+                r.answer,
+                &run[..run.len().min(60)],
+                self.show()
+            )
+        };
         report.check(r.answer == plain, about);
+        report.check(r.has(&notes), || format!("who stood by is {:?}, not {notes:?}: {}", r.first(notes.len()), about()));
         report.check(r.area, || format!("work area: {}", about()));
         report.cover(&format!("replay: {}", covered(&r.answer)));
+        for (number, _) in notes.iter().zip(run).filter(|(_, place)| **place >> 31 == 0) {
+            report.cover(stood(*number));
+        }
         r.answer
     }
 
@@ -101,9 +115,9 @@ impl Subject {
 
     /// Puts a place to a lent state with a work area of this size, and compares the answer and the whole state with the plain ones.
     pub fn place_with(&self, report: &mut Report, lent: &mut Lent, place: u32, work: usize) -> Answer {
-        let (plain, after) = match (self.refusal(&[(12, work < WORK), (14, lent[258] == 8_640)]), &self.read) {
+        let (plain, after, stood) = match (self.refusal(&[(12, work < WORK), (14, lent[258] == 8_640)]), &self.read) {
             (None, Ok(m)) => placed(m, lent, place),
-            (refusal, _) => (refused(refusal), *lent),
+            (refusal, _) => (refused(refusal), *lent, None),
         };
         let before = *lent;
         let r = calls::place(&self.text, lent, place, work);
@@ -115,6 +129,7 @@ impl Subject {
             )
         };
         report.check(r.answer == plain, about);
+        report.check(r.stood == stood, || format!("who stood by is {:?}, not {stood:?}: {}", r.stood, about()));
         report.check(*lent == after, || format!("state: {}", about()));
         report.check(r.area, || format!("work area: {}", about()));
         report.cover(&format!("place: {}", covered(&r.answer)));
@@ -126,6 +141,12 @@ impl Subject {
 fn refused(refusal: Option<(u32, u32)>) -> Answer {
     let (number, line) = refusal.expect("a text without a model is refused");
     Answer::Refused(number, line)
+}
+
+/// How many objects a number of those who stood by has.
+fn stood(number: u32) -> &'static str {
+    let none = [number >> 16, number >> 8 & 255, number & 255].iter().filter(|o| **o == 255).count();
+    ["stood by: three objects", "stood by: two objects", "stood by: one object", "stood by: nobody"][none]
 }
 
 /// The kind of an answer.
@@ -168,18 +189,19 @@ fn session_of(m: &Model, lent: &Lent) -> Option<Session> {
     declared.then_some(Session { db, met, carried: (carried != 255).then_some(carried) })
 }
 
-/// The plain answer to a place put to a lent state, and the state after it.
-fn placed(m: &Model, lent: &Lent, n: u32) -> (Answer, Lent) {
-    let Some(session) = session_of(m, lent) else { return (Answer::Broken(0), *lent) };
+/// The plain answer to a place put to a lent state, the state after it, and beside kept the number of those who stood by.
+fn placed(m: &Model, lent: &Lent, n: u32) -> (Answer, Lent, Option<u32>) {
+    let Some(session) = session_of(m, lent) else { return (Answer::Broken(0), *lent, None) };
     let facts = m.facts(&session.db);
-    let Some(after) = Place::decode(n).and_then(|p| session.after(m, &facts, p)) else {
-        return (Answer::Broken(lent[258] as usize), *lent);
+    let Some((place, after)) = Place::decode(n).and_then(|p| Some((p, session.after(m, &facts, p)?))) else {
+        return (Answer::Broken(lent[258] as usize), *lent, None);
     };
+    let stood = m.stood_by(&session.db, &facts, place);
     let mut left = *lent;
     left[..after.db.len()].copy_from_slice(&after.db);
     left[255] = after.db.len() as u32;
     left[256] = after.met as u32;
     left[257] = after.carried.map_or(255, |o| o as u32);
     left[258] += 1;
-    (Answer::Kept, left)
+    (Answer::Kept, left, Some(stood))
 }

@@ -6,11 +6,11 @@ use Prim.Native.Nat.{ℕ}
 use lib.ListN.{length}
 use Rattle.limits.specs.Limits as limit
 use Rattle.grammar.specs.Texts.{Outcome, accepted, refused}
-use Rattle.calls.specs.Calls.{called}
+use Rattle.calls.specs.Calls.{called, short}
 use Rattle.analyzer_verdict.specs.declared.Analysis.{Analysis}
 use Rattle.analyzer_verdict.proofs.Settled as verdict
 use Rattle.analyzer_verdict.proofs.Settled.{Same}
-use Rattle.analyzer.specs.Analyzing.{short, Leaves, Analyzes}
+use Rattle.analyzer.specs.Analyzing.{Leaves, Analyzes}
 
 left-settled : (o : Outcome) (work run : List ℕ) (a b : Analysis) (w w′ r r′ : List ℕ) → length (a .states) ≡ limit.atomic → length (b .states) ≡ limit.atomic
     → Leaves o work run a w r → Leaves o work run b w′ r′ → Same a w r b w′ r′

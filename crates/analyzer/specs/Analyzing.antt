@@ -1,22 +1,17 @@
 -- THE ANALYSIS OF A TEXT: what the call answers, and what the work area and the run table then have, for all inputs.
 use mathlib.Core.Path.{_≡_}
-use mathlib.Core.Bool.{Bool, false, _||_}
+use mathlib.Core.Bool.{false}
 use mathlib.Core.List.{List}
 use Prim.Native.Nat.{ℕ}
-use lib.Dec.{ltb}
 use lib.ListN.{length, replicate}
 use Rattle.limits.specs.Limits as limit
 use Rattle.grammar.specs.Texts.{Outcome, accepted, refused}
 use Rattle.acceptance.specs.Sound.{carriedOf}
 use Rattle.spent.specs.Passes.{Spent}
-use Rattle.calls.specs.Calls.{called}
+use Rattle.calls.specs.Calls.{short, called}
 use Rattle.analyzer_verdict.specs.declared.Answer.the-variants.{Refused}
 use Rattle.analyzer_verdict.specs.declared.Analysis.{Analysis}
 use Rattle.analyzer_verdict.specs.Judging.{Judges}
-
--- row 12: "work area under 32,768 bytes, or a run table lent for writing under 8,640 places"
-abbrev pub short : ℕ → ℕ → Bool
-short bytes places = ltb bytes limit.work || ltb places limit.run
 
 -- A REFUSAL with its number and line; the states "beside a refusal" are "none and 0"
 abbrev pub refusal : ℕ → ℕ → Analysis

@@ -2,21 +2,9 @@
 use analyzer_verdict::Analysis;
 use analyzer_verdict::Answer;
 use limits::ATOMIC;
-use limits::RUN;
-use limits::WORK;
 use text::Acceptance;
 ghost use mathlib.Core.Path.{_≡_};
-ghost use Rattle.analyzer.specs.Analyzing.{short as tooShort, refusal, Analyzes};
-
-// Is the work area or the run table too short?
-fn short(bytes: usize, places: usize) -> bool
-    ensures { λ r. ⌜ r ≡ tooShort bytes places ⌝ }
-{
-    if bytes < WORK {
-        return true;
-    }
-    places < RUN
-}
+ghost use Rattle.analyzer.specs.Analyzing.{refusal, Analyzes};
 
 // A refusal, with no states beside it.
 fn refuse(number: u32, line: u32) -> Analysis
@@ -33,7 +21,7 @@ fn refuse(number: u32, line: u32) -> Analysis
 pub fn analyze(text: &[u8], work: &mut [u8], run: &mut [u32]) -> Analysis
     ensures { λ r. ⌜ Analyzes (now (text .entry)) (now (work .entry)) (now (run .entry)) r (now (work .exit)) (now (run .exit)) ⌝ }
 {
-    let row = calls::early(text.len(), short(work.len(), run.len()), false);
+    let row = calls::early(text.len(), calls::short(work.len(), run.len()), false);
     if row != 0 {
         return refuse(row, 0);
     }

@@ -11,6 +11,10 @@ use Rattle.grammar.specs.Texts.{Outcome, refused, outcome}
 unfoldable pub early : ℕ → Bool → Bool → ℕ
 early bytes short long = cond (eqb bytes 0 || ltb limit.text bytes) 1 (cond short 12 (cond long 14 0))
 
+-- row 12: "work area under 32,768 bytes, or a run table lent for writing under 8,640 places"; document 02, R-1: "a table under 8,640 places is refused 12"
+abbrev pub short : ℕ → ℕ → Bool
+short bytes places = ltb bytes limit.work || ltb places limit.run
+
 -- THE ANSWER TO A CALL. "Order: 1, 12, 14, then line by line"; "line 0 for 1, 12 .. and 14"
 unfoldable pub called : List ℕ → Bool → Bool → Outcome
 called text short long = cond (eqb (early (length text) short long) 0) (outcome text) (refused (early (length text) short long) 0)

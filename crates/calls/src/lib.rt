@@ -3,8 +3,9 @@ ghost use mathlib.Core.Path.{_≡_};
 ghost use Prim.Native.Nat.{_≤_};
 ghost use lib.ListN.{length};
 ghost use Rattle.limits.specs.Limits as limit;
-ghost use Rattle.calls.specs.Calls.{early as earlyRow};
+ghost use Rattle.calls.specs.Calls.{early as earlyRow, short as tooShort};
 ghost use Rattle.calls.specs.Wiping.{wiped};
+use limits::RUN;
 use limits::TEXT;
 use limits::WORK;
 
@@ -25,6 +26,16 @@ pub fn early(bytes: usize, short: bool, long: bool) -> u32
         return 14;
     }
     0
+}
+
+// Is the work area too short, or a table of places lent for writing?
+pub fn short(bytes: usize, places: usize) -> bool
+    ensures { λ r. ⌜ r ≡ tooShort bytes places ⌝ }
+{
+    if bytes < WORK {
+        return true;
+    }
+    places < RUN
 }
 
 // Sets the work bytes to zero.

@@ -27,8 +27,8 @@ use Rattle.analyzer_verdict.specs.declared.Answer.{Answer}
 use Rattle.analyzer_verdict.specs.declared.Answer.the-variants.{Reached, Unreached, Refused}
 use Rattle.analyzer_verdict.specs.declared.Analysis.{Analysis}
 use Rattle.analyzer_verdict.specs.Judging.{Answered, Listed}
-use Rattle.calls.specs.Calls.{early, called}
-use Rattle.analyzer.specs.Analyzing.{short, Leaves, Analyzes}
+use Rattle.calls.specs.Calls.{early, called, short}
+use Rattle.analyzer.specs.Analyzing.{Leaves, Analyzes}
 use Rattle.listing_lines.specs.Lines.{Named}
 use Rattle.listing.specs.Report.{Listable}
 use Rattle.eon.specs.Output.{Ready, Shows, Lists, Listing}

@@ -6,11 +6,11 @@ use mathlib.Core.List.{List}
 use Prim.Native.Nat.{ℕ}
 use lib.ListN.{length, replicate}
 use Rattle.grammar.specs.Texts.{Outcome, accepted, refused}
-use Rattle.calls.specs.Calls.{called}
-use Rattle.analyzer.specs.Analyzing.{short, Leaves}
+use Rattle.calls.specs.Calls.{short, called}
+use Rattle.analyzer.specs.Analyzing.{Leaves}
 use Rattle.analyzer_verdict.specs.declared.Analysis.{Analysis}
-use Rattle.replay_session.specs.declared.Answer.{Answer}
-use Rattle.replay_session.specs.declared.Answer.the-variants.{Kept}
+use Rattle.replay_session.specs.declared.PlaceAnswer.{PlaceAnswer}
+use Rattle.replay_session.specs.declared.PlaceAnswer.the-variants.{Kept}
 use Rattle.replay_session.specs.declared.Session.{Session}
 use Rattle.replay.specs.Replies.{placeOutcome, Put}
 use Rattle.exports.specs.Cells.{lastNumber, table, stateOf, cellsOf}
@@ -25,11 +25,11 @@ refused-zero text work run n work′ run′ out′ k l e h =
     h .cells ∙ ap (λ (a : Analysis). table a (lastNumber (a .answer) run′)) (r .0) ∙ zero-beside-refusal k l
 
 -- a place that is not kept leaves the cells
-unkept-state : (o : Outcome) (s : Session) (place : ℕ) (work : List ℕ) (a : Answer) (t : Session) (work′ : List ℕ) → (a ≡ Kept → ⊥) → Put o s place work a t work′ → t ≡ s
+unkept-state : (o : Outcome) (s : Session) (place : ℕ) (work : List ℕ) (a : PlaceAnswer) (t : Session) (work′ : List ℕ) → ((stood : ℕ) → a ≡ Kept stood → ⊥) → Put o s place work a t work′ → t ≡ s
 unkept-state (refused k l) s place work a t work′ not h = h .1
-unkept-state (accepted D P Q) s place work a t work′ not h = ⊎-elim (λ w. w .left) (λ w. ⊎-elim (λ k. absurd (not (k .answer))) (λ b. b .left) (w .1)) (h .0)
+unkept-state (accepted D P Q) s place work a t work′ not h = ⊎-elim (λ w. w .left) (λ w. ⊎-elim (λ k. absurd (not (k .stood) (k .answer))) (λ b. b .left) (w .1)) (h .0)
 
 pub unkept-left : (text lent : List ℕ) (place : ℕ) (work : List ℕ) (n : ℕ) (lent′ work′ : List ℕ) → length lent ≡ 259 → (h : Placed text lent place work n lent′ work′)
-    → (h .answer ≡ Kept → ⊥) → lent′ ≡ lent
+    → ((stood : ℕ) → h .answer ≡ Kept stood → ⊥) → lent′ ≡ lent
 unkept-left text lent place work n lent′ work′ size h not =
-    h .cells ∙ ap cellsOf (unkept-state (placeOutcome text (stateOf lent) work) (stateOf lent) place work (h .answer) (h .after) work′ not (h .put)) ∙ cells-left lent size
+    h .cells ∙ ap cellsOf (unkept-state (placeOutcome text (stateOf lent) work) (stateOf lent) place work (h .answer) (h .after) work′ not (h .puts)) ∙ cells-left lent size

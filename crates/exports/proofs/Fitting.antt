@@ -3,7 +3,7 @@ use mathlib.Core.Path.{_≡_, sym, ap, _∙_}
 use mathlib.Core.Logic.{⊎-elim}
 use mathlib.Core.Bool.{Bool, true, false}
 use mathlib.Core.List.{List, [], _∷_, map}
-use Prim.Native.Nat.{ℕ, suc, _+_, _≤_}
+use Prim.Native.Nat.{ℕ, suc, _+_, _≤_, _<_}
 use native.Mathlib.Omega.{arith}
 use lib.Dec.{eqb, ltb}
 use lib.ListN.{length, take, length-append, length-map, length-take}
@@ -26,12 +26,15 @@ use Rattle.analyzer_verdict.specs.Judging.{Answered}
 use Rattle.analyzer.specs.Analyzing.{Leaves}
 use Rattle.replay_session.specs.declared.Answer as session
 use Rattle.replay_session.specs.declared.Answer.the-variants as reply
+use Rattle.replay_session.specs.declared.PlaceAnswer.{PlaceAnswer}
 use Rattle.replay_session.specs.declared.Session.{Session}
-use Rattle.replay_session.specs.Sessions.{Fits, stepped, taken}
+use Rattle.replay_session.specs.Sessions.{sessionOf, Fits, stepped, taken}
 use Rattle.replay_session.specs.Replays.{Replays}
+use Rattle.replay_session.specs.Notes.{Stands}
+use Rattle.replay_session.proofs.Noting.{standing-small}
 use Rattle.replay_runs.specs.Replies.{PlaceReply}
 use Rattle.replay.specs.Replies.{Replayed, Put}
-use Rattle.exports.specs.Ranges.{ShortRun, Shown, LowPlace, Small}
+use Rattle.exports.specs.Ranges.{ShortRun, Shown, LowPlace, LowNumber, Small}
 
 -- AN ACCEPTED CALL is of an accepted text, and its buffers and its run have their sizes
 pub record Taken (text : List ℕ) (short long : Bool) (D : Declared) (P : Program) (Q : Question) : Type 0 where
@@ -78,10 +81,10 @@ module _ (P : Program) (Q : Question) where
   within s [] i (reply.Refused n l) h r = tt
   within s (n ∷ ns) i a h r = ⊎-elim (λ w. within (after P Q s (w .0)) ns (suc i) a (omega arith) (w .3)) (λ w. rw (w .1) (omega arith)) r
 
-pub replay-fits : (text run work : List ℕ) (short : Bool) (a : session.Answer) (work′ : List ℕ) (o : Outcome) → called text short (ltb limit.run (length run)) ≡ o
-    → Replayed o run work a work′ → LowPlace a
-replay-fits text run work short a work′ (refused n l) e h = rw (h .0) tt
-replay-fits text run work short a work′ (accepted D P Q) e h =
+pub replay-fits : (text run work table : List ℕ) (short : Bool) (a : session.Answer) (work′ table′ : List ℕ) (o : Outcome) → called text short (ltb limit.run (length run)) ≡ o
+    → Replayed o run work table a work′ table′ → LowPlace a
+replay-fits text run work table short a work′ table′ (refused n l) e h = rw (h .0) tt
+replay-fits text run work table short a work′ table′ (accepted D P Q) e h =
     within P Q (start []) run 0 a (omega (arith, ltb-false limit.run (length run) (called-taken text short (ltb limit.run (length run)) D P Q e .long-not))) (h .0)
 
 -- ONE PLACE
@@ -95,12 +98,17 @@ taken-small : (P : Program) (Q : Question) (d c : ℕ) (s : Session) → length 
 taken-small P Q d c s few f h (step ℓ o) = stepped-small Q d s f h o (line P ℓ)
 taken-small P Q d c s few f h (meet i os) = record { objects = h .objects; met = omega (arith, f .stages); kept = omega (arith, f .places) }
 
-reply-fits : (P : Program) (Q : Question) (d c : ℕ) (s : Session) (n : ℕ) (a : session.Answer) (t : Session) → length Q ≤ 4 → Small s → PlaceReply d P Q c s n a t → LowPlace a × Small t
-reply-fits P Q d c s n a t few h r = ⊎-elim (λ w. (rw (w .answer) (omega arith), rw (w .left) h))
-    (λ w. ⊎-elim (λ k. (rw (k .answer) tt, rw (k .taken) (taken-small P Q d c s few (w .0) h (k .place)))) (λ b. (rw (b .answer) (h .kept), rw (b .left) h)) (w .1)) r
+number-small : (P : Program) (Q : Question) (d c : ℕ) (s : Session) → Fits d Q s → (p : runs.Place) (k : ℕ) → Stands P (sessionOf c s) p k → k < 4294967296
+number-small P Q d c s f p k h =
+    omega (arith, standing-small P (sessionOf c s) p k (omega (arith, f .objects, length-take (s .objects) (s .states))) h)
 
-pub place-fits : (text : List ℕ) (short long : Bool) (s : Session) (n : ℕ) (work : List ℕ) (a : session.Answer) (t : Session) (work′ : List ℕ) → Small s
-    → (o : Outcome) → called text short long ≡ o → Put o s n work a t work′ → LowPlace a × Small t
+reply-fits : (P : Program) (Q : Question) (d c : ℕ) (s : Session) (n : ℕ) (a : PlaceAnswer) (t : Session) → length Q ≤ 4 → Small s → PlaceReply d P Q c s n a t → LowNumber a × Small t
+reply-fits P Q d c s n a t few h r = ⊎-elim (λ w. (rw (w .answer) (omega arith), rw (w .left) h))
+    (λ w. ⊎-elim (λ k. (rw (k .answer) (number-small P Q d c s (w .0) (k .place) (k .stood) (k .stands)), rw (k .taken) (taken-small P Q d c s few (w .0) h (k .place))))
+    (λ b. (rw (b .answer) (h .kept), rw (b .left) h)) (w .1)) r
+
+pub place-fits : (text : List ℕ) (short long : Bool) (s : Session) (n : ℕ) (work : List ℕ) (a : PlaceAnswer) (t : Session) (work′ : List ℕ) → Small s
+    → (o : Outcome) → called text short long ≡ o → Put o s n work a t work′ → LowNumber a × Small t
 place-fits text short long s n work a t work′ h (refused k l) e w = (rw (w .0) tt, rw (w .1) h)
 place-fits text short long s n work a t work′ h (accepted D P Q) e w =
     reply-fits P Q _ _ s n a t (accepted-sound text D P Q (called-taken text short long D P Q e .text-accepted) .question .stages) h (w .0)

@@ -4,6 +4,8 @@ use Rattle.analyzer_verdict.specs.declared.Answer.{Answer}
 use Rattle.analyzer_verdict.specs.declared.Answer.the-variants.{Reached, Unreached, Refused}
 use Rattle.replay_session.specs.declared.Answer as session
 use Rattle.replay_session.specs.declared.Answer.the-variants as reply
+use Rattle.replay_session.specs.declared.PlaceAnswer as place
+use Rattle.replay_session.specs.declared.PlaceAnswer.the-variants as placeReply
 
 abbrev pub code : ℕ → ℕ → ℕ
 code kind value = kind * 4294967296 + value
@@ -23,3 +25,9 @@ abbrev pub replied : session.Answer → ℕ
 replied reply.Kept = code 3 0
 replied (reply.Broken place) = code 4 place
 replied (reply.Refused n l) = refusal n l
+
+-- THE ANSWER TO ONE PLACE: the same kinds, and beside kept the number of those who stood by
+abbrev pub put : place.PlaceAnswer → ℕ
+put (placeReply.Kept stood) = code 3 stood
+put (placeReply.Broken place) = code 4 place
+put (placeReply.Refused n l) = refusal n l

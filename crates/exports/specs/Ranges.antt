@@ -5,6 +5,8 @@ use Rattle.analyzer_verdict.specs.declared.Answer.{Answer}
 use Rattle.analyzer_verdict.specs.declared.Answer.the-variants.{Reached, Unreached, Refused}
 use Rattle.replay_session.specs.declared.Answer as session
 use Rattle.replay_session.specs.declared.Answer.the-variants as reply
+use Rattle.replay_session.specs.declared.PlaceAnswer as place
+use Rattle.replay_session.specs.declared.PlaceAnswer.the-variants as placeReply
 use Rattle.replay_session.specs.declared.Session.{Session}
 
 -- a shown run has at most 8,637 places
@@ -24,6 +26,12 @@ abbrev pub LowPlace : session.Answer → Type 0
 LowPlace reply.Kept = Unit {0}
 LowPlace (reply.Broken place) = place < 4294967296
 LowPlace (reply.Refused n l) = Unit {0}
+
+-- and so is the number of those who stood by
+abbrev pub LowNumber : place.PlaceAnswer → Type 0
+LowNumber (placeReply.Kept stood) = stood < 4294967296
+LowNumber (placeReply.Broken place) = place < 4294967296
+LowNumber (placeReply.Refused n l) = Unit {0}
 
 -- and so are the counts of a state
 pub record Small (s : Session) : Type 0 where

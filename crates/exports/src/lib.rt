@@ -10,10 +10,10 @@ ghost use lib.Seq.{paste};
 ghost use Rattle.limits.specs.Limits as limit;
 ghost use Rattle.grammar.specs.Texts.{outcome};
 ghost use Rattle.lines.specs.Lines.{lineAt};
-ghost use Rattle.exports.specs.Codes.{refusal as refusalCode, coded as codeOf, replied as replyCode};
+ghost use Rattle.exports.specs.Codes.{refusal as refusalCode, coded as codeOf, replied as replyCode, put as placeCode};
 ghost use Rattle.exports.specs.Cells.{lastNumber, table as tableOf, stateOf, cellsOf};
 ghost use Rattle.exports.specs.Calls.{Analyzed, Replayed, Placed};
-ghost use Rattle.exports.specs.Ranges.{ShortRun, LowPlace, Shown, Small};
+ghost use Rattle.exports.specs.Ranges.{ShortRun, LowPlace, LowNumber, Shown, Small};
 
 // The cells beside an answer of the analysis, of which the last has the shown run's last place.
 const LAST: usize = ATOMIC + 1;
@@ -69,6 +69,18 @@ fn replied(answer: replay_session::Answer) -> u64
         replay_session::Answer::Kept => 3 * 4_294_967_296,
         replay_session::Answer::Broken { place } => 4 * 4_294_967_296 + place as u64,
         replay_session::Answer::Refused { number, line } => refusal(number, line),
+    }
+}
+
+// The number of the answer to one place.
+fn put(answer: replay_session::PlaceAnswer) -> u64
+    requires { ⌜ LowNumber answer ⌝ }
+    ensures { λ r. ⌜ r ≡ placeCode answer ⌝ }
+{
+    match answer {
+        replay_session::PlaceAnswer::Kept { stood } => 3 * 4_294_967_296 + stood as u64,
+        replay_session::PlaceAnswer::Broken { place } => 4 * 4_294_967_296 + place as u64,
+        replay_session::PlaceAnswer::Refused { number, line } => refusal(number, line),
     }
 }
 
@@ -145,12 +157,12 @@ pub extern "C" fn eon_analyze(
     coded(answer)
 }
 
-// Replays a run over a text.
+// Replays a run over a text, and notes who stood by at each kept step.
 #[no_mangle]
-pub extern "C" fn eon_replay(text: &[u8], run: &[u32], work: &mut [u8]) -> u64
-    ensures { λ r. ⌜ Replayed (now (text .entry)) (now (run .entry)) (now (work .entry)) r (now (work .exit)) ⌝ }
+pub extern "C" fn eon_replay(text: &[u8], run: &[u32], work: &mut [u8], table: &mut [u32]) -> u64
+    ensures { λ r. ⌜ Replayed (now (text .entry)) (now (run .entry)) (now (work .entry)) (now (table .entry)) r (now (work .exit)) (now (table .exit)) ⌝ }
 {
-    replied(replay::replay(text, run, work))
+    replied(replay::replay(text, run, work, table))
 }
 
 // Puts one place to a lent state.
@@ -169,7 +181,7 @@ pub extern "C" fn eon_place(
     let left = pack(after);
     *session = left;
     let answer = reply.answer;
-    replied(answer)
+    put(answer)
 }
 
 // The line of clause i of an accepted text, and what stands on it.

@@ -20,8 +20,10 @@ use Rattle.text.specs.declared.Reading.{Reading}
 use Rattle.text.specs.Reading.{Reads}
 use Rattle.text.proofs.Laws.{is-accepted, read-represents, read-well-formed}
 use Rattle.replay_session.specs.declared.Answer.{Answer}
+use Rattle.replay_session.specs.declared.PlaceAnswer.{PlaceAnswer}
 use Rattle.replay_session.specs.declared.Session.{Session}
 use Rattle.replay_session.specs.Replays.{Replays}
+use Rattle.replay_session.specs.Notes.{Notes}
 use Rattle.replay_runs.specs.Replies.{PlaceReply}
 use Rattle.replay.specs.Replies.{Replayed, Put}
 
@@ -38,11 +40,12 @@ module _ (text : List ℕ) (r : Reading) (h : Reads (outcome text) text r) (e : 
   good-model = read-well-formed text (says .0) (says .1) (says .2) r (says .3) h
 
   -- A WHOLE RUN
-  pub replayed : (run work after : List ℕ) (a : Answer) → Replays (programOf m) (questionOf m) (start []) run 0 a → after ≡ wiped work → Replayed (outcome text) run work a after
-  replayed run work after a g w = rw (says .3) (rw (← says .4 .program, ← says .4 .question) g, w)
+  pub replayed : (run work table work′ table′ : List ℕ) (a : Answer) → Replays (programOf m) (questionOf m) (start []) run 0 a → Notes (programOf m) (questionOf m) (start []) run table table′
+      → work′ ≡ wiped work → Replayed (outcome text) run work table a work′ table′
+  replayed run work table work′ table′ a g n w = rw (says .3) (rw (← says .4 .program, ← says .4 .question) g, rw (← says .4 .program, ← says .4 .question) n, w)
 
   -- ONE PLACE
-  pub placed : (s t : Session) (n : ℕ) (work after : List ℕ) (a : Answer) → PlaceReply (declaredIn m 0) (programOf m) (questionOf m) (m .carried) s n a t → after ≡ wiped work → Put (outcome text) s n work a t after
+  pub placed : (s t : Session) (n : ℕ) (work after : List ℕ) (a : PlaceAnswer) → PlaceReply (declaredIn m 0) (programOf m) (questionOf m) (m .carried) s n a t → after ≡ wiped work → Put (outcome text) s n work a t after
   placed s t n work after a g w =
       let states : declaredIn m 0 ≡ count 0 (says .0) = declared-in (length (lines text)) (says .0) (says .1) (says .2) m (accepted-sound text (says .0) (says .1) (says .2) (says .3)) (says .4) 0 in
       rw (says .3) (rw (← says .4 .carried, ← states, ← says .4 .program, ← says .4 .question) g, w)

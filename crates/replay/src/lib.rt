@@ -3,10 +3,11 @@ use limits::RUN;
 use limits::WORK;
 use replay_runs::Reply;
 use replay_session::Answer;
+use replay_session::PlaceAnswer;
 use replay_session::Session;
 use text::Acceptance;
 ghost use mathlib.Core.Path.{_≡_};
-ghost use Rattle.replay_session.specs.declared.Answer.the-variants.{Refused};
+ghost use Rattle.replay_session.specs.declared.PlaceAnswer.the-variants.{Refused};
 ghost use Rattle.replay.specs.Replies.{runOutcome, Replayed, placeOutcome, Put};
 
 // A refusal leaves the state.
@@ -14,16 +15,17 @@ fn refuse(s: Session, number: u32, line: u32) -> Reply
     ensures { λ r. ⌜ (r .answer ≡ Refused number line) × (r .session ≡ s) ⌝ }
 {
     Reply {
-        answer: Answer::Refused { number, line },
+        answer: PlaceAnswer::Refused { number, line },
         session: s,
     }
 }
 
-// Replays a run over a text.
-pub fn replay(text: &[u8], run: &[u32], work: &mut [u8]) -> Answer
-    ensures { λ r. ⌜ Replayed (runOutcome (now (text .entry)) (now (run .entry)) (now (work .entry))) (now (run .entry)) (now (work .entry)) r (now (work .exit)) ⌝ }
+// Replays a run over a text, and notes in the table who stood by at each kept step.
+pub fn replay(text: &[u8], run: &[u32], work: &mut [u8], table: &mut [u32]) -> Answer
+    ensures { λ r. ⌜ Replayed (runOutcome (now (text .entry)) (now (run .entry)) (now (work .entry)) (now (table .entry))) (now (run .entry)) (now (work .entry)) (now (table .entry)) r (now (work .exit)) (now (table .exit)) ⌝ }
 {
-    let row = calls::early(text.len(), work.len() < WORK, run.len() > RUN);
+    let short = calls::short(work.len(), table.len());
+    let row = calls::early(text.len(), short, run.len() > RUN);
     if row != 0 {
         return Answer::Refused {
             number: row,
@@ -36,7 +38,7 @@ pub fn replay(text: &[u8], run: &[u32], work: &mut [u8]) -> Answer
         return Answer::Refused { number, line };
     }
     let m = reading.model;
-    replay_runs::replay_model(m, run, work)
+    replay_runs::replay_model(m, run, work, table)
 }
 
 // Puts one place to a state over a text.

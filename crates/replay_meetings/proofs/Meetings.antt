@@ -77,10 +77,10 @@ module _ (m : Model) (s : Session) (v : View) (w : List ℕ) (ready : Ready m s 
   from-meeting i h = subst (Meeting i) (sym here) h
 
   -- another stage, or another number of objects
-  pub other-stage : (i : ℕ) → i ≢ suc (s .met) → Tried m s (meet i os) false s
+  pub other-stage : (i : ℕ) → i ≢ suc (s .met) → Tried m s (meet i os) false s 0
   other-stage i n = ((λ h. n (h .1)), refl)
 
-  pub other-count : (i : ℕ) → length os ≢ g .variables → Tried m s (meet i os) false s
+  pub other-count : (i : ℕ) → length os ≢ g .variables → Tried m s (meet i os) false s 0
   other-count i n = ((λ h. n (to-meeting i h .2 ∙ stage-count m (ready .accepted) (s .met) left)), refl)
 
   module _ (i : ℕ) (next : i ≡ suc (s .met)) (count : length os ≡ g .variables) where
@@ -96,22 +96,22 @@ module _ (m : Model) (s : Session) (v : View) (w : List ℕ) (ready : Ready m s 
     object-named x l = objects-chosen a b c x (omega arith) .1
 
     -- THE STAGE HOLDS for the objects named exactly if its body in the literal row does
-    abbrev Held : Type 0
+    abbrev Held : (ℕ → ℕ) → Type 0
     Held = Holding m s local (g .variables) (choice a b c)
 
-    to-held : Meets (programOf m) (take (s .objects) (s .states)) (named stage os) stage → Held
-    to-held h = ((λ x. named stage os (numberIn g x)), meets-renamed (numberIn g) (programOf m) (take (s .objects) (s .states)) (named stage os) local .0 h, λ x l n. object x l)
+    to-held : Meets (programOf m) (take (s .objects) (s .states)) (named stage os) stage → Held (λ x. named stage os (numberIn g x))
+    to-held h = (meets-renamed (numberIn g) (programOf m) (take (s .objects) (s .states)) (named stage os) local .0 h, λ x l n. object x l)
 
-    from-held : Held → Meets (programOf m) (take (s .objects) (s .states)) (named stage os) stage
-    from-held h =
+    from-held : (σ : ℕ → ℕ) → Held σ → Meets (programOf m) (take (s .objects) (s .states)) (named stage os) stage
+    from-held σ h =
         meets-renamed (numberIn g) (programOf m) (take (s .objects) (s .states)) (named stage os) local .1
-        (holds-agree (take (s .objects) (s .states)) (Derived (programOf m) (take (s .objects) (s .states))) (h .0) (λ x. named stage os (numberIn g x)) local agree (h .1))
+        (holds-agree (take (s .objects) (s .states)) (Derived (programOf m) (take (s .objects) (s .states))) σ (λ x. named stage os (numberIn g x)) local agree (h .0))
       where
-        agree : (x : ℕ) → elem x (vars local) ≡ true → h .0 x ≡ named stage os (numberIn g x)
-        agree x e = let l = stage-vars m (ready .accepted) (s .met) left x .0 e in h .2 x l (object-named x l) ∙ sym (object x l)
+        agree : (x : ℕ) → elem x (vars local) ≡ true → σ x ≡ named stage os (numberIn g x)
+        agree x e = let l = stage-vars m (ready .accepted) (s .met) left x .0 e in h .1 x l (object-named x l) ∙ sym (object x l)
 
-    pub not-held : (Held → ⊥) → Tried m s (meet i os) false s
-    not-held n = ((λ h. n (to-held (to-meeting i h .3))), refl)
+    pub not-held : ((σ : ℕ → ℕ) → Held σ → ⊥) → Tried m s (meet i os) false s 0
+    not-held n = ((λ h. n (λ x. named stage os (numberIn g x)) (to-held (to-meeting i h .3))), refl)
 
     -- THE CARRIED VARIABLE
     module _ (o : ℕ) (found : Named g (m .carried) (choice a b c) o) where
@@ -138,7 +138,7 @@ module _ (m : Model) (s : Session) (v : View) (w : List ℕ) (ready : Ready m s 
           found
 
       -- a carried object that differs
-      pub disagrees : (Agrees (s .carried) o → ⊥) → Tried m s (meet i os) false s
+      pub disagrees : (Agrees (s .carried) o → ⊥) → Tried m s (meet i os) false s 0
       disagrees n = ((λ h. n (λ p q. ⊎-elim (λ f. sym (f .1) ∙ to-meeting i h .4 (m .carried) (s .carried) (carries p) (f .0)) (λ f. absurd (q (f .1))) has)), refl)
         where
           carries : s .carried ≢ 255 → sessionOf m s .carried (m .carried) ≡ some (s .carried)
@@ -165,14 +165,15 @@ module _ (m : Model) (s : Session) (v : View) (w : List ℕ) (ready : Ready m s 
           (λ f. rw (f .0, eq-eqb o 255 (f .1)))
           has
 
-      pub meeting-kept : Agrees (s .carried) o → Held → Tried m s (meet i os) true (met s (carriedOn (s .carried) o))
-      meeting-kept agree h = (
+      pub meeting-kept : Agrees (s .carried) o → (σ : ℕ → ℕ) → Held σ → Tried m s (meet i os) true (met s (carriedOn (s .carried) o)) 0
+      meeting-kept agree σ h = (
         from-meeting i (
           (let q = stages m (ready .accepted) in omega arith),
           next,
           count ∙ sym (stage-count m (ready .accepted) (s .met) left),
-          from-held h,
+          from-held σ h,
           one-object agree,
         ),
         ap (met s) (carried-after ∙ ap (λ (y : Body). carriedBy m s y os) (sym here)),
+        refl,
       )

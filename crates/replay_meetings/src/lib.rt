@@ -1,5 +1,6 @@
 // The meeting of a stage put to the replay's state.
 use facts_candidates::Choice;
+use facts_find::Found;
 use limits::NONE;
 use model::Model;
 use model::Stage;
@@ -84,7 +85,7 @@ pub fn meet_place(
     third: u32,
 ) -> Outcome
     requires { ⌜ Ready m s v (now work) × (s .met < m .stagecount) × (first < 256) × (second < 256) × (third < 256) ⌝ }
-    ensures { λ r. ⌜ Tried m s (meet stage (objects (first ∷ second ∷ third ∷ []))) (r .allowed) (r .session) ⌝ }
+    ensures { λ r. ⌜ Tried m s (meet stage (objects (first ∷ second ∷ third ∷ []))) (r .allowed) (r .session) (r .stood) ⌝ }
 {
     let i = s.met;
     if stage as usize != i + 1 {
@@ -105,12 +106,14 @@ pub fn meet_place(
     if !agrees(s.carried, object) {
         return replay_steps::disallow(s);
     }
-    if replay_steps::holds(m, s, v, work, part, size, g.variables, fixed) {
-        let after = replay_session::meet(s, carry(s.carried, object));
-        return Outcome {
-            allowed: true,
-            session: after,
-        };
+    let found = replay_steps::decide(m, s, v, work, part, size, g.variables, fixed);
+    let Found::At(_) = found else {
+        return replay_steps::disallow(s);
+    };
+    let after = replay_session::meet(s, carry(s.carried, object));
+    Outcome {
+        allowed: true,
+        session: after,
+        stood: 0,
     }
-    replay_steps::disallow(s)
 }

@@ -90,11 +90,11 @@ running-start m run = record { kept = refl; fits = fresh-fits m; long = fresh-lo
 
 module _ (m : Model) (w : WellFormed m) (run : List ℕ) (i : ℕ) (s : Session) (r : Running m run i s) where
   module _ (l : i < length run) (few : length run ≤ limit.run) where
-    pub running-broken : (t : Session) → TriedAt m s (getD run i 0) false t → Replays (programOf m) (questionOf m) (start []) run 0 (Broken i)
-    running-broken t h = r .rest (Broken i) (rw (drop-cons run i 0 l) (inr (h .0, refl)))
+    pub running-broken : (t : Session) (k : ℕ) → TriedAt m s (getD run i 0) false t k → Replays (programOf m) (questionOf m) (start []) run 0 (Broken i)
+    running-broken t k h = r .rest (Broken i) (rw (drop-cons run i 0 l) (inr (h .0, refl)))
 
-    pub running-next : (t : Session) → getD run i 0 < 4294967296 → TriedAt m s (getD run i 0) true t → Running m run (i + 1) t
-    running-next t small (p, e, (allowed, q)) =
+    pub running-next : (t : Session) (k : ℕ) → getD run i 0 < 4294967296 → TriedAt m s (getD run i 0) true t k → Running m run (i + 1) t
+    running-next t k small (p, e, (allowed, q, stands)) =
         subst (Running m run (i + 1)) (sym q)
         (record {
           kept = let k = taken-kept m s p allowed in let j = r .kept in omega arith;

@@ -9,11 +9,12 @@ use Rattle.semantics.specs.Models.{Program, Question}
 use Rattle.semantics.specs.Runs as runs
 use Rattle.semantics.specs.Runs.{Allowed}
 use Rattle.model.specs.Places.{placeOf}
-use Rattle.replay_session.specs.declared.Answer.{Answer}
-use Rattle.replay_session.specs.declared.Answer.the-variants.{Kept, Broken}
+use Rattle.replay_session.specs.declared.PlaceAnswer.{PlaceAnswer}
+use Rattle.replay_session.specs.declared.PlaceAnswer.the-variants.{Kept, Broken}
 use Rattle.replay_session.specs.declared.Session.{Session}
 use Rattle.replay_session.specs.Sessions.{sessionOf, Fits, taken}
 use Rattle.replay_session.specs.Replays.{Allows}
+use Rattle.replay_session.specs.Notes.{Stands}
 
 -- the state before the first place: no objects, no stage met, none carried, no place kept
 abbrev pub fresh : Session
@@ -23,22 +24,25 @@ fresh = record { states = replicate limit.objects 0; objects = 0; met = 0; carri
 -- The text declares so many state relations, and c is its carried variable.
 module _ (declared : ℕ) (P : Program) (Q : Question) (c : ℕ) where
   -- a state that doesn't fit the text "is answered broken at 0 and left too"
-  pub record Misfit (s : Session) (a : Answer) (t : Session) : Type 0 where
+  pub record Misfit (s : Session) (a : PlaceAnswer) (t : Session) : Type 0 where
     pub misfit : Fits declared Q s → ⊥
     pub answer : a ≡ Broken 0
     pub left : t ≡ s
 
-  pub record KeptPlace (s : Session) (n : ℕ) (a : Answer) (t : Session) : Type 0 where
+  pub record KeptPlace (s : Session) (n : ℕ) (a : PlaceAnswer) (t : Session) : Type 0 where
     pub place : runs.Place
     pub form : placeOf n ≡ some place
     pub allowed : Allowed P Q (sessionOf c s) place
-    pub answer : a ≡ Kept
+    -- "The place-by-place caller is answered the same number": the one that the replay of a whole run notes at that place
+    pub stood : ℕ
+    pub stands : Stands P (sessionOf c s) place stood
+    pub answer : a ≡ Kept stood
     pub taken : t ≡ taken P Q c s place
 
-  pub record BrokenPlace (s : Session) (n : ℕ) (a : Answer) (t : Session) : Type 0 where
+  pub record BrokenPlace (s : Session) (n : ℕ) (a : PlaceAnswer) (t : Session) : Type 0 where
     pub disallowed : Allows P Q (sessionOf c s) n → ⊥
     pub answer : a ≡ Broken (s .kept)
     pub left : t ≡ s
 
-  abbrev pub PlaceReply : Session → ℕ → Answer → Session → Type 0
+  abbrev pub PlaceReply : Session → ℕ → PlaceAnswer → Session → Type 0
   PlaceReply s n a t = Misfit s a t ⊎ (Fits declared Q s × (KeptPlace s n a t ⊎ BrokenPlace s n a t))

@@ -2,3 +2,4 @@ pub mod Relations
 pub mod Fitting
 pub mod Effects
 pub mod Answers
+pub mod Noting

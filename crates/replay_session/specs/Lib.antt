@@ -1,3 +1,4 @@
 pub mod Replays
+pub mod Notes
 pub mod Sessions
 pub mod Records

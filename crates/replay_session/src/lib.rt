@@ -14,9 +14,16 @@ ghost use Rattle.model.specs.WellFormed.{inClass, WellFormed};
 ghost use Rattle.replay_session.specs.Sessions.{Says, stateIn, created, relabeled, met as stageMet};
 ghost use Rattle.replay_session.specs.Records.{Fits};
 
-// The replay's answer: kept, broken at a place, or a refusal with its number and line.
+// The replay's answer to a run: kept, broken at a place, or a refusal with its number and line.
 pub enum Answer {
     Kept,
+    Broken { place: usize },
+    Refused { number: u32, line: u32 },
+}
+
+// The answer to one place: kept with the number of those who stood by, broken at the count of places kept, or a refusal with its number and line.
+pub enum PlaceAnswer {
+    Kept { stood: u32 },
     Broken { place: usize },
     Refused { number: u32, line: u32 },
 }

@@ -1,22 +1,24 @@
 -- Steps of the lines of an accepted model.
 use mathlib.Core.Path.{_≡_, refl, sym, ap, _∙_, subst}
-use mathlib.Core.Logic.{_≢_, ⊎-elim}
+use mathlib.Core.Logic.{_≢_, ⊎-elim, _↔_}
 use mathlib.Core.Bool.{true, false}
-use mathlib.Core.List.{List}
+use mathlib.Core.List.{List, [], _++_, map}
 use Prim.Native.Nat.{ℕ, _≤_, _<_}
 use native.Mathlib.Omega.{arith}
 use borrow.Author.Tests.{eq-eqb, ne-eqb}
 use lib.ListN.{length, take}
 use Rattle.limits.specs.Limits as limit
-use Rattle.semantics.specs.Models.{Body, Line, rule, new, next, other, line, vars, SafeLine, Supported}
+use Rattle.semantics.specs.Models.{elem, Body, Line, rule, new, next, other, line, vars, firsts, SafeLine, Supported}
 use Rattle.semantics.specs.Steps.{Enabled}
 use Rattle.semantics.specs.Runs.{step}
+use Rattle.semantics.specs.StandingBy.{First, lineNames, EnabledBy, StoodBy}
 use Rattle.semantics.proofs.Tools.{same?}
 use Rattle.semantics.proofs.Bodies.{supported-vars}
+use Rattle.semantics.proofs.StandingBy.{first-same, stood-by-enabled}
 use Rattle.model.specs.declared.Action.{Action}
 use Rattle.model.specs.declared.Action.the-variants.{Rule, New, Next}
 use Rattle.model.specs.declared.Model.{Model}
-use Rattle.model.specs.Records.{lineOf, clauseBody, programOf, clauseAt}
+use Rattle.model.specs.Records.{upFrom, headOf, lineOf, clauseBody, programOf, clauseAt}
 use Rattle.model.specs.WellFormed.{WellFormed}
 use Rattle.model.proofs.Accepted.{on-line, clause-safe, clause-vars, stages}
 use Rattle.facts_candidates.specs.declared.Choice.{Choice}
@@ -24,6 +26,7 @@ use Rattle.facts_candidates.specs.Choices.{chosen}
 use Rattle.facts_find.specs.Bodies.{Fixed}
 use Rattle.replay_session.specs.declared.Session.{Session}
 use Rattle.replay_session.specs.Sessions.{created, relabeled, stepped}
+use Rattle.replay_session.specs.Notes.{standing}
 use Rattle.replay_session.proofs.Effects.{size}
 use Rattle.replay_view.specs.declared.View.{View}
 use Rattle.replay_steps.specs.Tries.{Ready, Holding, Tried}
@@ -47,6 +50,10 @@ module _ (m : Model) (w : WellFormed m) (k : ℕ) (h : k < m .clausecount) where
 
   pub part-supported : Supported (vars body) body
   part-supported = body-supported (clauseAt m k .action) body (clause-safe m w k h)
+
+  -- its variables in order of first appearance
+  pub line-variables : (a : Action) → clauseAt m k .action ≡ a → firsts [] (headOf a ++ vars body) ≡ upFrom 0 (clauseAt m k .variables)
+  line-variables a e = subst (λ (x : Action). firsts [] (headOf x ++ vars body) ≡ upFrom 0 (clauseAt m k .variables)) e (w .clause k h .numbered)
 
   -- a `next` line has a variable
   pub next-variable : (plus minus : ℕ) → clauseAt m k .action ≡ Next plus minus → 0 < clauseAt m k .variables
@@ -74,39 +81,58 @@ module _ (m : Model) (s : Session) (v : View) (w : List ℕ) (ready : Ready m s 
   sized : length db ≡ s .objects
   sized = size m (ready .accepted) s (ready .long) (ready .fits)
 
-  module _ (L : Line) (on : line (programOf m) ℓ ≡ L) where
-    -- the step is that of what stands on the line
-    stands : Enabled (programOf m) db o L → Tried m s (step ℓ o) true (stepped s o L)
-    stands e = ((let q = stages m (ready .accepted) in omega arith, subst (Enabled (programOf m) db o) (sym on) e), ap (stepped s o) (sym on))
+  -- those whom a choice has are objects
+  pub objects-below : (b : Body) (n : ℕ) (fixed : Choice) (σ : ℕ → ℕ) → ((x : ℕ) → elem x (vars b) ≡ true ↔ x < n) → Holding m s b n fixed σ → (x : ℕ) → x < n → σ x < limit.objects
+  objects-below b n fixed σ names h x l = let i = h .0 .0 x (names x .1 l) in let z = sized in let f = ready .fits .objects in omega arith
 
-    fails : (Enabled (programOf m) db o L → ⊥) → Tried m s (step ℓ o) false s
+  module _ (L : Line) (on : line (programOf m) ℓ ≡ L) where
+    -- the step is that of what stands on the line, and those stood by whom the first choice has
+    stands : (n : ℕ) (Good : (ℕ → ℕ) → Type 0) (c : Choice) (k : ℕ) → lineNames L ≡ upFrom 0 n → ((σ : ℕ → ℕ) → Good σ ↔ EnabledBy (programOf m) db o L σ) → First (upFrom 0 n) Good (chosen c)
+        → k ≡ standing (map (chosen c) (upFrom 0 n)) → Tried m s (step ℓ o) true (stepped s o L) k
+    stands n Good c k names same f e = (
+      (let q = stages m (ready .accepted) in omega arith, subst (Enabled (programOf m) db o) (sym on) (stood-by-enabled (programOf m) (ready .accepted .safe) db o L (map (chosen c) (upFrom 0 n)) by)),
+      ap (stepped s o) (sym on),
+      (map (chosen c) (upFrom 0 n), subst (λ (M : Line). StoodBy (programOf m) db o M (map (chosen c) (upFrom 0 n))) (sym on) by, e),
+    )
+      where
+        by : StoodBy (programOf m) db o L (map (chosen c) (upFrom 0 n))
+        by = record {
+          choice = chosen c;
+          first = subst (λ (xs : List ℕ). First xs (EnabledBy (programOf m) db o L) (chosen c)) (sym names) (first-same (upFrom 0 n) Good (EnabledBy (programOf m) db o L) (chosen c) same f);
+          objects = ap (map (chosen c)) (sym names);
+        }
+
+    fails : (Enabled (programOf m) db o L → ⊥) → Tried m s (step ℓ o) false s 0
     fails n = ((λ a. n (subst (Enabled (programOf m) db o) on (a .1))), refl)
 
   -- a line that is no `new` or `next` line
-  pub no-clause : line (programOf m) ℓ ≡ other → Tried m s (step ℓ o) false s
+  pub no-clause : line (programOf m) ℓ ≡ other → Tried m s (step ℓ o) false s 0
   no-clause on = fails other on (λ e. e)
 
-  pub no-step : (r : ℕ) (xs : List ℕ) (b : Body) → line (programOf m) ℓ ≡ rule r xs b → Tried m s (step ℓ o) false s
+  pub no-step : (r : ℕ) (xs : List ℕ) (b : Body) → line (programOf m) ℓ ≡ rule r xs b → Tried m s (step ℓ o) false s 0
   no-step r xs b on = fails (rule r xs b) on (λ e. e)
 
   -- a `new` line
   module _ (t : ℕ) (b : Body) (n : ℕ) (on : line (programOf m) ℓ ≡ new t b) where
-    pub new-kept : o ≡ s .objects → Holding m s b n (only 255) → Tried m s (step ℓ o) true (created s t)
-    new-kept e h = stands (new t b) on (e ∙ sym sized, (h .0, h .1))
+    pub new-kept : lineNames (new t b) ≡ upFrom 0 n → o ≡ s .objects → (c : Choice) (k : ℕ) → First (upFrom 0 n) (Holding m s b n (only 255)) (chosen c) → k ≡ standing (map (chosen c) (upFrom 0 n))
+        → Tried m s (step ℓ o) true (created s t) k
+    new-kept names e c k = stands (new t b) on n (Holding m s b n (only 255)) c k names (λ σ. ((λ h. (e ∙ sym sized, h .0)), λ h. (h .1, fixed-free n σ)))
 
-    pub new-other : o ≢ s .objects → Tried m s (step ℓ o) false s
+    pub new-other : o ≢ s .objects → Tried m s (step ℓ o) false s 0
     new-other e = fails (new t b) on (λ q. e (q .0 ∙ sized))
 
-    pub new-fails : (Holding m s b n (only 255) → ⊥) → Tried m s (step ℓ o) false s
-    new-fails h = fails (new t b) on (λ q. h (q .1 .0, q .1 .1, fixed-free n (q .1 .0)))
+    pub new-fails : ((σ : ℕ → ℕ) → Holding m s b n (only 255) σ → ⊥) → Tried m s (step ℓ o) false s 0
+    new-fails h = fails (new t b) on (λ q. h (q .1 .0) (q .1 .1, fixed-free n (q .1 .0)))
 
   -- a `next` line
   module _ (plus minus : ℕ) (b : Body) (n : ℕ) (on : line (programOf m) ℓ ≡ next 0 plus minus b) where
-    pub next-kept : 0 < n → o < 255 → o < s .objects → Holding m s b n (only o) → Tried m s (step ℓ o) true (relabeled s o plus minus)
-    next-kept z k l h = stands (next 0 plus minus b) on (let q = sized in omega arith, (h .0, h .2 0 z (λ e. omega arith), h .1))
+    pub next-kept : lineNames (next 0 plus minus b) ≡ upFrom 0 n → 0 < n → o < 255 → o < s .objects → (c : Choice) (k : ℕ) → First (upFrom 0 n) (Holding m s b n (only o)) (chosen c)
+        → k ≡ standing (map (chosen c) (upFrom 0 n)) → Tried m s (step ℓ o) true (relabeled s o plus minus) k
+    next-kept names z h l c k = stands (next 0 plus minus b) on n (Holding m s b n (only o)) c k names
+        (λ σ. ((λ g. (let q = sized in omega arith, g .1 0 z (λ e. omega arith), g .0)), λ g. (g .2, fixed-only n o σ (g .1))))
 
-    pub next-other : s .objects ≤ o → Tried m s (step ℓ o) false s
-    next-other l = fails (next 0 plus minus b) on (λ q. let k = q .0 in let z = sized in omega arith)
+    pub next-other : s .objects ≤ o → Tried m s (step ℓ o) false s 0
+    next-other l = fails (next 0 plus minus b) on (λ q. let i = q .0 in let z = sized in omega arith)
 
-    pub next-fails : (Holding m s b n (only o) → ⊥) → Tried m s (step ℓ o) false s
-    next-fails h = fails (next 0 plus minus b) on (λ q. h (q .1 .0, q .1 .2, fixed-only n o (q .1 .0) (q .1 .1)))
+    pub next-fails : ((σ : ℕ → ℕ) → Holding m s b n (only o) σ → ⊥) → Tried m s (step ℓ o) false s 0
+    next-fails h = fails (next 0 plus minus b) on (λ q. h (q .1 .0) (q .1 .2, fixed-only n o (q .1 .0) (q .1 .1)))

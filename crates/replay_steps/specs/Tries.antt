@@ -19,6 +19,7 @@ use Rattle.facts_find.specs.Bodies.{Fixed}
 use Rattle.replay_session.specs.declared.Session.{Session}
 use Rattle.replay_session.specs.Records.{sessionOf, Fits, taken}
 use Rattle.replay_session.specs.Replays.{Allows}
+use Rattle.replay_session.specs.Notes.{Stands}
 use Rattle.replay_view.specs.declared.View.{View}
 use Rattle.replay_view.specs.Views.{rowOf, Views, Known}
 
@@ -35,16 +36,16 @@ pub record Ready (m : Model) (s : Session) (v : View) (w : List ℕ) : Type 0 wh
   pub sees : Sees m s v w
   pub long : length (s .states) ≡ limit.objects
 
--- the body holds in the state's database for a choice that has the fixed elements
-abbrev pub Holding : Model → Session → Body → ℕ → Choice → Type 0
-Holding m s b n fixed = (σ : ℕ → ℕ) × Meets (programOf m) (take (s .objects) (s .states)) σ b × Fixed n fixed σ
+-- the body holds in the state's database for the choice σ, which has the fixed elements
+abbrev pub Holding : Model → Session → Body → ℕ → Choice → (ℕ → ℕ) → Type 0
+Holding m s b n fixed σ = Meets (programOf m) (take (s .objects) (s .states)) σ b × Fixed n fixed σ
 
--- the place is allowed and taken, or it is not allowed and the state is left as before
-abbrev pub Tried : Model → Session → runs.Place → Bool → Session → Type 0
-Tried m s p true t = Allowed (programOf m) (questionOf m) (sessionOf m s) p × (t ≡ taken m s p)
-Tried m s p false t = (Allowed (programOf m) (questionOf m) (sessionOf m s) p → ⊥) × (t ≡ s)
+-- the place is allowed and taken, and k is its number; or it is not allowed and the state is left as before
+abbrev pub Tried : Model → Session → runs.Place → Bool → Session → ℕ → Type 0
+Tried m s p true t k = Allowed (programOf m) (questionOf m) (sessionOf m s) p × (t ≡ taken m s p) × Stands (programOf m) (sessionOf m s) p k
+Tried m s p false t k = (Allowed (programOf m) (questionOf m) (sessionOf m s) p → ⊥) × (t ≡ s)
 
 -- the same of a place's number
-abbrev pub TriedAt : Model → Session → ℕ → Bool → Session → Type 0
-TriedAt m s n true t = (p : runs.Place) × (placeOf n ≡ some p) × Tried m s p true t
-TriedAt m s n false t = (Allows (programOf m) (questionOf m) (sessionOf m s) n → ⊥) × (t ≡ s)
+abbrev pub TriedAt : Model → Session → ℕ → Bool → Session → ℕ → Type 0
+TriedAt m s n true t k = (p : runs.Place) × (placeOf n ≡ some p) × Tried m s p true t k
+TriedAt m s n false t k = (Allows (programOf m) (questionOf m) (sessionOf m s) n → ⊥) × (t ≡ s)

@@ -8,23 +8,27 @@ use replay_session::Session;
 use replay_view::View;
 ghost use mathlib.Core.Path.{_≡_};
 ghost use mathlib.Core.Logic.{_≢_};
+ghost use mathlib.Core.Bool.{false};
+ghost use mathlib.Core.List.{map};
 ghost use Prim.Native.Nat.{ℕ, _≤_, _<_};
 ghost use lib.ListN.{drop};
 ghost use Rattle.limits.specs.Limits as limit;
 ghost use Rattle.semantics.specs.Models.{vars, Supported};
-ghost use mathlib.Core.Bool.{false};
 ghost use Rattle.semantics.specs.Runs.{step};
 ghost use Rattle.model.specs.declared.Action.the-variants.{New, Next};
 ghost use Rattle.model.specs.Literals.{GoodBody};
-ghost use Rattle.model.specs.Records.{bodyAt, clauseAt};
+ghost use Rattle.model.specs.Records.{upFrom, bodyAt, clauseAt};
 ghost use Rattle.model.specs.WellFormed.{WellFormed};
-ghost use Rattle.replay_session.specs.Sessions.{Says};
+ghost use Rattle.facts_candidates.specs.Choices.{chosen};
+ghost use Rattle.facts_find.specs.Bodies.{Decides};
+ghost use Rattle.replay_session.specs.Notes.{standing};
 ghost use Rattle.replay_steps.specs.Tries.{Ready, Holding, Tried};
 
-// Whether a place is allowed, and the state after it, which is the one before where it is not.
+// Whether a place is allowed; the state after it, which is the one before where it is not; and the number of those who stood by, which only a step has.
 pub struct Outcome {
     pub allowed: bool,
     pub session: Session,
+    pub stood: u32,
 }
 
 // The place is not allowed, and the state is left.
@@ -34,6 +38,7 @@ pub fn disallow(s: Session) -> Outcome
     Outcome {
         allowed: false,
         session: s,
+        stood: 0,
     }
 }
 
@@ -54,8 +59,8 @@ fn clause_on(m: Model, line: u32) -> usize
     i
 }
 
-// Whether a body holds in the database for a choice that has the fixed objects.
-pub fn holds(
+// The first choice that has the fixed objects and for which a body holds in the database, or that there is none.
+pub fn decide(
     m: Model,
     s: Session,
     v: View,
@@ -64,31 +69,38 @@ pub fn holds(
     count: usize,
     variables: u32,
     fixed: Choice,
-) -> bool
+) -> Found
     requires { ⌜ Ready m s v (now work) × (first ≤ limit.literals) × GoodBody (drop first (m .literals)) count variables × Supported (vars (bodyAt (m .literals) first count)) (bodyAt (m .literals) first count) ⌝ }
-    ensures { λ r. ⌜ Says (Holding m s (bodyAt (m .literals) first count) variables fixed) r ⌝ }
+    ensures { λ r. ⌜ Decides variables (Holding m s (bodyAt (m .literals) first count) variables fixed) r ⌝ }
 {
     let n = s.objects;
     let slots = v.slots;
     let literals = m.literals;
-    let found = facts_find::find(
+    facts_find::find(
         work,
         &slots[..n],
         &literals[first..],
         count,
         variables as usize,
         fixed,
-    );
-    if let Found::At(_) = found {
-        return true;
-    }
-    false
+    )
+}
+
+// The number of those who stood by: the objects that a choice has for n variables, 255 where there is none.
+fn number(n: usize, c: Choice) -> u32
+    requires { ⌜ ((x : ℕ) → x < n → chosen c x < limit.objects) ⌝ }
+    ensures { λ r. ⌜ r ≡ standing (map (chosen c) (upFrom 0 n)) ⌝ }
+{
+    let first = facts_candidates::object(n, 0, c);
+    let second = facts_candidates::object(n, 1, c);
+    let third = facts_candidates::object(n, 2, c);
+    first * 65_536 + second * 256 + third
 }
 
 // A step of clause k, a `new` line.
 fn create(m: Model, s: Session, v: View, work: &[u8], k: usize, set: u32, object: u32) -> Outcome
     requires { ⌜ Ready m s v (now work) × (s .met < m .stagecount) × (object < limit.objects) × (k < m .clausecount) × (clauseAt m k .action ≡ New set) ⌝ }
-    ensures { λ r. ⌜ Tried m s (step (clauseAt m k .line) object) (r .allowed) (r .session) ⌝ }
+    ensures { λ r. ⌜ Tried m s (step (clauseAt m k .line) object) (r .allowed) (r .session) (r .stood) ⌝ }
 {
     if object as usize != s.objects {
         return disallow(s);
@@ -101,14 +113,17 @@ fn create(m: Model, s: Session, v: View, work: &[u8], k: usize, set: u32, object
         second: FREE,
         third: FREE,
     };
-    if holds(m, s, v, work, first, count, c.variables, fixed) {
-        let after = replay_session::create(s, set);
-        return Outcome {
-            allowed: true,
-            session: after,
-        };
+    let found = decide(m, s, v, work, first, count, c.variables, fixed);
+    let Found::At(helpers) = found else {
+        return disallow(s);
+    };
+    let after = replay_session::create(s, set);
+    let stood = number(c.variables as usize, helpers);
+    Outcome {
+        allowed: true,
+        session: after,
+        stood,
     }
-    disallow(s)
 }
 
 // A step of clause k, a `next` line.
@@ -123,7 +138,7 @@ fn change(
     object: u32,
 ) -> Outcome
     requires { ⌜ Ready m s v (now work) × (s .met < m .stagecount) × (object < limit.objects) × (k < m .clausecount) × (clauseAt m k .action ≡ Next plus minus) ⌝ }
-    ensures { λ r. ⌜ Tried m s (step (clauseAt m k .line) object) (r .allowed) (r .session) ⌝ }
+    ensures { λ r. ⌜ Tried m s (step (clauseAt m k .line) object) (r .allowed) (r .session) (r .stood) ⌝ }
 {
     let o = object as usize;
     if o >= s.objects {
@@ -137,20 +152,23 @@ fn change(
         second: FREE,
         third: FREE,
     };
-    if holds(m, s, v, work, first, count, c.variables, fixed) {
-        let after = replay_session::relabel(s, o, plus, minus);
-        return Outcome {
-            allowed: true,
-            session: after,
-        };
+    let found = decide(m, s, v, work, first, count, c.variables, fixed);
+    let Found::At(choice) = found else {
+        return disallow(s);
+    };
+    let after = replay_session::relabel(s, o, plus, minus);
+    let stood = number(c.variables as usize, choice);
+    Outcome {
+        allowed: true,
+        session: after,
+        stood,
     }
-    disallow(s)
 }
 
 // A step of a line and an object.
 pub fn step_place(m: Model, s: Session, v: View, work: &[u8], line: u32, object: u32) -> Outcome
     requires { ⌜ Ready m s v (now work) × (s .met < m .stagecount) × (object < limit.objects) ⌝ }
-    ensures { λ r. ⌜ Tried m s (step line object) (r .allowed) (r .session) ⌝ }
+    ensures { λ r. ⌜ Tried m s (step line object) (r .allowed) (r .session) (r .stood) ⌝ }
 {
     let k = clause_on(m, line);
     if k >= m.clausecount {

@@ -6,7 +6,7 @@ use mathlib.Core.List.{List, [], _∷_, _++_, map, map-map}
 use mathlib.Core.Option.{Option, none, some}
 use Prim.Native.Nat.{ℕ, zero, suc, _+_, _-_, _*_, _≤_, _<_}
 use native.Mathlib.Omega.{arith}
-use native.Mathlib.Nat.{not-suc-le-zero, add-zero, add-suc, suc-add, zero-add}
+use native.Mathlib.Nat.{not-suc-le-zero}
 use borrow.Author.Tests.{eq-eqb, ne-eqb}
 use lib.Dec.{eqb}
 use lib.ListN.{length, set, getD, length-map, length-append}
@@ -58,23 +58,6 @@ seat-own (x ∷ S) (suc o) d l = rw (ne-eqb (getD S o 0) x (λ e. clash (listed 
 map-same : (f g : ℕ → ℕ) (k n : ℕ) → ((x : ℕ) → k ≤ x → x < k + n → f x ≡ g x) → map f (upFrom k n) ≡ map g (upFrom k n)
 map-same f g k zero h = refl
 map-same f g k (suc n) h = rw (h k (omega arith) (omega arith), map-same f g (suc k) n (λ x a b. h x (omega arith) (omega arith)))
-
--- the element that stands at x among those of the first n variables
-named-at : (h : ℕ → ℕ) (k n x : ℕ) → x < n → getD (map h (upFrom k n)) x 255 ≡ h (k + x)
-named-at h k zero x l = absurd (not-suc-le-zero l)
-named-at h k (suc n) zero l = rw add-zero
-named-at h k (suc n) (suc x) l = rw (add-suc, ← suc-add) (named-at h (suc k) n x (omega arith))
-
-unnamed-at : (h : ℕ → ℕ) (k n x : ℕ) → n ≤ x → getD (map h (upFrom k n)) x 255 ≡ 255
-unnamed-at h k zero x l = refl
-unnamed-at h k (suc n) zero l = absurd (not-suc-le-zero l)
-unnamed-at h k (suc n) (suc x) l = unnamed-at h (suc k) n x (omega arith)
-
-pub object-named : (c : Choice) (n x : ℕ) → x < n → chosen c x ≡ getD (map (chosen c) (upFrom 0 n)) x 255
-object-named c n x l = sym (named-at (chosen c) 0 n x l ∙ ap (chosen c) (zero-add x))
-
-pub object-none : (c : Choice) (n x : ℕ) → n ≤ x → 255 ≡ getD (map (chosen c) (upFrom 0 n)) x 255
-object-none c n x l = sym (unnamed-at (chosen c) 0 n x l)
 
 objects-below : (h : ℕ → ℕ) (k n : ℕ) → ((x : ℕ) → k ≤ x → x < k + n → h x < 255) → Objects (map h (upFrom k n))
 objects-below h k zero b = tt

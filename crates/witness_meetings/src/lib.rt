@@ -2,13 +2,12 @@
 use facts_candidates::Choice;
 use facts_find::Found;
 use facts_holds::Part;
-use limits::NONE;
 use model::Model;
 use model::Place;
 use model::Stage;
 use search_states::States;
 ghost use mathlib.Core.Path.{_≡_};
-ghost use mathlib.Core.List.{List, map};
+ghost use mathlib.Core.List.{List};
 ghost use mathlib.Core.Logic.{_≢_};
 ghost use mathlib.Core.Option.{Option, some};
 ghost use Prim.Native.Nat.{ℕ, suc, _+_, _≤_, _<_};
@@ -16,7 +15,7 @@ ghost use lib.ListN.{length, getD};
 ghost use Rattle.limits.specs.Limits as limit;
 ghost use Rattle.semantics.specs.Tables.{Shows};
 ghost use Rattle.model.specs.Places.{numberOf};
-ghost use Rattle.model.specs.Records.{upFrom, bodyAt, numberIn, stageBody, stageAt};
+ghost use Rattle.model.specs.Records.{bodyAt, numberIn, stageBody, stageAt};
 ghost use Rattle.facts_table.specs.Table.{tableOf, Consistent, Rows};
 ghost use Rattle.facts_candidates.specs.Choices.{chosen, Own};
 ghost use Rattle.facts_find.specs.Bodies.{Fixed};
@@ -68,25 +67,14 @@ fn choice(
     fixed
 }
 
-// The object that a meeting names for variable x of n, or 255 where there is none.
-fn object(n: usize, x: usize, c: Choice) -> u32
-    requires { ⌜ (x < n → chosen c x < limit.objects) ⌝ }
-    ensures { λ r. ⌜ (r ≡ getD (map (chosen c) (upFrom 0 n)) x limit.none) × (r < 256) ⌝ }
-{
-    if x < n {
-        return facts_candidates::element(c, x) as u32;
-    }
-    NONE
-}
-
 // The number of the meeting of stage k + 1 with the chosen objects of its n variables.
 fn number(k: usize, n: usize, c: Choice) -> u32
     requires { ⌜ (k < 127) × (n ≤ limit.variables) × ((x : ℕ) → x < n → chosen c x < limit.objects) ⌝ }
     ensures { λ r. ⌜ r ≡ numberOf (meeting k n c) ⌝ }
 {
-    let first = object(n, 0, c);
-    let second = object(n, 1, c);
-    let third = object(n, 2, c);
+    let first = facts_candidates::object(n, 0, c);
+    let second = facts_candidates::object(n, 1, c);
+    let third = facts_candidates::object(n, 2, c);
     let stage = k as u32 + 1;
     model::number_of(Place::Meeting {
         stage,

@@ -8,10 +8,9 @@ use borrow.Author.Tests.{ltb-false}
 use Rattle.limits.specs.Limits as limit
 use Rattle.semantics.proofs.Tools.{or-false}
 use Rattle.grammar.specs.Texts.{outcome}
-use Rattle.calls.specs.Calls.{early, called}
+use Rattle.calls.specs.Calls.{early, called, short}
 use Rattle.calls.proofs.Laws.{called-early, called-lines, sizes}
 use Rattle.text.proofs.Laws.{is-refused}
-use Rattle.analyzer.specs.Analyzing.{short}
 use Rattle.analyzer.proofs.Laws.{good-model, leaves}
 use Rattle.analyzer.proofs.analyze.Statement.{statement}
 use Rattle.analyzer.proofs.analyze.Tie as tie

@@ -4,8 +4,7 @@ use mathlib.Core.Path.{ap, _∙_}
 use mathlib.Core.Bool.{false}
 use lib.ListN.{length}
 use denote.Ref.{now}
-use Rattle.calls.specs.Calls.{called}
-use Rattle.analyzer.specs.Analyzing.{short}
+use Rattle.calls.specs.Calls.{short, called}
 use Rattle.exports.specs.Cells.{table}
 use Rattle.exports.proofs.Fitting.{analysis-fits}
 use Rattle.exports.proofs.eon_analyze.Statement.{statement}

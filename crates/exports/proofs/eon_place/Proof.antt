@@ -24,8 +24,8 @@ pack-requires c κs =
     let work = now (s .args .work) in
     place-fits text (narrow work) (eqb (u .result .kept) limit.run) (u .result) (s .args .place) work (r .result .answer) (r .result .session) (r .last .1 .1 .1 .0) (u .ensures .1) (placeOutcome text (u .result) work) refl (r .ensures) .1
 
-replied-requires : tie.Need-replied-requires
-replied-requires c κs =
+put-requires : tie.Need-put-requires
+put-requires c κs =
     let s = c .before .before .before .before .before .before .before .before .before .before in
     let r = c .before .before .before .before .place in
     let u = c .before .before .before .before .before .before .unpack in
@@ -40,9 +40,9 @@ returns : tie.Need-returns
 returns c =
     let r = c .before .before .before .before .before .place in
     let u = c .before .before .before .before .before .before .before .unpack in
-    record { answer = r .result .answer; after = r .result .session; put = rw (u .ensures .0) at (r .ensures); number = c .replied .ensures; cells = c .before .pack .ensures }
+    record { answer = r .result .answer; after = r .result .session; puts = rw (u .ensures .0) at (r .ensures); number = c .put .ensures; cells = c .before .pack .ensures }
 
 pub eon-place-spec : {M : Type 1} → statement M
 eon-place-spec =
     tie.close
-    (tie.spec unpack-requires place-requires pack-requires replied-requires same-length returns)
+    (tie.spec unpack-requires place-requires pack-requires put-requires same-length returns)

@@ -43,10 +43,10 @@ use denote.Triple.Table.{entered, cited}
 use denote.Triple.Clauses.{ensured, lasts}
 use denote.Triple.Walked.{says, Stays, stay-none, stay-none-slice, gave-slice, walkOf, AllGo, goes-none, goes-none-slice, goes-gave-slice, Walks, ends-at, walked, walk-meets}
 use denote.Exit.{yes}
-use Rattle.replay_session.specs.declared.Answer.{Answer}
+use Rattle.replay_session.specs.declared.PlaceAnswer.{PlaceAnswer}
 use Rattle.replay_session.specs.declared.Session.{Session}
-use Rattle.replay_session.proofs.Answer as TA
-use Rattle.replay_session.proofs.Answer.Laws as TA′
+use Rattle.replay_session.proofs.PlaceAnswer as TA
+use Rattle.replay_session.proofs.PlaceAnswer.Laws as TA′
 use Rattle.replay_session.proofs.Session as T
 use Rattle.replay_session.proofs.Session.Laws as T′
 use Rattle.replay_runs.specs.declared.Reply.{Reply}
@@ -81,7 +81,7 @@ module _ {M : Type 1} (𝓤 : URA M) (H : Heap 𝓤) (A : Atoms 𝓤) (at-mem : 
   abbrev BE : Contract 𝓤
   BE = tripleOf 𝓤 H A beside.signature (beside.spec 𝓤 H A at-mem run)
 
-  beside-is : (a : Answer) (t : Session) (r : Reply) → ent 𝓤 (ensured 𝓤 H A beside.ended (beside.clauses 𝓤 H A at-mem run) tt (a, (t, tt)) tt r) (fact 𝓤 ((r .answer ≡ a) × (r .session ≡ t)))
+  beside-is : (a : PlaceAnswer) (t : Session) (r : Reply) → ent 𝓤 (ensured 𝓤 H A beside.ended (beside.clauses 𝓤 H A at-mem run) tt (a, (t, tt)) tt r) (fact 𝓤 ((r .answer ≡ a) × (r .session ≡ t)))
   beside-is a t r = exE 𝓤 _ (λ ws. snd∗ 𝓤 (sem 𝓤 H A (lasts beside.ended tt (a, (t, tt)) ws)) (fact 𝓤 ((r .answer ≡ a) × (r .session ≡ t))))
 
 module _ {M : Type 1} (𝓤 : URA M) (H : Heap 𝓤) (A : Atoms 𝓤) (W : Given 𝓤 H A) where
@@ -116,7 +116,7 @@ module _ {M : Type 1} (𝓤 : URA M) (H : Heap 𝓤) (A : Atoms 𝓤) (W : Given
   x = (text, (h, (n, (work, tt))))
 
   -- what is ensured of the answer, the state and the work area
-  abbrev Puts : Answer → Session → List ℕ → Type 0
+  abbrev Puts : PlaceAnswer → Session → List ℕ → Type 0
   Puts a t zs = Put (placeOutcome xs h ys) h n ys a t zs
 
   -- the machine values
@@ -169,7 +169,7 @@ module _ {M : Type 1} (𝓤 : URA M) (H : Heap 𝓤) (A : Atoms 𝓤) (W : Given
         move ! (2 ∷ []) $ split ! $ move ! (1 ∷ []) $ nothing ! $ move ! (1 ∷ 0 ∷ []) $ fjoin ! $ owned ! u32 (Is u32) (uint-makes 𝓤 H A W w32) n _ (refl, fits) $ fjoin ! $
         move ! (1 ∷ 0 ∷ []) $ fjoin ! $ move ! (2 ∷ 0 ∷ []) $ fjoin ! $ move ! (1 ∷ 0 ∷ []) $ join ! $ frame ! $ done !
 
-    module _ (a : Answer) (w : Val) (t : Session) where
+    module _ (a : PlaceAnswer) (w : Val) (t : Session) where
       abbrev to-beside : BE 𝓤 H A at-mem run .Ghost
       to-beside = ((tt, tt, tt, (a, (t, tt)), (w ∷ [], (mach t ∷ [], tt))), tt)
 
@@ -178,7 +178,7 @@ module _ {M : Type 1} (𝓤 : URA M) (H : Heap 𝓤) (A : Atoms 𝓤) (W : Given
           qed W (‵ (TA.the-row .own a (w ∷ [])) ∷ ‵ (T.the-row .own t (mach t ∷ [])) ∷ []) ∵
           nothing ! $ move ! (2 ∷ 0 ∷ []) $ fjoin ! $ move ! (1 ∷ 0 ∷ []) $ fjoin ! $ nothing ! $ join ! $ frame ! $ done !
 
-    told : (a : Answer) (t : Session) (r : Reply) (zs : List ℕ) → Puts a t zs → (r .answer ≡ a) × (r .session ≡ t) → Puts (r .answer) (r .session) zs
+    told : (a : PlaceAnswer) (t : Session) (r : Reply) (zs : List ℕ) → Puts a t zs → (r .answer ≡ a) × (r .session ≡ t) → Puts (r .answer) (r .session) zs
     told a t r zs p same = rw (same .0, same .1) p
 
     module _ (C : Calls 𝓤 H) (Λ : Loops 𝓤 H) (fm : FmC 𝓤 H (W .laws) C) (known-put : Triple 𝓤 (C #lent·put) (PU 𝓤 H A at-mem run)) (known-beside : Triple 𝓤 (C #lent·beside) (BE 𝓤 H A at-mem run)) where
@@ -206,7 +206,7 @@ module _ {M : Type 1} (𝓤 : URA M) (H : Heap 𝓤) (A : Atoms 𝓤) (W : Given
           move ! (2 ∷ 25 ∷ []) $ join ! $ move ! (24 ∷ 0 ∷ []) $ join ! $ move ! (1 ∷ 24 ∷ []) $ join ! $ move ! (1 ∷ 25 ∷ 0 ∷ []) $
           use3 W (raw (PU 𝓤 H A at-mem run .pre (to-put α l₅ γ))) (goes-put α l₅ γ) $
           calls-at ! fm (PU 𝓤 H A at-mem run) known-put (to-put α l₅ γ) (and-then ! (load ! (from ! (stop !)) (look ! 19 refl)) (and-then ! (load ! (from ! (stop !)) (look ! 8 refl)) (and-then ! (load ! (from ! (stop !)) (look ! 15 refl)) (and-then ! (load ! (from ! (stop !)) (look ! 4 refl)) (no-more !))))) (λ w.
-          use1 W (later (some (λ (a : Answer). (Tokens α ⊛ ‵ (TA.the-row .own a (w ∷ []))) ⊛ raw (ensured 𝓤 H A put.ended (put.clauses 𝓤 H A at-mem run) (κ₀, (α ∷ [], (κ₁, tt))) (text, (ref l₅ γ, (n, (work, tt)))) tt a)))) (id⊢ 𝓤 _) $ await ! tt $ pick ! (λ a.
+          use1 W (later (some (λ (a : PlaceAnswer). (Tokens α ⊛ ‵ (TA.the-row .own a (w ∷ []))) ⊛ raw (ensured 𝓤 H A put.ended (put.clauses 𝓤 H A at-mem run) (κ₀, (α ∷ [], (κ₁, tt))) (text, (ref l₅ γ, (n, (work, tt)))) tt a)))) (id⊢ 𝓤 _) $ await ! tt $ pick ! (λ a.
           -- what `put` ensures, at some last state and some last list of the work area
           split ! $ move ! (1 ∷ []) $ use1 W (some (λ (zs : Unit {0} × (Session × (Unit {0} × (List ℕ × Unit {0})))). ‵ (lasts put.ended (κ₀, (α ∷ [], (κ₁, tt))) (text, (ref l₅ γ, (n, (work, tt)))) zs) ⊛ raw (fact 𝓤 (Puts a (zs .1 .0) (zs .1 .1 .1 .0))))) (id⊢ 𝓤 _) $ pick ! (λ zs.
           split ! $ move ! (1 ∷ []) $ heard ! (Puts a (zs .1 .0) (zs .1 .1 .1 .0)) (λ p. fsplit ! $ drop ! $ fsplit ! $ move ! (1 ∷ []) $ fsplit ! $ drop ! $ fsplit ! $ fsplit ! $ move ! (1 ∷ []) $ feqL ! (λ l.

@@ -41,10 +41,10 @@ use denote.Triple.Table.{entered, cited}
 use denote.Triple.Clauses.{ensured, lasts}
 use denote.Triple.Walked.{says, Stays, stay-ref, stay-none, stay-none-slice, gave-slice, walkOf, AllGo, goes-none, goes-none-slice, goes-ref, goes-gave-slice, Walks, ends-at, walked, walk-meets}
 use denote.Exit.{yes}
-use Rattle.replay_session.specs.declared.Answer.{Answer}
+use Rattle.replay_session.specs.declared.PlaceAnswer.{PlaceAnswer}
 use Rattle.replay_session.specs.declared.Session.{Session}
-use Rattle.replay_session.proofs.Answer as TA
-use Rattle.replay_session.proofs.Answer.Laws as TA′
+use Rattle.replay_session.proofs.PlaceAnswer as TA
+use Rattle.replay_session.proofs.PlaceAnswer.Laws as TA′
 use Rattle.replay_session.proofs.Session as T
 use Rattle.replay_session.proofs.Session.Laws as T′
 use Rattle.replay_runs.specs.declared.Reply.{Reply}
@@ -85,7 +85,7 @@ module _ {M : Type 1} (𝓤 : URA M) (H : Heap 𝓤) (A : Atoms 𝓤) (at-mem : 
   session-is : (r : Reply) (t : Session) → ent 𝓤 (ensured 𝓤 H A so.ended (so.clauses 𝓤 H A at-mem run) tt (r, tt) tt t) (fact 𝓤 (t ≡ r .session))
   session-is r t = exE 𝓤 _ (λ ws. snd∗ 𝓤 (sem 𝓤 H A (lasts so.ended tt (r, tt) ws)) (fact 𝓤 (t ≡ r .session)))
 
-  answer-is : (r : Reply) (a : Answer) → ent 𝓤 (ensured 𝓤 H A ao.ended (ao.clauses 𝓤 H A at-mem run) tt (r, tt) tt a) (fact 𝓤 (a ≡ r .answer))
+  answer-is : (r : Reply) (a : PlaceAnswer) → ent 𝓤 (ensured 𝓤 H A ao.ended (ao.clauses 𝓤 H A at-mem run) tt (r, tt) tt a) (fact 𝓤 (a ≡ r .answer))
   answer-is r a = exE 𝓤 _ (λ ws. snd∗ 𝓤 (sem 𝓤 H A (lasts ao.ended tt (r, tt) ws)) (fact 𝓤 (a ≡ r .answer)))
 
 module _ {M : Type 1} (𝓤 : URA M) (H : Heap 𝓤) (A : Atoms 𝓤) (W : Given 𝓤 H A) (at-mem : Memory → SProp 𝓤) (run : Routine → Fun 𝓤)
@@ -103,7 +103,7 @@ module _ {M : Type 1} (𝓤 : URA M) (H : Heap 𝓤) (A : Atoms 𝓤) (W : Given
   x = (text, (record { ptr = (b, o); name = γ; now = h }, (n, (work, tt))))
 
   -- what is ensured of the answer, the state and the work area
-  abbrev Puts : Answer → Session → List ℕ → Type 0
+  abbrev Puts : PlaceAnswer → Session → List ℕ → Type 0
   Puts a t zs = Put (placeOutcome xs h ys) h n ys a t zs
 
   -- the machine values
@@ -127,7 +127,7 @@ module _ {M : Type 1} (𝓤 : URA M) (H : Heap 𝓤) (A : Atoms 𝓤) (W : Given
   Post = walkOf 𝓤 H A put.ended stayed (put.clauses 𝓤 H A at-mem run) .post (((κ₀, (κ₁, (κ₂, tt))), (q₀, (q₁, (q₂, tt))), tt, x, at), tt)
 
   module _ (fits : n < 2 ^ 32) where
-    exits : (v : Val) (a : Answer) (t : Session) (zs : List ℕ) → Puts a t zs → length zs ≡ length ys
+    exits : (v : Val) (a : PlaceAnswer) (t : Session) (zs : List ℕ) → Puts a t zs → length zs ≡ length ys
         → ent 𝓤 (⋆ 𝓤 H A (‵ (fobs γ (T.the-row .coded .code t)) ∷ ‵ (fbor κ₁ (Body (mem T.the-row) b o γ)) ∷ ‵ (flft κ₁ q₁) ∷ ‵ (TA.the-row .own a (v ∷ [])) ∷ (‵ (flft κ₀ q₀) ⊛ (‵ (flft κ₂ q₂) ⊛ ‵ ftrue)) ∷ ‵ (finally u8 δ zs) ∷ ‵ Own ∷ [])) (Post v)
     exits v a t zs e l =
         qed W (‵ (fobs γ (T.the-row .coded .code t)) ∷ ‵ (fbor κ₁ (Body (mem T.the-row) b o γ)) ∷ ‵ (flft κ₁ q₁) ∷ ‵ (TA.the-row .own a (v ∷ [])) ∷ (‵ (flft κ₀ q₀) ⊛ (‵ (flft κ₂ q₂) ⊛ ‵ ftrue)) ∷ ‵ (finally u8 δ zs) ∷ ‵ Own ∷ []) ∵
@@ -160,7 +160,7 @@ module _ {M : Type 1} (𝓤 : URA M) (H : Heap 𝓤) (A : Atoms 𝓤) (W : Given
       goes-ao : ent 𝓤 (sem 𝓤 H A (TR.the-row .own r (v ∷ []))) (AO 𝓤 H A at-mem run .pre to-ao)
       goes-ao = qed W (‵ (TR.the-row .own r (v ∷ [])) ∷ []) ∵ nothing ! $ move ! (1 ∷ 0 ∷ []) $ join ! $ nothing ! $ join ! $ frame ! $ done !
 
-    told : (r : Reply) (a : Answer) (t : Session) (zs : List ℕ) → Puts (r .answer) (r .session) zs → t ≡ r .session → a ≡ r .answer → Puts a t zs
+    told : (r : Reply) (a : PlaceAnswer) (t : Session) (zs : List ℕ) → Puts (r .answer) (r .session) zs → t ≡ r .session → a ≡ r .answer → Puts a t zs
     told r a t zs e et ea = rw (et, ea) e
 
     module _ (C : Calls 𝓤 H) (Λ : Loops 𝓤 H) (fm : FmC 𝓤 H (W .laws) C) (known-pl : Triple 𝓤 (C #replay·place) (PL 𝓤 H A at-mem run)) (known-so : Triple 𝓤 (C #replay_runs·session-of) (SO 𝓤 H A at-mem run))
@@ -204,7 +204,7 @@ module _ {M : Type 1} (𝓤 : URA M) (H : Heap 𝓤) (A : Atoms 𝓤) (W : Given
           -- the answer
           owned ! TR.the-row (Is TR.the-row) (LL.makes TR.the-type TR′.the-plain 𝓤 H A) r _ isR $ use1 W (raw (AO 𝓤 H A at-mem run .pre (to-ao r v))) (goes-ao r v) $
           calls-at ! fm (AO 𝓤 H A at-mem run) known-ao (to-ao r v) (and-then ! (load ! (from ! (stop !)) (look ! 16 refl)) (no-more !)) (λ y.
-          use1 W (later (some (λ (a : Answer). (‵ ftrue ⊛ ‵ (TA.the-row .own a (y ∷ []))) ⊛ raw (ensured 𝓤 H A ao.ended (ao.clauses 𝓤 H A at-mem run) tt (r, tt) tt a)))) (id⊢ 𝓤 _) $ await ! tt $ pick ! (λ a.
+          use1 W (later (some (λ (a : PlaceAnswer). (‵ ftrue ⊛ ‵ (TA.the-row .own a (y ∷ []))) ⊛ raw (ensured 𝓤 H A ao.ended (ao.clauses 𝓤 H A at-mem run) tt (r, tt) tt a)))) (id⊢ 𝓤 _) $ await ! tt $ pick ! (λ a.
           split ! $ move ! (1 ∷ []) $ use1 W (raw (fact 𝓤 (a ≡ r .answer))) (answer-is 𝓤 H A at-mem run r a) $ heard ! (a ≡ r .answer) (λ ea. split ! $ drop ! $
           peeks ! TA.the-row (Is TA.the-row) (shows 𝓤 H A TA.the-row) a (y ∷ []) (λ isA.
           land ! (from ! (stop !)) (init ! 26 refl (EL.lawful TA.the-type TA′.the-laws 𝓤 H A W tt .typed a _ isA .0)) $

@@ -5,6 +5,7 @@ use borrow.Author.Tests.{not-true, not-false}
 use denote.Ref.{now}
 use Rattle.model.specs.Records.{stageAt}
 use Rattle.model.proofs.Accepted.{stage-body}
+use Rattle.facts_find.specs.Bodies.{Decides}
 use Rattle.replay_session.specs.Sessions.{Says}
 use Rattle.replay_meetings.specs.Carried.{Agrees}
 use Rattle.replay_meetings.proofs.Meetings.{named-small, part-within, part-supported, other-stage, other-count, not-held, disagrees, meeting-kept}
@@ -70,18 +71,21 @@ returns-3 c =
     let n = subst (Says (Agrees (a .s .carried) (f .result))) (not-true (c .before .before .agrees .result) (c .before .if3 .taken)) (c .before .before .agrees .ensures) in
     rw (c .disallow3 .ensures .0, c .disallow3 .ensures .1) (disagrees (a .t1) (a .s) (a .v) (now (a .work)) (s .pre .0) (s .pre .1) (a .first) (a .second) (a .third) (a .stage) next count (f .result) (f .ensures) n)
 
-holds-requires : tie.Need-holds-requires
-holds-requires c κs =
+decide-requires : tie.Need-decide-requires
+decide-requires c κs =
     let s = c .before .before .before .before .before .before .before .before .before in
     let a = s .args in
     let w = s .pre .0 .accepted in
     (s .pre .0, part-within (a .t1) w (a .s .met) (s .pre .1), stage-body (a .t1) w (a .s .met) (s .pre .1), part-supported (a .t1) w (a .s .met) (s .pre .1))
 
-carry-requires : tie.Need-carry-requires
-carry-requires c κs = search needs
+enum-told : tie.Need-enum-told
+enum-told c = search needs
 
-meet-requires : tie.Need-meet-requires
-meet-requires c κs = search needs
+enum-told-2 : tie.Need-enum-told-2
+enum-told-2 c = search needs
+
+disallow-requires-4 : tie.Need-disallow-requires-4
+disallow-requires-4 c κs = search needs
 
 returns-4 : tie.Need-returns-4
 returns-4 c =
@@ -90,24 +94,26 @@ returns-4 c =
     let e1 = c .before .before .before .before .before .before .before .before .before .before .before .if1 .left in
     let next : a .stage ≡ suc (a .s .met) = omega arith in
     let count = sym (c .before .before .before .before .before .before .before .before .before .count .ensures) ∙ c .before .before .before .before .before .before .before .if2 .left in
-    let f = c .before .before .before .before .before .before .named in
-    let agree = subst (Says (Agrees (a .s .carried) (f .result))) (not-false (c .before .before .before .before .before .agrees .result) (c .before .before .before .before .if3 .left)) (c .before .before .before .before .before .agrees .ensures) in
-    let held = subst (Says _) (c .before .before .if4 .taken) (c .before .before .before .holds .ensures) in
-    rw (c .meet .ensures, c .before .carry .ensures) (meeting-kept (a .t1) (a .s) (a .v) (now (a .work)) (s .pre .0) (s .pre .1) (a .first) (a .second) (a .third) (a .stage) next count (f .result) (f .ensures) agree held)
+    let held = subst (Decides (stageAt (a .t1) (a .s .met) .variables) _) (c .before .enum-told2 .given .1) (c .before .before .before .decide .ensures) in
+    rw (c .disallow4 .ensures .0, c .disallow4 .ensures .1) (not-held (a .t1) (a .s) (a .v) (now (a .work)) (s .pre .0) (s .pre .1) (a .first) (a .second) (a .third) (a .stage) next count held)
 
-disallow-requires-4 : tie.Need-disallow-requires-4
-disallow-requires-4 c κs = search needs
+carry-requires : tie.Need-carry-requires
+carry-requires c κs = search needs
+
+meet-requires : tie.Need-meet-requires
+meet-requires c κs = search needs
 
 returns-5 : tie.Need-returns-5
 returns-5 c =
-    let s = c .before .before .before .before .before .before .before .before .before .before .before .before in
+    let s = c .before .before .before .before .before .before .before .before .before .before .before .before .before .before in
     let a = s .args in
-    let e1 = c .before .before .before .before .before .before .before .before .before .before .if1 .left in
+    let e1 = c .before .before .before .before .before .before .before .before .before .before .before .before .if1 .left in
     let next : a .stage ≡ suc (a .s .met) = omega arith in
-    let count = sym (c .before .before .before .before .before .before .before .before .count .ensures) ∙ c .before .before .before .before .before .before .if2 .left in
-    let f = c .before .before .before .before .before .named in
-    let held = subst (Says _) (c .before .if4 .left) (c .before .before .holds .ensures) in
-    rw (c .disallow4 .ensures .0, c .disallow4 .ensures .1) (not-held (a .t1) (a .s) (a .v) (now (a .work)) (s .pre .0) (s .pre .1) (a .first) (a .second) (a .third) (a .stage) next count held)
+    let count = sym (c .before .before .before .before .before .before .before .before .before .before .count .ensures) ∙ c .before .before .before .before .before .before .before .before .if2 .left in
+    let f = c .before .before .before .before .before .before .before .named in
+    let agree = subst (Says (Agrees (a .s .carried) (f .result))) (not-false (c .before .before .before .before .before .before .agrees .result) (c .before .before .before .before .before .if3 .left)) (c .before .before .before .before .before .before .agrees .ensures) in
+    let held = subst (Decides (stageAt (a .t1) (a .s .met) .variables) _) (c .before .before .enum-told .given .1) (c .before .before .before .before .decide .ensures) in
+    rw (c .meet .ensures, c .before .carry .ensures) (meeting-kept (a .t1) (a .s) (a .v) (now (a .work)) (s .pre .0) (s .pre .1) (a .first) (a .second) (a .third) (a .stage) next count (f .result) (f .ensures) agree _ (held .good))
 
 pub meet-place-spec : {M : Type 1} → statement M
 meet-place-spec =
@@ -126,9 +132,11 @@ meet-place-spec =
     agrees-requires
     disallow-requires-3
     returns-3
-    holds-requires
+    decide-requires
+    enum-told
+    enum-told-2
+    disallow-requires-4
+    returns-4
     carry-requires
     meet-requires
-    returns-4
-    disallow-requires-4
     returns-5)

@@ -72,7 +72,7 @@ returns-3 c =
     let a = s .args in
     let f = c .before .before .before .before .before .before .clause-on in
     let h = c .before .before .before .before .before .if1 .left in
-    subst (λ (ℓ : ℕ). Tried (a .t1) (a .s) (step ℓ (a .object)) (c .create .result .allowed) (c .create .result .session)) (f .ensures .1 h) (c .create .ensures)
+    subst (λ (ℓ : ℕ). Tried (a .t1) (a .s) (step ℓ (a .object)) (c .create .result .allowed) (c .create .result .session) (c .create .result .stood)) (f .ensures .1 h) (c .create .ensures)
 
 returns-4 : tie.Need-returns-4
 returns-4 c =
@@ -80,7 +80,7 @@ returns-4 c =
     let a = s .args in
     let f = c .before .before .before .before .before .before .clause-on in
     let h = c .before .before .before .before .before .if1 .left in
-    subst (λ (ℓ : ℕ). Tried (a .t1) (a .s) (step ℓ (a .object)) (c .change .result .allowed) (c .change .result .session)) (f .ensures .1 h) (c .change .ensures)
+    subst (λ (ℓ : ℕ). Tried (a .t1) (a .s) (step ℓ (a .object)) (c .change .result .allowed) (c .change .result .session) (c .change .result .stood)) (f .ensures .1 h) (c .change .ensures)
 
 pub step-place-spec : {M : Type 1} → statement M
 step-place-spec =

@@ -50,7 +50,7 @@ returns c =
     λ S R e.
     let d : Decides (a .part .variables) (Good (a .work .now) (take (a .n) (a .slots .now)) S (bodyAt (a .literals .now) (a .part .first) (a .part .count)) (a .part .variables) (a .fixed)) (At _) =
     subst (Decides (a .part .variables) _) (c .before .found .given .1) (decided (c .before .before .before) S R e) in
-    (own-shows (a .slots .now) (s .pre .1) (a .n) (s .pre .2) S e (a .work .now) _ (bodyAt (a .literals .now) (a .part .first) (a .part .count)) (d .0 .0), d .0 .1)
+    (own-shows (a .slots .now) (s .pre .1) (a .n) (s .pre .2) S e (a .work .now) _ (bodyAt (a .literals .now) (a .part .first) (a .part .count)) (d .good .0), d .good .1)
 
 enum-told : tie.Need-enum-told
 enum-told c = search needs

@@ -8,10 +8,10 @@ use Rattle.model.specs.Records.{bodyAt}
 use Rattle.replay_session.proofs.Effects.{size}
 use Rattle.replay_view.specs.Views.{rowOf}
 use Rattle.replay_view.proofs.Meaning.{placed}
-use Rattle.replay_steps.proofs.Bodies.{to-end, found, nowhere}
+use Rattle.replay_steps.proofs.Bodies.{to-end, decided}
 use borrow.Author.Needs.{needs}
-use Rattle.replay_steps.proofs.holds.Statement.{statement}
-use Rattle.replay_steps.proofs.holds.Tie as tie
+use Rattle.replay_steps.proofs.decide.Statement.{statement}
+use Rattle.replay_steps.proofs.decide.Tie as tie
 
 array-share-prefix-slots : tie.Need-array-share-prefix-slots
 array-share-prefix-slots c = search needs
@@ -41,34 +41,18 @@ find-requires c κs =
     let e = to-end (s .args .m .literals) limit.literals (s .args .first) (r .accepted .literals) in
     (r .sees .known .agree, rw e (s .pre .2), rw e (s .pre .3))
 
-enum-told : tie.Need-enum-told
-enum-told c = search needs
-
 returns : tie.Need-returns
 returns c =
-    let s = c .before .before .before .before .before .before .before .before .before in
+    let s = c .before .before .before .before .before .before .before in
     let a = s .args in
     let r = s .pre .0 in
     let e = to-end (a .m .literals) limit.literals (a .first) (r .accepted .literals) in
-    let d = c .before .before .find .ensures (rowOf (a .v)) (take (a .s .objects) (a .s .states)) (r .sees .known .states)
+    let d = c .find .ensures (rowOf (a .v)) (take (a .s .objects) (a .s .states)) (r .sees .known .states)
     (placed (take (a .s .objects) (a .s .states)) (a .v) (a .s .objects) (size (a .m) (r .accepted) (a .s) (r .long) (r .fits)) (r .fits .objects) (r .sees .views)) in
-    found (a .m) (a .s) (a .v) (now (a .work)) r (bodyAt (a .m .literals) (a .first) (a .count)) (a .variables) (a .fixed) _ (rw (e, c .enum-told .given .1) at d)
+    decided (a .m) (a .s) (a .v) (now (a .work)) r (bodyAt (a .m .literals) (a .first) (a .count)) (a .variables) (a .fixed) (c .find .result) (rw e at d)
 
-enum-told-2 : tie.Need-enum-told-2
-enum-told-2 c = search needs
-
-returns-2 : tie.Need-returns-2
-returns-2 c =
-    let s = c .before .before .before .before .before .before .before .before .before in
-    let a = s .args in
-    let r = s .pre .0 in
-    let e = to-end (a .m .literals) limit.literals (a .first) (r .accepted .literals) in
-    let d = c .before .before .find .ensures (rowOf (a .v)) (take (a .s .objects) (a .s .states)) (r .sees .known .states)
-    (placed (take (a .s .objects) (a .s .states)) (a .v) (a .s .objects) (size (a .m) (r .accepted) (a .s) (r .long) (r .fits)) (r .fits .objects) (r .sees .views)) in
-    nowhere (a .m) (a .s) (a .v) (now (a .work)) r (bodyAt (a .m .literals) (a .first) (a .count)) (a .variables) (a .fixed) (rw (e, c .enum-told2 .given .1) at d)
-
-pub holds-spec : {M : Type 1} → statement M
-holds-spec =
+pub decide-spec : {M : Type 1} → statement M
+decide-spec =
     tie.close
     (tie.spec
     array-share-prefix-slots
@@ -78,7 +62,4 @@ holds-spec =
     part-find-start
     part-find-end
     find-requires
-    enum-told
-    returns
-    enum-told-2
-    returns-2)
+    returns)

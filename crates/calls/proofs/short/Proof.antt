@@ -1,8 +1,8 @@
 use mathlib.Core.Path.{refl}
 use borrow.Author.Tests.{lt-ltb, le-ltb}
 use Rattle.limits.specs.Limits as limit
-use Rattle.analyzer.proofs.short.Statement.{statement}
-use Rattle.analyzer.proofs.short.Tie as tie
+use Rattle.calls.proofs.short.Statement.{statement}
+use Rattle.calls.proofs.short.Tie as tie
 
 returns : tie.Need-returns
 returns c = rw (lt-ltb (c .before .args .bytes) limit.work (c .if1 .taken)) refl
