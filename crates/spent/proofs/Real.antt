@@ -374,8 +374,8 @@ module _ (P : Program) (Q : Question) (v : ℕ) where
     search-real k p zero l = rw (p .nothing) (nothing, λ x m. absurd (List·Memᴰ·not-nil m), (0, omega arith, refl))
     search-real k p (suc i) l = let q = p .pass i (omega arith) in rw (q .keeps) (adds-real (p .after i) (search-real k p i (omega arith)) (q .added) (q .adds))
 
-    -- ITS STATES are reachable
-    pub states-reachable : (k : ℕ) (p : Passes P Q v k) (i : ℕ) → i ≤ k → (s : ℕ) → Has (p .after i) (found s) → Reachable P s
+    -- ITS STATES are reachable, and none is empty
+    pub states-reachable : (k : ℕ) (p : Passes P Q v k) (i : ℕ) → i ≤ k → (s : ℕ) → Has (p .after i) (found s) → (s ≢ 0) × Reachable P s
     states-reachable k p i l s h =
         let (T, covers, begins) = search-real k p i l in
         let (n, e) = covers (found s) h in
