@@ -142,7 +142,7 @@ module _ (P : Program) (Q : Question) (v : ℕ) where
       rows = T .rows;
       came = T .came;
       levels = record {
-        arrived = λ i j l. came-grows P safe Q v (T .S) (T .S ++ (s ∷ [])) (under-append (T .S) (T .S) (s ∷ []) (under-refl (T .S))) (T .rows) i j (T .came i j) (T .levels .arrived i j l);
+        arrived = λ i j l. came-grows P safe (T .S) (T .S ++ (s ∷ [])) (under-append (T .S) (T .S) (s ∷ []) (under-refl (T .S))) Q v (T .rows) i j (T .came i j) (T .levels .arrived i j l);
         distinct = T .levels .distinct;
         within = λ i c e. elem-left c (T .S) (s ∷ []) (T .levels .within i c e);
       };
