@@ -30,7 +30,7 @@
  * order of first appearance in the line, a `next` line's own variable first. It is o1 * 65,536 + o2 * 256 + o3, with 255 where there is no variable;
  * 16,777,215 for a line without variables. A meeting has 0.
  *
- * An atomic state is a number of 32 bits: the relation of the first `state` line counts 1, the next 2, then 4, and so on.
+ * An atomic state is a number of 32 bits: the relation of the first `state` line counts 1, the next 2, then 4, and so on; the empty state is 0.
  */
 #ifndef EON_H
 #define EON_H
@@ -45,13 +45,14 @@ extern "C" {
 /* The sizes that buffers need: bytes of the work area, places of a run table lent for writing, cells beside an answer, cells of a replay state. */
 #define EON_WORK 32768
 #define EON_RUN 8640
-#define EON_OUT 129
+#define EON_OUT 130
 #define EON_SESSION 259
 
 /* Analyzes a text: kind 0, 1 or 2.
  *
  * out has EON_OUT cells, and all of them are written. out[0] is the number of reachable atomic states; out[1] and so on are these states by rising
- * number, with zeros behind them up to out[127]; out[128] is the number of the last place of the run shown, 0 where there is none.
+ * number, so that the empty one, 0, comes first if it is reachable, with zeros behind them up to out[128]; out[129] is the number of the last place
+ * of the run shown, 0 where there is none.
  * After a refusal all are 0.
  *
  * run is written only for reached, and only its first n places. */

@@ -2,7 +2,7 @@
 
 extern "C" {
     #[allow(improper_ctypes)]
-    fn eon_analyze(text: &[u8], work: &mut [u8], run: &mut [u32], out: &mut [u32; 129]) -> u64;
+    fn eon_analyze(text: &[u8], work: &mut [u8], run: &mut [u32], out: &mut [u32; 130]) -> u64;
     #[allow(improper_ctypes)]
     fn eon_replay(text: &[u8], run: &[u32], work: &mut [u8], table: &mut [u32]) -> u64;
 }
@@ -31,7 +31,7 @@ impl Buffers {
 
     /// Analyzes an accepted text.
     pub fn analyze(&mut self, text: &[u8]) -> Analysis {
-        let mut out = [0; 129];
+        let mut out = [0; 130];
         let answer = unsafe { eon_analyze(text, &mut self.work, &mut self.run, &mut out) };
         let value = answer as u32;
         let states = out[1..=out[0] as usize].to_vec();

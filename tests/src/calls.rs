@@ -1,7 +1,7 @@
 //! The product's calls, with buffers that are filled with a pattern before and looked at whole after.
 
 extern "C" {
-    fn eon_analyze(text: *const u8, bytes: usize, work: *mut u8, area: usize, run: *mut u32, places: usize, out: *mut [u32; 129]) -> u64;
+    fn eon_analyze(text: *const u8, bytes: usize, work: *mut u8, area: usize, run: *mut u32, places: usize, out: *mut [u32; OUT]) -> u64;
     fn eon_replay(
         text: *const u8,
         bytes: usize,
@@ -20,6 +20,10 @@ extern "C" {
 pub const WORK: usize = 32_768;
 /// The places that a run table lent for writing needs.
 pub const RUN: usize = 8_640;
+/// The most states that are listed: 127 and the empty one.
+const LISTED: usize = 128;
+/// The cells beside an answer of the analysis: the number of states, the states, the number of the last place.
+const OUT: usize = LISTED + 2;
 /// What stands behind each lent buffer, and must not be touched.
 const BEHIND: usize = 64;
 
@@ -103,11 +107,11 @@ pub struct Analysis {
 pub fn analyze(text: &[u8], work: usize, places: usize) -> Analysis {
     let mut area = Area::new(work);
     let mut table: Vec<u32> = (0..places + BEHIND).map(run_pattern).collect();
-    let mut out = [0xDEAD_BEEFu32; 129];
+    let mut out = [0xDEAD_BEEFu32; OUT];
     let code = unsafe { eon_analyze(text.as_ptr(), text.len(), area.pointer(), work, table.as_mut_ptr(), places, &mut out) };
     let answer = Answer::decode(code);
     let written = if let Answer::Reached(n) = answer { n.min(places) } else { 0 };
-    let count = (out[0] as usize).min(127);
+    let count = (out[0] as usize).min(LISTED);
     Analysis {
         answer,
         run: table[..written].to_vec(),
@@ -119,16 +123,12 @@ pub fn analyze(text: &[u8], work: usize, places: usize) -> Analysis {
 }
 
 /// Whether what stands beside the answer has its form.
-fn shape(answer: &Answer, out: &[u32; 129], last: Option<u32>) -> bool {
+fn shape(answer: &Answer, out: &[u32; OUT], last: Option<u32>) -> bool {
     let count = out[0] as usize;
     if answer.is_refusal() {
         return out.iter().all(|n| *n == 0);
     }
-    count <= 127
-        && (2..=count).all(|i| out[i - 1] < out[i])
-        && out[1..=count].iter().all(|state| *state != 0)
-        && out[count + 1..128].iter().all(|n| *n == 0)
-        && out[128] == last.unwrap_or(0)
+    count <= LISTED && (2..=count).all(|i| out[i - 1] < out[i]) && out[count + 1..=LISTED].iter().all(|n| *n == 0) && out[LISTED + 1] == last.unwrap_or(0)
 }
 
 /// What the replay left.

@@ -107,8 +107,8 @@ fn errors_of_readers(report: &mut Report) {
     verdict(report, &format!("{helpers}(ask ((C x)))\n"), true, &[1, 2, 4]);
     verdict(report, &format!("{helpers}(ask ((C x) (B y) (A z)))\n"), true, &[1, 2, 4]);
     let wiped = "(state A)\n(state B)\n(state C)\n(new (A))\n(next x () (A) (A x))\n(new (B) (A x))\n(next x (C) () (B x) (A y))\n";
-    verdict(report, &format!("{wiped}(ask ((A x)) ((B x)))\n"), false, &[1, 2, 6]);
-    verdict(report, &format!("{wiped}(ask ((C x)) ((B y) (not (C y))) ((A z)))\n"), true, &[1, 2, 6]);
+    verdict(report, &format!("{wiped}(ask ((A x)) ((B x)))\n"), false, &[0, 1, 2, 6]);
+    verdict(report, &format!("{wiped}(ask ((C x)) ((B y) (not (C y))) ((A z)))\n"), true, &[0, 1, 2, 6]);
     let same = "(state A)\n(rel W 2)\n(new (A))\n(rule (W x y) (A x) (A y))\n";
     let text = format!("{same}(ask ((W x y) (A x) (A y)))\n");
     verdict(report, &text, true, &[1]);
@@ -139,15 +139,39 @@ fn readings(report: &mut Report) {
     report.check(three == [1, 2, 3].map(|s| meet(s, &[]).encode()), || format!("{three:?}"));
     let bits = "(rel R 1)\n(state A)\n(rel W 2)\n(state B)\n(rel N 0)\n(state C)\n(new (C))\n(next x (B) () (C x))\n(ask ((N)))\n";
     verdict(report, bits, false, &[4, 6]);
-    verdict(report, "(state A)\n(new ())\n(new (A) (A x))\n(ask ((A x)))\n", false, &[]);
+    verdict(report, "(state A)\n(new ())\n(new (A) (A x))\n(ask ((A x)))\n", false, &[0]);
     verdict(report, "(state A)\n(ask ((A x)))\n", false, &[]);
     let order = format!("{AB}(new (A))\n(new (B))\n(ask ((not (A y)) (A x) (B y)))\n");
     answer(report, &order, &[step(3, 0), step(4, 1), meet(1, &[1, 0])], Answer::Kept);
     answer(report, &order, &[step(3, 0), step(4, 1), meet(1, &[0, 1])], Answer::Broken(2));
     let carried = "(state A)\n(state B)\n(new (A))\n(next x (B) (A) (A x))\n(next x () (B) (B x))\n";
-    verdict(report, &format!("{carried}(ask ((A x)) ((B x)) ((A y)))\n"), true, &[1, 2]);
-    verdict(report, &format!("{carried}(ask ((A x)) ((B x)) ((A x)))\n"), false, &[1, 2]);
-    verdict(report, &format!("{carried}(ask ((A x)) ((B y)) ((A x)) ((B x)))\n"), true, &[1, 2]);
+    verdict(report, &format!("{carried}(ask ((A x)) ((B x)) ((A y)))\n"), true, &[0, 1, 2]);
+    verdict(report, &format!("{carried}(ask ((A x)) ((B x)) ((A x)))\n"), false, &[0, 1, 2]);
+    verdict(report, &format!("{carried}(ask ((A x)) ((B y)) ((A x)) ((B x)))\n"), true, &[0, 1, 2]);
+}
+
+/// The empty state is listed first where an object comes to it, by creation or by clearing, and nowhere else; such an object does nothing more.
+fn empty_state(report: &mut Report) {
+    let asked = "(ask ((A x)))\n";
+    let created = format!("{AB}(new ())\n(next x (A) () (A x))\n{asked}");
+    verdict(report, &created, false, &[0]);
+    answer(report, &created, &[step(3, 0), step(4, 0)], Answer::Broken(1));
+    answer(report, &created, &[step(3, 0), meet(1, &[0])], Answer::Broken(1));
+    verdict(report, &format!("{AB}(new (A))\n(next x () (A) (A x))\n{asked}"), true, &[0, 1]);
+    verdict(report, &format!("{AB}(new (B))\n(next x (A) (A B) (B x))\n{asked}"), false, &[0, 2]);
+    verdict(report, &format!("{AB}(new (A B))\n(next x () (A) (A x))\n{asked}"), true, &[2, 3]);
+    for guarded in ["(new () (B y))\n", "(next x () (A) (A x) (B y))\n", "(next x () (A) (A x) (N))\n"] {
+        let text = format!("{AB}(rel N 0)\n(rule (N) (B y))\n(new (A))\n{guarded}");
+        verdict(report, &format!("{text}{asked}"), true, &[1]);
+        verdict(report, &format!("{text}(new (B))\n{asked}"), true, &[0, 1, 2]);
+    }
+    verdict(report, &format!("{AB}(next x () (A) (A x))\n{asked}"), false, &[]);
+    verdict(report, &format!("{AB}(new () (A x))\n{asked}"), false, &[]);
+    let names = ["A", "B", "C", "D", "E", "F", "G"];
+    let mut all: String = names.iter().map(|n| format!("(state {n})\n")).collect();
+    all += &format!("(new ({}))\n", names.join(" "));
+    all.extend(names.iter().map(|n| format!("(next x () ({n}) ({n} x))\n")));
+    verdict(report, &format!("{all}{asked}"), true, &(0..128).collect::<Vec<u32>>());
 }
 
 /// Places of none of the forms, and those that the semantics do not allow.
@@ -234,6 +258,7 @@ pub fn all(report: &mut Report) {
     errors_of_readers(report);
     handed_down(report);
     readings(report);
+    empty_state(report);
     places(report);
     many_objects(report);
     long_runs(report);

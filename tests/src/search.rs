@@ -7,7 +7,7 @@ use std::collections::{BTreeSet, HashSet};
 pub struct Found {
     /// A shortest run that meets the stages in order.
     pub run: Option<Vec<u32>>,
-    /// The non-empty atomic states that some object had.
+    /// The atomic states that some object had.
     pub states: BTreeSet<u32>,
     /// Whether every session with so many objects was looked at.
     pub whole: bool,
@@ -64,7 +64,7 @@ pub fn search(m: &Model, objects: usize, most: usize) -> Found {
     let mut at = 0;
     while at < nodes.len() {
         let s = nodes[at].session.clone();
-        found.states.extend(s.db.iter().copied().filter(|state| *state != 0));
+        found.states.extend(s.db.iter().copied());
         if s.met == m.stages.len() {
             found.run.get_or_insert_with(|| run_to(&nodes, at));
         }

@@ -30,19 +30,33 @@ struct Known {
 
 /// Searches with more and more objects, until nothing can have been missed. By document 01's count the reachable states can be put in an order in which
 /// each is made with one object of each state before it; and a run needs one object of each state, and the carried one. So a search of all sessions with
-/// n objects that finds fewer than n states is certain: the first state that it missed would have needed n objects at most.
+/// n objects that finds fewer than n states is certain: the first state that it missed would have needed n objects at most. The empty state helps to make
+/// no other, so it is not counted here; it is made from one object of each of the others, with one object more at most.
 fn known(m: &Model) -> Known {
     let mut known = Known { run: None, states: BTreeSet::new(), certain: false };
     for objects in 2..=OBJECTS {
         let found = search(m, objects, SESSIONS);
         known.run = known.run.or(found.run);
         known.states.extend(found.states);
-        known.certain = found.whole && known.states.len() < objects;
+        known.certain = found.whole && known.states.iter().filter(|s| **s != 0).count() < objects;
         if known.certain || !found.whole {
             break;
         }
     }
     known
+}
+
+/// Whether some object comes to the empty state, and how.
+fn emptied(m: &Model, states: &BTreeSet<u32>) -> &'static str {
+    let created = |c: &Clause| matches!(c.action, Action::New(0));
+    let cleared = |c: &Clause| matches!(c.action, Action::Next(_, minus) if minus != 0);
+    match (states.contains(&0), m.clauses.iter().any(created)) {
+        (true, true) => "reachable, with a line that creates it",
+        (true, false) => "reachable by clearing alone",
+        (false, true) => "unreachable, with a line that would create it",
+        (false, false) if m.clauses.iter().any(cleared) => "unreachable, with lines that clear",
+        (false, false) => "unreachable, with no line for it",
+    }
 }
 
 /// Compares the verdict and the states with what the plain search knows.
@@ -57,6 +71,7 @@ fn compare(report: &mut Report, subject: &Subject, m: &Model, answer: Answer, st
         report.check(reached == known.run.is_some(), about);
         report.check(listed == known.states, about);
         report.cover(if reached { "search: certain and reached" } else { "search: certain and unreached" });
+        report.cover(&format!("empty state: {}", emptied(m, &known.states)));
     } else {
         report.cover("search: certain in one direction only");
     }

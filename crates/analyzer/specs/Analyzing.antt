@@ -15,7 +15,7 @@ use Rattle.analyzer_verdict.specs.Judging.{Judges}
 
 -- A REFUSAL with its number and line; the states "beside a refusal" are "none and 0"
 abbrev pub refusal : ℕ → ℕ → Analysis
-refusal n l = record { answer = Refused n l; states = replicate limit.atomic 0; count = 0 }
+refusal n l = record { answer = Refused n l; states = replicate limit.listed 0; count = 0 }
 
 -- WHAT THE CALL LEAVES, by the table's answer to it: after a refusal "both buffers are untouched"; no accepted text has 100,000 search passes the last of which still added something, so that row 13 is never given
 abbrev pub Leaves : Outcome → List ℕ → List ℕ → Analysis → List ℕ → List ℕ → Type 0

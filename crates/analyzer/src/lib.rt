@@ -1,7 +1,7 @@
 // The analysis of a text.
 use analyzer_verdict::Analysis;
 use analyzer_verdict::Answer;
-use limits::ATOMIC;
+use limits::LISTED;
 use text::Acceptance;
 ghost use mathlib.Core.Path.{_≡_};
 ghost use Rattle.analyzer.specs.Analyzing.{refusal, Analyzes};
@@ -12,7 +12,7 @@ fn refuse(number: u32, line: u32) -> Analysis
 {
     Analysis {
         answer: Answer::Refused { number, line },
-        states: [0u32; ATOMIC],
+        states: [0u32; LISTED],
         count: 0,
     }
 }

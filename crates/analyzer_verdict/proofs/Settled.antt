@@ -51,7 +51,7 @@ same-rising (x ∷ xs) (y ∷ ys) g h to fro =
     ap (λ (w : ℕ). w ∷ xs) e ∙ ap (λ (ws : List ℕ). y ∷ ws) rest
 
 -- THE STATES and their number
-module _ (P : Program) (states : List ℕ) (n : ℕ) (h : Listed P states n) (long : length states ≡ limit.atomic) where
+module _ (P : Program) (states : List ℕ) (n : ℕ) (h : Listed P states n) (long : length states ≡ limit.listed) where
   first-long : length (take n states) ≡ n
   first-long = length-take-le n states (let c = h .count in omega arith)
 
@@ -60,7 +60,7 @@ module _ (P : Program) (states : List ℕ) (n : ℕ) (h : Listed P states n) (lo
       let k : j < n = (let f = first-long in omega arith) in
       rw (getD-take n states i 0 (omega arith), getD-take n states j 0 k) (h .rising i j a k)
 
-states-settled : (P : Program) (s t : List ℕ) (n k : ℕ) → length s ≡ limit.atomic → length t ≡ limit.atomic → Listed P s n → Listed P t k → (s ≡ t) × (n ≡ k)
+states-settled : (P : Program) (s t : List ℕ) (n k : ℕ) → length s ≡ limit.listed → length t ≡ limit.listed → Listed P s n → Listed P t k → (s ≡ t) × (n ≡ k)
 states-settled P s t n k p q g h = (sym (take-append-drop n s) ∙ ap (λ (l : List ℕ). l ++ drop n s) first ∙ ap (λ (l : List ℕ). take k t ++ l) rest ∙ take-append-drop k t, count)
   where
     first : take n s ≡ take k t
@@ -71,7 +71,7 @@ states-settled P s t n k p q g h = (sym (take-append-drop n s) ∙ ap (λ (l : L
     count = sym (first-long P s n g p) ∙ ap length first ∙ first-long P t k h q
 
     rest : drop n s ≡ drop k t
-    rest = g .rest ∙ ap (λ (i : ℕ). replicate (limit.atomic - i) 0) count ∙ sym (h .rest)
+    rest = g .rest ∙ ap (λ (i : ℕ). replicate (limit.listed - i) 0) count ∙ sym (h .rest)
 
 -- THE ANSWER and the run table: two answers agree, but for the run shown
 abbrev pub Agree : Answer → List ℕ → Answer → List ℕ → Type 0
@@ -98,7 +98,7 @@ answer-settled P Q run r r′ (Refused n l) b g h = absurd g
 abbrev pub Same : Analysis → List ℕ → List ℕ → Analysis → List ℕ → List ℕ → Type 0
 Same a work run b work′ run′ = Agree (a .answer) run (b .answer) run′ × (a .states ≡ b .states) × (a .count ≡ b .count) × (work ≡ work′)
 
-pub settled : (P : Program) (Q : Question) (work run : List ℕ) (a b : Analysis) (w w′ r r′ : List ℕ) → length (a .states) ≡ limit.atomic → length (b .states) ≡ limit.atomic
+pub settled : (P : Program) (Q : Question) (work run : List ℕ) (a b : Analysis) (w w′ r r′ : List ℕ) → length (a .states) ≡ limit.listed → length (b .states) ≡ limit.listed
     → Judges P Q work run a w r → Judges P Q work run b w′ r′ → Same a w r b w′ r′
 settled P Q work run a b w w′ r r′ p q g h =
     let s = states-settled P (a .states) (b .states) (a .count) (b .count) p q (g .states) (h .states) in

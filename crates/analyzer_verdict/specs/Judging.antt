@@ -48,12 +48,12 @@ Answered P Q run run′ (Reached n last) = questions.Reached P Q × Shown P Q ru
 Answered P Q run run′ Unreached = (questions.Reached P Q → ⊥) × (run′ ≡ run)
 Answered P Q run run′ (Refused n l) = ⊥
 
--- THE STATES beside a verdict: "the reachable atomic states and their number, in the listing's order"; the numbers behind them are zero
+-- THE STATES beside a verdict: "the reachable atomic states and their number, in the listing's order"; the empty one, number 0, "comes first"; the numbers behind them are zero
 pub record Listed (P : Program) (states : List ℕ) (n : ℕ) : Type 0 where
-  pub count : n ≤ limit.atomic
+  pub count : n ≤ limit.listed
   pub rising : Rising states n
   pub reachable : (s : ℕ) → Reachable P s ↔ (elem s (take n states) ≡ true)
-  pub rest : drop n states ≡ replicate (limit.atomic - n) 0
+  pub rest : drop n states ≡ replicate (limit.listed - n) 0
 
 -- THE ANALYSIS a of a program and a question, with the work area and the run table before and after it
 pub record Judges (P : Program) (Q : Question) (work run : List ℕ) (a : Analysis) (work′ run′ : List ℕ) : Type 0 where

@@ -1,5 +1,5 @@
 // The analysis of an accepted model: the verdict with the run of a reached question, and the reachable states.
-use limits::ATOMIC;
+use limits::LISTED;
 use limits::WORK;
 use model::Model;
 use model::Place;
@@ -19,10 +19,10 @@ pub enum Answer {
     Refused { number: u32, line: u32 },
 }
 
-// An answer, and beside a verdict the reachable atomic states by rising number and how many they are.
+// An answer, and beside a verdict the reachable atomic states by rising number, the empty one first, and how many they are.
 pub struct Analysis {
     pub answer: Answer,
-    pub states: [u32; ATOMIC],
+    pub states: [u32; LISTED],
     pub count: usize,
 }
 

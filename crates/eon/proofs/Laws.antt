@@ -60,7 +60,7 @@ module _ (text : List ℕ) (D : Declared) (P : Program) (Q : Question) (m : Mode
   }
 
   -- an analysis of it can be listed
-  listable : (states : List ℕ) (k : ℕ) (run : List ℕ) (n : ℕ) → k ≤ limit.atomic → length states ≡ limit.atomic → n ≤ limit.shown → limit.run ≤ length run → Listable text m states k run n
+  listable : (states : List ℕ) (k : ℕ) (run : List ℕ) (n : ℕ) → k ≤ limit.listed → length states ≡ limit.listed → n ≤ limit.shown → limit.run ≤ length run → Listable text m states k run n
   listable states k run n few whole short long = record {
     relations = accepted-well-formed text D P Q m ok rep .relations;
     names = named;
@@ -70,7 +70,7 @@ module _ (text : List ℕ) (D : Declared) (P : Program) (Q : Question) (m : Mode
     short = omega arith;
   }
 
-  module _ (states : List ℕ) (k : ℕ) (run run′ : List ℕ) (whole : length states ≡ limit.atomic) (l : Listed P states k) where
+  module _ (states : List ℕ) (k : ℕ) (run run′ : List ℕ) (whole : length states ≡ limit.listed) (l : Listed P states k) where
     pub ready : (a : Answer) → Answered P Q run run′ a → limit.run ≤ length run′ → Ready text m states k run′ a
     ready (Reached n last) h long = listable states k run′ n (l .count) whole (h .1 .fits) long
     ready Unreached h long = listable states k run′ 0 (l .count) whole (omega arith) long
@@ -128,7 +128,7 @@ pub answered : (text work run : List ℕ) (a : Analysis) (work′ run′ : List 
 answered text work run a work′ run′ h l w = rw (in-room text (short (length work) (length run)) (rw (le-ltb (length work) limit.work h, le-ltb (length run) limit.run l) refl)) at w
 
 -- EVERY TEXT. What reading and analyzing it leave can be listed, and the listing is the output
-module _ (text work run : List ℕ) (r : Reading) (a : Analysis) (work′ run′ : List ℕ) (whole : length (a .states) ≡ limit.atomic) where
+module _ (text work run : List ℕ) (r : Reading) (a : Analysis) (work′ run′ : List ℕ) (whole : length (a .states) ≡ limit.listed) where
   pub text-ready : (o : Outcome) → outcome text ≡ o → Reads o text r → Leaves o work run a work′ run′ → limit.run ≤ length run′ → Ready text (r .model) (a .states) (a .count) run′ (a .answer)
   text-ready (refused n ℓ) ok reads leaves long = rw (leaves .0) tt
   text-ready (accepted D P Q) ok reads leaves long = ready text D P Q (r .model) ok (reads .1) (reads .2) (a .states) (a .count) run run′ whole (leaves .1 .states) (a .answer) (leaves .1 .verdict) long

@@ -50,7 +50,7 @@ Tells (Reached n last) table reached run = (reached ≡ true) × (map placeOf (t
 Tells Unreached table reached run = reached ≡ false
 Tells (Refused n l) table reached run = ⊥
 
--- THE LISTING OF AN ACCEPTED TEXT: the verdict, the reachable atomic states by rising number, and of a reached question a kept run; all three are those of the analysis
+-- THE LISTING OF AN ACCEPTED TEXT: the verdict, the reachable atomic states by rising number, the empty one first, and of a reached question a kept run; all three are those of the analysis
 abbrev pub Run : Program → Question → Bool → List Place → Type 0
 Run P Q true run = Kept P Q run
 Run P Q false run = run ≡ []

@@ -3,8 +3,9 @@ use mathlib.Core.Path.{_≡_, _∙_, ap}
 use mathlib.Core.Logic.{⊎-elim}
 use mathlib.Core.Bool.{false}
 use mathlib.Core.List.{List}
-use Prim.Native.Nat.{ℕ}
+use Prim.Native.Nat.{ℕ, _+_}
 use lib.ListN.{length, replicate}
+use Rattle.limits.specs.Limits as limit
 use Rattle.grammar.specs.Texts.{Outcome, accepted, refused}
 use Rattle.calls.specs.Calls.{short, called}
 use Rattle.analyzer.specs.Analyzing.{Leaves}
@@ -19,7 +20,7 @@ use Rattle.exports.proofs.Cells.{zero-beside-refusal, cells-left}
 
 -- beside a refusal all cells are zero
 pub refused-zero : (text work run : List ℕ) (n : ℕ) (work′ run′ out′ : List ℕ) (k l : ℕ) → called text (short (length work) (length run)) false ≡ refused k l
-    → Analyzed text work run n work′ run′ out′ → out′ ≡ replicate 129 0
+    → Analyzed text work run n work′ run′ out′ → out′ ≡ replicate (limit.listed + 2) 0
 refused-zero text work run n work′ run′ out′ k l e h =
     let r : Leaves (refused k l) work run (h .analysis) work′ run′ = (rw e at (h .analyzes)) in
     h .cells ∙ ap (λ (a : Analysis). table a (lastNumber (a .answer) run′)) (r .0) ∙ zero-beside-refusal k l

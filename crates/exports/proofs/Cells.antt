@@ -12,12 +12,12 @@ use Rattle.replay_session.specs.declared.Session.{Session}
 use Rattle.exports.specs.Cells.{table, stateOf, cellsOf}
 
 -- beside an answer of the analysis
-pub table-filled : (a : Analysis) (last : ℕ) → length (a .states) ≡ limit.atomic
-    → paste (set (set (replicate 129 0) 0 (a .count)) 128 last) 1 (a .states) (length (a .states)) ≡ table a last
+pub table-filled : (a : Analysis) (last : ℕ) → length (a .states) ≡ limit.listed
+    → paste (set (set (replicate (limit.listed + 2) 0) 0 (a .count)) (limit.listed + 1) last) 1 (a .states) (length (a .states)) ≡ table a last
 table-filled a last h = rw (take-all (length (a .states)) (a .states) (omega arith), h) refl
 
 -- beside a refusal they are zero
-pub zero-beside-refusal : (n l : ℕ) → table (analyzing.refusal n l) 0 ≡ replicate 129 0
+pub zero-beside-refusal : (n l : ℕ) → table (analyzing.refusal n l) 0 ≡ replicate (limit.listed + 2) 0
 zero-beside-refusal n l = refl
 
 -- a replay's state

@@ -67,7 +67,7 @@ module _ (P : Program) (Q : Question) (run run′ : List ℕ) where
   answer-fits (Refused n l) h = absurd h
 
 pub analysis-fits : (o : Outcome) (work run : List ℕ) (a : Analysis) (work′ run′ : List ℕ) → Leaves o work run a work′ run′
-    → ShortRun (a .answer) × Shown (length run′) (a .answer) × (a .count ≤ limit.atomic)
+    → ShortRun (a .answer) × Shown (length run′) (a .answer) × (a .count ≤ limit.listed)
 analysis-fits (refused n l) work run a work′ run′ h = rw (h .0) (tt, tt, omega arith)
 analysis-fits (accepted D P Q) work run a work′ run′ h =
     let f = answer-fits P Q run run′ (a .answer) (h .1 .verdict) in

@@ -14,7 +14,7 @@ lastNumber (Reached n last) run = getD run (n - 1) 0
 lastNumber Unreached run = 0
 lastNumber (Refused n l) run = 0
 
--- WHAT STANDS BESIDE AN ANSWER of the analysis: the number of reachable atomic states, 127 cells of the states by rising number with zeros behind, and the number of the last place
+-- WHAT STANDS BESIDE AN ANSWER of the analysis: the number of reachable atomic states, 128 cells of the states by rising number, the empty one first, with zeros behind, and the number of the last place
 abbrev pub table : Analysis → ℕ → List ℕ
 table a last = a .count ∷ (a .states ++ (last ∷ []))
 

@@ -1,6 +1,6 @@
 // The public calls for C and Rust: answers as numbers, records as rows of cells (include/eon.h).
 use analyzer_verdict::Analysis;
-use limits::ATOMIC;
+use limits::LISTED;
 use limits::OBJECTS;
 use replay_session::Session;
 ghost use mathlib.Core.Path.{_≡_};
@@ -16,9 +16,9 @@ ghost use Rattle.exports.specs.Calls.{Analyzed, Replayed, Placed};
 ghost use Rattle.exports.specs.Ranges.{ShortRun, LowPlace, LowNumber, Shown, Small};
 
 // The cells beside an answer of the analysis, of which the last has the shown run's last place.
-const LAST: usize = ATOMIC + 1;
+const LAST: usize = LISTED + 1;
 
-const OUT: usize = ATOMIC + 2;
+const OUT: usize = LISTED + 2;
 
 // The cells of a replay's state: behind the objects' states their number, the stages met, the carried object and the places kept.
 const MET: usize = OBJECTS + 1;
@@ -98,7 +98,7 @@ fn last_number(answer: analyzer_verdict::Answer, run: &[u32]) -> u32
 
 // The cells beside an answer of the analysis.
 fn table(a: Analysis, last: u32) -> [u32; OUT]
-    requires { ⌜ a .count ≤ limit.atomic ⌝ }
+    requires { ⌜ a .count ≤ limit.listed ⌝ }
     ensures { λ r. ⌜ r ≡ tableOf a last ⌝ }
 {
     let states = a.states;

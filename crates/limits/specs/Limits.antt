@@ -1,4 +1,4 @@
--- THE LIMITS of document 01: each figure stands here, under its name, and everywhere else the name.
+-- THE LIMITS of the documents: each figure stands here, under its name, and everywhere else the name.
 use Prim.Native.Nat.{ℕ, _+_, _-_, _*_, _/_, _^_}
 
 -- THE BRACKET TEXT. Row 1: "no bytes, or over 16,384"
@@ -65,6 +65,10 @@ built = atomic * (atomic + 1) / 2
 
 abbrev pub shown : ℕ
 shown = built + atomic + (stages - 1) * (atomic - 1) + stages
+
+-- document 02: the empty state "counts" too
+abbrev pub listed : ℕ
+listed = atomic + 1
 
 -- WHAT FOLLOWS: the declared relations, the numbers of atomic states, the literals of all lines, the variables of an `ask` line
 abbrev pub declared : ℕ

@@ -1,4 +1,4 @@
-// The limits of document 01: each figure stands here, under its name, and everywhere else the name.
+// The limits of the documents: each figure stands here, under its name, and everywhere else the name.
 
 // The bytes of a text.
 pub const TEXT: usize = 16_384;
@@ -40,8 +40,11 @@ pub const OBJECTS: usize = 255;
 // Stands for no object.
 pub const NONE: u32 = 255;
 
-// The reachable atomic states.
+// The reachable atomic states that are not empty.
 pub const ATOMIC: usize = 127;
+
+// The reachable atomic states, with the empty one.
+pub const LISTED: usize = ATOMIC + 1;
 
 // The numbers of atomic states.
 pub const SETS: u32 = 1 << STATES;

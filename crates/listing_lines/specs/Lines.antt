@@ -35,7 +35,7 @@ pub record Named (text : List ℕ) (m : Model) : Type 0 where
   pub within : (i : ℕ) → i < m .relations .count → getD (m .names) i 0 + getD (m .lengths) i 0 ≤ length text
   pub short : (i : ℕ) → i < m .relations .count → getD (m .lengths) i 0 ≤ limit.name
 
--- an atomic state: `(atomic A B)`
+-- an atomic state: `(atomic A B)`, and `(atomic)` for the empty one
 unfoldable pub atomicLine : List ℕ → Model → ℕ → List ℕ
 atomicLine text m s = form "atomic" (namesIn text m s (m .relations .count))
 

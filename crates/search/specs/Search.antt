@@ -4,7 +4,6 @@ use mathlib.Core.Logic.{_↔_}
 use mathlib.Core.Bool.{true}
 use mathlib.Core.List.{List}
 use Prim.Native.Nat.{ℕ, _<_}
-use Rattle.semantics.specs.Models.{elem}
 use Rattle.semantics.specs.Steps.{Reachable}
 use Rattle.semantics.specs.Questions.{Verdict}
 use Rattle.semantics.specs.Tables.{Saturated, FoundedRows}
@@ -13,7 +12,7 @@ use Rattle.model.specs.Records.{programOf, questionOf}
 use Rattle.facts_table.specs.Table.{tableOf, Consistent}
 use Rattle.facts.specs.Facts.{Exact}
 use Rattle.search_states.specs.States as states
-use Rattle.search_states.specs.States.{row, Discovered}
+use Rattle.search_states.specs.States.{row, Known, Discovered}
 use Rattle.search_states.specs.Rising.{Lists}
 use Rattle.search_entries.specs.Entries as entries
 use Rattle.search_entries.specs.Entries.{count, rowsOf, cameOf}
@@ -21,10 +20,10 @@ use Rattle.search.specs.declared.Found.{Found}
 
 -- w is the work area as the search leaves it
 pub record Searched (m : Model) (w : List ℕ) (r : Found) : Type 0 where
-  -- the states, in order of discovery, are exactly the reachable ones; and so are those by rising number
+  -- the states found are exactly the reachable ones, the empty one if it is noted; and so are those by rising number
   pub proper : states.Proper (r .states)
-  pub reachable : (t : ℕ) → Reachable (programOf m) t ↔ elem t (row (r .states)) ≡ true
-  pub listing : Lists (row (r .states)) (r .listing)
+  pub reachable : (t : ℕ) → Reachable (programOf m) t ↔ Known (r .states) t
+  pub listing : Lists (r .states) (r .listing)
   -- the verdict is right, and where it is reached the last level has an entry
   pub verdict : Verdict (programOf m) (questionOf m) (r .reached)
   pub entered : r .reached ≡ true → 0 < count (r .levels) (m .stagecount)

@@ -18,6 +18,7 @@ use Rattle.model.proofs.Renaming.{elem-map, elem-of-map, vars-renamed, supporte
 use Rattle.facts_table.specs.Table.{tableOf}
 use Rattle.search_states.specs.declared.States.{States}
 use Rattle.search_states.specs.States.{row}
+use Rattle.search_clauses.proofs.Clauses.{lists-within}
 use Rattle.search_reachable.specs.Reachable.{Reaches}
 use Rattle.search_entries.specs.declared.Levels.{Levels}
 use Rattle.search_entries.specs.Entries.{begun, Proper}
@@ -109,7 +110,7 @@ module _ (m : Model) (w : List ℕ) (s : States) (h : Reaches m w s) where
     sound q os e = h .exact .facts q os .0 e
 
     real : Real (programOf m) (questionOf m) (m .carried) (row s) r
-    real = b .real sound (a .real sound (h .listed) (st .1))
+    real = b .real sound (a .real sound (λ i n. lists-within (clauseLine (m .literals) (clauseAt m i)) s w (h .listed i n)) (st .1))
 
     pub standing-more : Standing m w s (r .levels)
     standing-more = (b .goes .proper, record { rows = real .rows; begins = real .begins })

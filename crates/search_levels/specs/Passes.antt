@@ -6,13 +6,13 @@ use mathlib.Core.Option.{none}
 use Prim.Native.Nat.{ℕ, suc, _<_}
 use Rattle.semantics.specs.Models.{elem, vars}
 use Rattle.semantics.specs.Facts.{Database}
-use Rattle.semantics.specs.Tables.{Shows, SoundFacts, Entry, FoundedRows}
+use Rattle.semantics.specs.Tables.{Shows, SoundFacts, Within, Entry, FoundedRows}
 use Rattle.model.specs.declared.Model.{Model}
 use Rattle.model.specs.Records.{clauseLine, programOf, stageOf, questionOf, clauseAt, stageAt}
 use Rattle.facts_table.specs.Table.{tableOf}
 use Rattle.search_states.specs.declared.States.{States}
 use Rattle.search_states.specs.States.{row}
-use Rattle.search_clauses.specs.Reach.{Lists}
+use Rattle.search_clauses.specs.Reach.{Yields}
 use Rattle.search_entries.specs.declared.Levels.{Levels}
 use Rattle.search_entries.specs.Entries.{rowsOf, cameOf, Proper}
 use Rattle.search_carried.specs.declared.Carried.{Carried}
@@ -22,7 +22,7 @@ use Rattle.search_meetings.specs.Meetings.{HandsTo}
 
 -- no clause adds a state
 abbrev pub AllListed : Model → List ℕ → Database → Type 0
-AllListed m w S = (i : ℕ) → i < m .clausecount → Lists (clauseLine (m .literals) (clauseAt m i)) S w
+AllListed m w S = (i : ℕ) → i < m .clausecount → Yields (Within S) (clauseLine (m .literals) (clauseAt m i)) S w
 
 -- the clauses below n are taken once
 pub record TakesClauses (m : Model) (w : List ℕ) (S : Database) (s : Carried) (n : ℕ) (r : Carried) : Type 0 where

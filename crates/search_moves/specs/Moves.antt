@@ -9,9 +9,9 @@ use Rattle.limits.specs.Limits as limit
 use Rattle.semantics.specs.Labels.{relabel}
 use Rattle.semantics.specs.Models.{elem, Body, Line, rule, new, next, other, Program, line, Question}
 use Rattle.semantics.specs.Facts.{Database, state}
-use Rattle.semantics.specs.Tables.{Shows, SoundFacts}
+use Rattle.semantics.specs.Tables.{Shows, SoundFacts, Within}
 use Rattle.facts_table.specs.Table.{tableOf, Consistent, Rows}
-use Rattle.search_clauses.specs.Reach.{Lists}
+use Rattle.search_clauses.specs.Reach.{Yields}
 use Rattle.search_carried.specs.declared.Carried.{Carried}
 use Rattle.search_carried.specs.Carry.{Real, Has, Goes}
 
@@ -39,5 +39,5 @@ KeepsAt w S n plus minus b e s =
 -- A LINE IS TAKEN: where it adds no state, the entries that it adds are real; and where it added none, it is done
 pub record Takes (w : List ℕ) (S : Database) (n : ℕ) (s : Carried) (ℓ : ℕ) (L : Line) (r : Carried) (Done : Carried → Type 0) : Type 0 where
   pub goes : Goes s r
-  pub real : (P : Program) (Q : Question) (v : ℕ) → line P ℓ ≡ L → SoundFacts P S (tableOf w) → Lists L S w → n ≤ length Q → Real P Q v S s → Real P Q v S r
+  pub real : (P : Program) (Q : Question) (v : ℕ) → line P ℓ ≡ L → SoundFacts P S (tableOf w) → Yields (Within S) L S w → n ≤ length Q → Real P Q v S s → Real P Q v S r
   pub done : r .added ≡ false → Done r

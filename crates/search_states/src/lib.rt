@@ -1,26 +1,28 @@
-// The row of atomic states that a search has found, in order of discovery, each with how it came.
+// The row of atomic states that a search has found, in order of discovery, each with how it came, and whether the empty one is among them.
 ghost use mathlib.Core.Path.{_≡_};
 ghost use Prim.Native.Nat.{_≤_, _<_};
 ghost use lib.ListN.{length, take};
 ghost use Rattle.limits.specs.Limits as limit;
 ghost use Rattle.semantics.specs.Models.{elem};
 ghost use Rattle.semantics.specs.Tables.{seat};
-ghost use Rattle.search_states.specs.States.{row, nothing, appended, added, Proper};
+ghost use Rattle.search_states.specs.States.{nothing, appended, added, Proper};
 ghost use Rattle.search_states.specs.Rising.{Lists};
 use limits::ATOMIC;
+use limits::LISTED;
 use limits::SETS;
 
-// State i came by line lines[i] from state origins[i].
+// State i came by line lines[i] from state origins[i]. The empty state has no place in the row: it moves nothing and stands for no variable.
 pub struct States {
     pub states: [u32; ATOMIC],
     pub lines: [u32; ATOMIC],
     pub origins: [u32; ATOMIC],
     pub count: usize,
+    pub empty: bool,
 }
 
 // The states by rising number.
 pub struct Listing {
-    pub states: [u32; ATOMIC],
+    pub states: [u32; LISTED],
     pub count: usize,
 }
 
@@ -36,6 +38,7 @@ pub fn none() -> States
         lines,
         origins,
         count: 0,
+        empty: false,
     }
 }
 
@@ -75,12 +78,13 @@ fn append(mut s: States, state: u32, line: u32, origin: u32) -> States
     s
 }
 
-// The row with the state behind, unless it is empty or listed already.
-pub fn add(s: States, state: u32, line: u32, origin: u32) -> States
+// The row with the state behind, unless it is listed already; of the empty state it is noted that it is found.
+pub fn add(mut s: States, state: u32, line: u32, origin: u32) -> States
     requires { ⌜ Proper s × (state < limit.sets) ⌝ }
     ensures { λ r. ⌜ r ≡ added s state line origin ⌝ }
 {
     if state == 0 {
+        s.empty = true;
         return s;
     }
     if among(&s.states, s.count, state) {
@@ -92,10 +96,14 @@ pub fn add(s: States, state: u32, line: u32, origin: u32) -> States
 // The found states by rising number.
 pub fn rising(s: States) -> Listing
     requires { ⌜ Proper s ⌝ }
-    ensures { λ r. ⌜ Lists (row s) r ⌝ }
+    ensures { λ r. ⌜ Lists s r ⌝ }
 {
-    let mut states = [0u32; ATOMIC];
+    let mut states = [0u32; LISTED];
     let mut count: usize = 0;
+    // The empty state is number 0, which stands in the first place already.
+    if s.empty {
+        count = 1;
+    }
     let mut t: u32 = 1;
     while t < SETS {
         if among(&s.states, s.count, t) {

@@ -161,8 +161,8 @@ module _ (P : Program) (Q : Question) (v : ℕ) (G H : Have) (p : Pass P Q v G H
   end = saturated H P Q v (λ x (s, g). p .takes x (s, gives-more H G quiet P Q v s x g))
 
   module _ (safe : Safe P) (safeQ : SafeQuestion Q) where
-    -- each reachable state is found
-    pub all-states : (s : ℕ) → Reachable P s → Has H (found s)
+    -- each reachable state that is not empty is found
+    pub all-states : (s : ℕ) → (s ≢ 0) × Reachable P s → Has H (found s)
     all-states s (n, (ts, db, steps, (o, l, e))) =
         let covered = steps-covered P safe Q safeQ v (states H) (table H) (rows H) end ts [] db steps (λ o l. absurd (l refl)) o (λ z. n (sym e ∙ z)) in
         let (k, at) = seat-ok s (states H) (subst (λ (z : ℕ). elem z (states H) ≡ true) e covered) in

@@ -1,6 +1,6 @@
 -- NO TEXT IS REFUSED BY ROW 13: each pass before the last added something too, and there is less than 100,000 to add.
 use mathlib.Core.Path.{_≡_, refl, sym, ap, subst}
-use mathlib.Core.Logic.{⊎-elim, _↔_}
+use mathlib.Core.Logic.{⊎-elim, _≢_, _↔_}
 use mathlib.Core.Bool.{true, false, false≢true}
 use mathlib.Core.List.{List, [], _∷_}
 use mathlib.Core.Option.{Option}
@@ -72,9 +72,9 @@ accepted-never-spent text D P Q e s = never-spent (length (lines text)) D P Q (a
 pub accepted-search : (text : List ℕ) (D : Declared) (P : Program) (Q : Question) → outcome text ≡ accepted D P Q → (n : ℕ) → Passes P Q (carriedOf Q) n
 accepted-search text D P Q e n = search P Q (carriedOf Q) (accepted-sound text D P Q e .safe) n
 
--- AFTER 98,685 PASSES a search of an accepted text has exactly the reachable states, and has met all stages exactly if the question is reached
+-- AFTER 98,685 PASSES a search of an accepted text has exactly the reachable states that are not empty, and has met all stages exactly if the question is reached
 pub accepted-searched : (text : List ℕ) (D : Declared) (P : Program) (Q : Question) → outcome text ≡ accepted D P Q → (p : Passes P Q (carriedOf Q) 98685)
-    → ((s : ℕ) → Reachable P s ↔ Has (p .after 98685) (found s)) × (Reached P Q ↔ ((c : Option ℕ) × Carries (p .after 98685) (length Q) c))
+    → ((s : ℕ) → ((s ≢ 0) × Reachable P s) ↔ Has (p .after 98685) (found s)) × (Reached P Q ↔ ((c : Option ℕ) × Carries (p .after 98685) (length Q) c))
 accepted-searched text D P Q e p =
     let sound = accepted-sound text D P Q e in
     let asked = sound .question in

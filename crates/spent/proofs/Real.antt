@@ -142,7 +142,7 @@ module _ (P : Program) (Q : Question) (v : ℕ) where
       rows = T .rows;
       came = T .came;
       levels = record {
-        arrived = λ i j l. came-grows P safe Q v (T .S) (T .S ++ (s ∷ [])) (under-append (T .S) (T .S) (s ∷ []) (under-refl (T .S))) (T .rows) i j (T .came i j) (T .levels .arrived i j l);
+        arrived = λ i j l. came-grows P safe (T .S) (T .S ++ (s ∷ [])) (under-append (T .S) (T .S) (s ∷ []) (under-refl (T .S))) Q v (T .rows) i j (T .came i j) (T .levels .arrived i j l);
         distinct = T .levels .distinct;
         within = λ i c e. elem-left c (T .S) (s ∷ []) (T .levels .within i c e);
       };
@@ -374,8 +374,8 @@ module _ (P : Program) (Q : Question) (v : ℕ) where
     search-real k p zero l = rw (p .nothing) (nothing, λ x m. absurd (List·Memᴰ·not-nil m), (0, omega arith, refl))
     search-real k p (suc i) l = let q = p .pass i (omega arith) in rw (q .keeps) (adds-real (p .after i) (search-real k p i (omega arith)) (q .added) (q .adds))
 
-    -- ITS STATES are reachable
-    pub states-reachable : (k : ℕ) (p : Passes P Q v k) (i : ℕ) → i ≤ k → (s : ℕ) → Has (p .after i) (found s) → Reachable P s
+    -- ITS STATES are reachable, and none is empty
+    pub states-reachable : (k : ℕ) (p : Passes P Q v k) (i : ℕ) → i ≤ k → (s : ℕ) → Has (p .after i) (found s) → (s ≢ 0) × Reachable P s
     states-reachable k p i l s h =
         let (T, covers, begins) = search-real k p i l in
         let (n, e) = covers (found s) h in

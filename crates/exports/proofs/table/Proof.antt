@@ -9,7 +9,7 @@ use Rattle.exports.proofs.table.Statement.{statement}
 use Rattle.exports.proofs.table.Tie as tie
 
 -- the row of states has its size
-whole : (c : tie.Start) → length (c .args .a .states) ≡ limit.atomic
+whole : (c : tie.Start) → length (c .args .a .states) ≡ limit.listed
 whole c = search needs
 
 cast-cells : tie.Need-cast-cells

@@ -2,20 +2,25 @@ use mathlib.Core.Path.{sym, _∙_}
 use mathlib.Core.Logic.{⊎-elim}
 use Prim.Native.Nat.{_-_}
 use native.Mathlib.Omega.{arith}
-use Rattle.search_states.specs.States.{row}
-use Rattle.search_states.proofs.Sorting.{ListsTo, lists-none, lists-skip, lists-more, lists-all}
+use Rattle.limits.specs.Limits as limit
+use Rattle.search_states.proofs.Sorting.{ListsTo, lists-empty, lists-none, lists-skip, lists-more, lists-all}
 use borrow.Author.Needs.{needs}
 use Rattle.search_states.proofs.rising.Statement.{statement}
 use Rattle.search_states.proofs.rising.Tie as tie
 
 abbrev Inv-loop : tie.InvT-loop
-Inv-loop s states₀ count₀ t₀ states count t = ListsTo (row s) t states count
+Inv-loop s states₀ count₀ t₀ states count t = ListsTo s t states count
 
 abbrev μ-loop : tie.MeasureT-loop
-μ-loop s states₀ count₀ t₀ states count t = 128 - t
+μ-loop s states₀ count₀ t₀ states count t = limit.sets - t
 
 loop-holds : tie.Need-loop-holds Inv-loop μ-loop
-loop-holds c = lists-none (c .args .t1) (c .pre)
+loop-holds c =
+    let s = c .before in
+    ⊎-elim
+    (λ w. rw (w .1) (lists-empty (s .args .t1) (s .pre) (w .0 .taken)))
+    (λ w. rw (w .1) (lists-none (s .args .t1) (s .pre) (w .0 .left)))
+    (c .if1 .came)
 
 among-requires : tie.Need-among-requires Inv-loop μ-loop
 among-requires c κs = search needs
@@ -38,17 +43,17 @@ loop-less c = search needs
 loop-again : tie.Need-loop-again Inv-loop μ-loop
 loop-again c =
     let l = c .before .before .before .before .before .before .loop in
-    let s = c .before .before .before .before .before .before .before .args .t1 in
+    let s = c .before .before .before .before .before .before .before .before .args .t1 in
     let e = c .before .among .ensures in
     ⊎-elim
-    (λ w. rw (w .1, w .2) (lists-more (row s) (l .t) (l .states) (l .count) (l .inv) (omega arith) (sym e ∙ w .0 .taken)))
-    (λ w. rw (w .1, w .2) (lists-skip (row s) (l .t) (l .states) (l .count) (l .inv) (omega arith) (sym e ∙ w .0 .left)))
-    (c .if1 .came)
+    (λ w. rw (w .2, w .3) (lists-more s (l .t) (l .states) (l .count) (l .inv) (omega arith) (sym e ∙ w .0 .taken)))
+    (λ w. rw (w .1, w .2) (lists-skip s (l .t) (l .states) (l .count) (l .inv) (omega arith) (sym e ∙ w .0 .left)))
+    (c .if2 .came)
 
 returns : tie.Need-returns Inv-loop μ-loop
 returns c =
     let l = c .before .loop in
-    let b = c .before .before in
+    let b = c .before .before .before in
     lists-all (b .args .t1) (b .pre) (l .states) (l .count) (l .t) (omega arith) (l .inv)
 
 pub rising-spec : {M : Type 1} → statement M
