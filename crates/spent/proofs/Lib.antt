@@ -1,9 +1,6 @@
 pub mod Quiet
 pub mod Orders
-pub mod Ended
 pub mod Searches
 pub mod Universe
-pub mod Real
-pub mod Numbers
+pub mod Counted
 pub mod Never
-pub mod Office

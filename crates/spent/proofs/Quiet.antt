@@ -36,7 +36,7 @@ module _ (G H : Have) (more : Under G H) where
   module _ (P : Program) (Q : Question) (v : ℕ) where
     line-more : (L : Line) (x : Item) → ByLine P Q v G L x → ByLine P Q v H L x
     line-more (rule r xs b) x (σ, s, e) = (σ, shows-more σ b s, e)
-    line-more (new t b) x (σ, s, n, e) = (σ, shows-more σ b s, n, e)
+    line-more (new t b) x (σ, s, e) = (σ, shows-more σ b s, e)
     line-more (next y plus minus b) x (σ, s, inl c) = (σ, shows-more σ b s, inl c)
     line-more (next y plus minus b) x (σ, s, inr (i, l, c, e)) = (σ, shows-more σ b s, inr (i, l, carries-more i _ c, e))
     line-more other x g = g
