@@ -15,9 +15,9 @@ use Rattle.semantics.specs.Labels.{has, relabel}
 use Rattle.semantics.specs.Models.{elem, is, isnt, fact, Body, Line, rule, new, next, other, Program, line, Question, vars, SafeLine, Safe}
 use Rattle.semantics.proofs.Tools.{either, same?, or-right, or-true-cases, elem-here, elem-left, elem-right}
 use Rattle.semantics.proofs.Bodies.{Agree, map-agree, supported-vars}
-use Rattle.spent.specs.Passes.{Item, derived, found, carried, Have, Has, Carries, AllTrue, Shows, Hands, Changes, Source, clause, stage, ByLine, ByStage, Gives, Given, Pass, Passes}
-use Rattle.spent.proofs.Quiet.{has?}
-use Rattle.spent.proofs.Orders.{at-once}
+use Rattle.passes.specs.Passes.{Item, derived, found, carried, Have, Has, Carries, AllTrue, Shows, Hands, Changes, Source, clause, stage, ByLine, ByStage, Gives, Given, Pass, Passes}
+use Rattle.passes.proofs.Quiet.{has?}
+use Rattle.passes.proofs.Orders.{at-once}
 
 -- what the items of a search tell, in a row
 abbrev gather : {B : Type 0} → (Item → List B) → Have → List B

@@ -14,9 +14,9 @@ use Rattle.limits.specs.Limits as limit
 use Rattle.grammar.specs.Declarations.{Declared, count}
 use Rattle.semantics.specs.Models.{Question}
 use Rattle.acceptance.specs.Sound.{GoodDeclarations}
-use Rattle.spent.specs.Passes.{Item, derived, found, carried}
-use Rattle.spent.specs.Counting.{AtMost, chosen, State, Pair, Single, Carried, states, pairs, carriedStates, addable}
-use Rattle.spent.proofs.Universe.{Within}
+use Rattle.passes.specs.Passes.{Item, derived, found, carried}
+use Rattle.passes.specs.Counting.{AtMost, chosen, State, Pair, Single, Carried, states, pairs, carriedStates, addable}
+use Rattle.passes.proofs.Universe.{Within}
 
 -- the count that document 02 gives
 pub addable-is : addable ≡ 98684

@@ -10,7 +10,7 @@ use Rattle.limits.specs.Limits as limit
 use Rattle.semantics.specs.Models.{elem, Question, vars}
 use Rattle.grammar.specs.Declarations.{Declared, count}
 use Rattle.acceptance.specs.Sound.{DeclaredRelation}
-use Rattle.spent.specs.Passes.{Item, derived, found, carried}
+use Rattle.passes.specs.Passes.{Item, derived, found, carried}
 
 -- the set has at most n items: each has a number below n
 pub record AtMost (n : ℕ) (A : Item → Type 0) : Type 0 where

@@ -12,7 +12,7 @@ use native.Mathlib.Decide.{map-dec, ℕ-discrete}
 use lib.ListN.{getD}
 use Rattle.semantics.specs.Models.{is, isnt, fact, Body, Line, rule, new, next, other, Program, line, Question}
 use Rattle.semantics.proofs.Tools.{same?}
-use Rattle.spent.specs.Passes.{Item, derived, found, carried, Have, Has, Carries, AllTrue, Shows, ByLine, Source, clause, stage, Gives, Adds, Pass, Adding, Passes}
+use Rattle.passes.specs.Passes.{Item, derived, found, carried, Have, Has, Carries, AllTrue, Shows, ByLine, Source, clause, stage, Gives, Adds, Pass, Adding, Passes}
 
 -- all that G has, H has
 abbrev pub Under : Have → Have → Type 0

@@ -16,8 +16,8 @@ use Rattle.semantics.proofs.Tools.{either, clash, no-none, or-right, has-empty,
 use Rattle.semantics.proofs.Bodies.{supported-vars}
 use Rattle.grammar.specs.Declarations.{Declared, count}
 use Rattle.acceptance.specs.Sound.{Each, DeclaredRelation, GoodHead, GoodClause, Sound}
-use Rattle.spent.specs.Counting.{chosen, Atomic, Labeled}
-use Rattle.spent.specs.Passes.{Item, derived, found, carried, Have, Has, Carries, AllTrue, Shows, Hands, Changes, ByLine, ByStage, clause, stage, Given, Adds, Pass, Passes}
+use Rattle.passes.specs.Counting.{chosen, Atomic, Labeled}
+use Rattle.passes.specs.Passes.{Item, derived, found, carried, Have, Has, Carries, AllTrue, Shows, Hands, Changes, ByLine, ByStage, clause, stage, Given, Adds, Pass, Passes}
 
 -- relabeling stays within the relations of both lists
 relabel-below : (k s plus minus : ℕ) → s < 2 ^ k → plus < 2 ^ k → minus < 2 ^ k → relabel s plus minus < 2 ^ k

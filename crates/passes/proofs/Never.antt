@@ -15,12 +15,12 @@ use Rattle.grammar.specs.Declarations.{Declared}
 use Rattle.grammar.specs.Texts.{accepted, outcome}
 use Rattle.acceptance.specs.Sound.{GoodDeclarations, carriedOf, Sound}
 use Rattle.acceptance.proofs.Acceptance.{accepted-sound}
-use Rattle.spent.specs.Passes.{Has, Adding, Passes}
-use Rattle.spent.specs.Counting.{AtMost, State, Pair, Single, Carried, addable}
-use Rattle.spent.proofs.Quiet.{Under, pass-under, adding?, added-before}
-use Rattle.spent.proofs.Searches.{search}
-use Rattle.spent.proofs.Universe.{search-within}
-use Rattle.spent.proofs.Counted.{all-most, within-four}
+use Rattle.passes.specs.Passes.{Has, Adding, Passes}
+use Rattle.passes.specs.Counting.{AtMost, State, Pair, Single, Carried, addable}
+use Rattle.passes.proofs.Quiet.{Under, pass-under, adding?, added-before}
+use Rattle.passes.proofs.Searches.{search}
+use Rattle.passes.proofs.Universe.{search-within}
+use Rattle.passes.proofs.Counted.{all-most, within-four}
 
 -- distinct numbers below n are at most n
 below-length : (n : ℕ) (ns : List ℕ) → Distinct ns → ((i : ℕ) → elem i ns ≡ true → i < n) → length ns ≤ n
