@@ -85,10 +85,14 @@ fault-most D k (nextForm x p m b) =
     (lower-bound _ _ 11 (list-most D p) (lower-bound _ _ 11 (list-most D m) (lower-bound _ _ 11 (body-most D b) (scope-most (x ∷ []) b))))
 fault-most D k (askForm qs) = lower-bound _ _ 11 (stages-most D qs) (row-most 11 (carriesMany qs) (omega arith))
 
--- A REFUSAL in range: its number is at most 12, or 14; its line is at most m
+-- THE NUMBERS that a row has
+abbrev pub Numbered : ℕ → Type 0
+Numbered n = (n ≤ 12) ⊎ (n ≡ 14)
+
+-- A REFUSAL in range: a row has its number, and its line is at most m
 abbrev pub InRange : ℕ → Outcome → Type 0
 InRange m (accepted D P Q) = Unit {0}
-InRange m (refused n l) = ((n ≤ 12) ⊎ (n ≡ 14)) × (l ≤ m)
+InRange m (refused n l) = Numbered n × (l ≤ m)
 
 abbrev StepInRange : Step → Type 0
 StepInRange (wrong r) = r ≤ 11
@@ -155,7 +159,7 @@ outcome-range text = go (either wrong-size)
     go (inr q) = rw q (read-range (limit.text + 1) (lines text) 1 [] [] (omega (arith, length-lines text, ltb-false limit.text (length text) (or-false (eqb (length text) 0) (ltb limit.text (length text)) q .1))))
 
 -- EVERY CALL
-rows-range : (b short long : Bool) → (cond b 1 (cond short 12 (cond long 14 0)) ≤ 12) ⊎ (cond b 1 (cond short 12 (cond long 14 0)) ≡ 14)
+rows-range : (b short long : Bool) → Numbered (cond b 1 (cond short 12 (cond long 14 0)))
 rows-range true short long = inl (omega arith)
 rows-range false true long = inl (omega arith)
 rows-range false false true = inr refl
@@ -172,5 +176,5 @@ called-range text short long = ⊎-elim (λ (q : eqb first 0 ≡ true). rw q (ou
 pub code-read : (kind value : ℕ) → value < 4294967296 → (code kind value / 4294967296 ≡ kind) × (code kind value % 4294967296 ≡ value)
 code-read kind value h = (omega arith, omega arith)
 
-pub refusal-read : (n l : ℕ) → (n ≤ 12) ⊎ (n ≡ 14) → l ≤ (limit.text + 1) → (n * 65536 + l < 4294967296) × ((n * 65536 + l) / 65536 ≡ n) × ((n * 65536 + l) % 65536 ≡ l)
+pub refusal-read : (n l : ℕ) → Numbered n → l ≤ (limit.text + 1) → (n * 65536 + l < 4294967296) × ((n * 65536 + l) / 65536 ≡ n) × ((n * 65536 + l) % 65536 ≡ l)
 refusal-read n l h k = let few : n ≤ 14 = ⊎-elim (λ q. omega arith) (λ q. omega arith) h in (omega arith, omega arith, omega arith)
