@@ -128,10 +128,7 @@ fn shape(answer: &Answer, out: &[u32; OUT], last: Option<u32>) -> bool {
     if answer.is_refusal() {
         return out.iter().all(|n| *n == 0);
     }
-    count <= LISTED
-        && (2..=count).all(|i| out[i - 1] < out[i])
-        && out[count + 1..=LISTED].iter().all(|n| *n == 0)
-        && out[LISTED + 1] == last.unwrap_or(0)
+    count <= LISTED && (2..=count).all(|i| out[i - 1] < out[i]) && out[count + 1..=LISTED].iter().all(|n| *n == 0) && out[LISTED + 1] == last.unwrap_or(0)
 }
 
 /// What the replay left.

@@ -36,9 +36,11 @@ fn covered_enough(report: &mut Report) {
     }
     report.met_often("search: certain and reached", 400);
     report.met_often("search: certain and unreached", 150);
-    for how in ["reachable, with a line that creates it", "reachable by clearing alone", "unreachable, with lines that clear", "unreachable, with no line for it"] {
-        report.met_often(&format!("empty state: {how}"), 50);
-    }
+    report.met_often("empty state: reachable, with a line that creates it", 100);
+    report.met_often("empty state: reachable by clearing alone", 150);
+    report.met_often("empty state: unreachable, with a line that would create it", 10);
+    report.met_often("empty state: unreachable, with lines that clear", 100);
+    report.met_often("empty state: unreachable, with no line for it", 10);
     report.met_often("models reached with a carried variable", 100);
     report.met_often("models unreached with a carried variable", 40);
     report.met_often("shown runs that change the carried object between stages", 50);

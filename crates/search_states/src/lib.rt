@@ -100,6 +100,7 @@ pub fn rising(s: States) -> Listing
 {
     let mut states = [0u32; LISTED];
     let mut count: usize = 0;
+    // The empty state is number 0, which stands in the first place already.
     if s.empty {
         count = 1;
     }
