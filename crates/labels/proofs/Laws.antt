@@ -1,12 +1,12 @@
 -- The state after a `next` line, put together relation by relation; and that doing its work twice is doing it once.
 use mathlib.Core.Path.{_≡_, refl, sym, ap, _∙_}
 use mathlib.Core.Logic.{⊎-elim, _≢_}
-use mathlib.Core.Bool.{Bool, true, false, _&&_, _||_}
-use Prim.Native.Nat.{ℕ, _+_, _*_, _%_, _^_, _≤_, _<_}
-use native.Mathlib.Nat.{one-mul}
+use mathlib.Core.Bool.{Bool, true, false, _&&_, _||_, false≢true}
+use Prim.Native.Nat.{ℕ, _+_, _*_, _/_, _%_, _^_, _≤_, _<_}
+use native.Mathlib.Nat.{one-mul, div-eq-of-lt, div-lt-iff-lt-mul}
 use native.Mathlib.Omega.{arith}
-use lib.Dec.{ltb}
-use lib.Pow.{shl-exact}
+use lib.Dec.{eqb, ltb}
+use lib.Pow.{pow-pos, shl-exact}
 use borrow.Author.Tests.{eq-eqb, ne-eqb, lt-ltb, le-ltb, ltb-true, ltb-false}
 use Rattle.semantics.specs.Labels.{has, union, relabel}
 use Rattle.semantics.proofs.Tools.{either, same?}
@@ -51,15 +51,35 @@ module _ (t n u : ℕ) (d : Done t n u) where
 pub shl-one : (r : ℕ) → r < 32 → (1 * 2 ^ r) % 4294967296 ≡ 2 ^ r
 shl-one r h = shl-exact 1 r 32 (omega arith) (omega arith) ∙ one-mul (2 ^ r)
 
--- all 32 relations of a state after a `next` line
-pub done-all : (s plus minus n u : ℕ) → s < 2 ^ 32 → plus < 2 ^ 32 → 32 ≤ n → Done (relabel s plus minus) n u → u ≡ relabel s plus minus
-done-all s plus minus n u hs hp l d = has-ext u (relabel s plus minus) (λ b. d b ∙ ⊎-elim
+-- a shift leaves nothing exactly if there is no relation from there on
+pub shr-none : (s r : ℕ) → eqb (s / 2 ^ r) 0 ≡ ltb s (2 ^ r)
+shr-none s r = ⊎-elim
+    (λ (q : ltb s (2 ^ r) ≡ true). eq-eqb (s / 2 ^ r) 0 (div-eq-of-lt (ltb-true s (2 ^ r) q)) ∙ sym q)
+    (λ (q : ltb s (2 ^ r) ≡ false). ne-eqb (s / 2 ^ r) 0 (λ e. below q e) ∙ sym q)
+    (either (ltb s (2 ^ r)))
+  where
+    below : ltb s (2 ^ r) ≡ false → s / 2 ^ r ≡ 0 → ⊥
+    below q e =
+        let l : s < 1 * 2 ^ r = div-lt-iff-lt-mul (pow-pos r) .0 (rw e (omega arith)) in
+        let m = ltb-false s (2 ^ r) q in omega (arith, one-mul (2 ^ r))
+
+-- where the test of the code says so, neither of two numbers has one
+pub none-left : (s t m : ℕ) → (ltb s m && ltb t m) ≡ true → (s < m) × (t < m)
+none-left s t m e = let (p, q) = both (ltb s m) (ltb t m) e in (ltb-true s m p, ltb-true t m q)
+  where
+    both : (a b : Bool) → (a && b) ≡ true → (a ≡ true) × (b ≡ true)
+    both true b e = (refl, e)
+    both false b e = absurd (false≢true e)
+
+-- all relations of a state after a `next` line, where neither the state nor the first list has one from n on
+pub done-all : (s plus minus n u : ℕ) → s < 2 ^ n → plus < 2 ^ n → Done (relabel s plus minus) n u → u ≡ relabel s plus minus
+done-all s plus minus n u hs hp d = has-ext u (relabel s plus minus) (λ b. d b ∙ ⊎-elim
     (λ (q : ltb b n ≡ true). rw q)
     (λ (q : ltb b n ≡ false). rw (q, beyond b (ltb-false b n q)))
     (either (ltb b n)))
   where
     beyond : (b : ℕ) → n ≤ b → has (relabel s plus minus) b ≡ false
-    beyond b h = has-relabel s plus minus b ∙ rw (has-beyond s b 32 hs (omega arith), has-beyond plus b 32 hp (omega arith))
+    beyond b h = has-relabel s plus minus b ∙ rw (has-beyond s b n hs h, has-beyond plus b n hp h)
 
 -- "doing a step's work on an object twice leaves what doing it once leaves", of the code's function: what its promise says of two calls
 pub twice : (s plus minus once again : ℕ) → once ≡ relabel s plus minus → again ≡ relabel once plus minus → again ≡ once

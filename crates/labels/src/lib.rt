@@ -1,5 +1,8 @@
 // One atomic state: whether it has a relation, and what a `next` line makes of it.
 ghost use mathlib.Core.Path.{_≡_};
+ghost use mathlib.Core.Bool.{_&&_};
+ghost use Prim.Native.Nat.{_<_, _^_};
+ghost use lib.Dec.{ltb};
 ghost use Rattle.semantics.specs.Labels.{has as member, relabel as relabeled};
 ghost use Rattle.semantics.specs.FourCases.{caseOf, worked};
 ghost use Rattle.labels.specs.Cases.{said};
@@ -62,6 +65,18 @@ fn keeps(state: u32, plus: u32, minus: u32, relation: u32) -> bool
     work(case, has(state, relation))
 }
 
+// Whether neither a state nor a list has a relation from this one on.
+fn ended(state: u32, plus: u32, relation: u32) -> bool
+    requires { ⌜ relation < 32 ⌝ }
+    ensures { λ r. ⌜ r ≡ (ltb state (2 ^ relation) && ltb plus (2 ^ relation)) ⌝ }
+{
+    if state >> relation == 0 {
+        plus >> relation == 0
+    } else {
+        false
+    }
+}
+
 // The atomic state after a `next` line, relation by relation: those of `plus` are added, then those of `minus` removed.
 pub fn relabel(state: u32, plus: u32, minus: u32) -> u32
     ensures { λ r. ⌜ r ≡ relabeled state plus minus ⌝ }
@@ -69,6 +84,9 @@ pub fn relabel(state: u32, plus: u32, minus: u32) -> u32
     let mut after: u32 = 0;
     let mut relation: u32 = 0;
     while relation < RELATIONS {
+        if ended(state, plus, relation) {
+            return after;
+        }
         if keeps(state, plus, minus, relation) {
             after = after | (1 << relation);
         }
