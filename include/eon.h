@@ -17,7 +17,7 @@
  * 4 one declaration or clause too many; 5 a name declared again; 6 a name undeclared or of the wrong kind; 7 a wrong number of variables;
  * 8 `not` before a derived relation; 9 a variable only under `not` or only in the head, a fourth variable, one repeated in a rule's head;
  * 10 a line after `ask`, or no `ask`; 11 two or more carried variables; 12 a work area under EON_WORK bytes, or a table lent for writing
- * under EON_RUN places; 14 a run over EON_RUN places, or a state that has kept EON_RUN. Number 13 is never given.
+ * under EON_RUN places; 14 a run over EON_RUN places, or a state that has kept EON_RUN.
  * The first line is 1; the line is 0 for numbers 1, 12 and 14.
  *
  * After a refusal the lent buffers are as they were, but for `out`. After every other answer the first EON_WORK bytes of the work area are zero,

@@ -7,7 +7,6 @@ use Rattle.model.specs.Records.{programOf, questionOf}
 use Rattle.model.specs.WellFormed.{WellFormed}
 use Rattle.grammar.specs.Declarations.{Declared}
 use Rattle.grammar.specs.Texts.{accepted, outcome}
-use Rattle.spent.proofs.Never.{accepted-never-spent}
 use Rattle.text.specs.declared.Acceptance.the-variants.{Accepted}
 use Rattle.text.specs.declared.Reading.{Reading}
 use Rattle.text.specs.Reading.{Reads}
@@ -26,4 +25,4 @@ module _ (text : List ℕ) (r : Reading) (h : Reads (outcome text) text r) (e : 
   pub leaves : (work run work′ run′ : List ℕ) (a : Analysis) → Judges (programOf (r .model)) (questionOf (r .model)) work run a work′ run′ → Leaves (outcome text) work run a work′ run′
   leaves work run work′ run′ a j =
       let t = model-of in
-      rw (t .3) (accepted-never-spent text (t .0) (t .1) (t .2) (t .3), rw (← read-program text (t .0) (t .1) (t .2) r (t .3) h, ← read-question text (t .0) (t .1) (t .2) r (t .3) h) j)
+      rw (t .3) (rw (← read-program text (t .0) (t .1) (t .2) r (t .3) h, ← read-question text (t .0) (t .1) (t .2) r (t .3) h) j)

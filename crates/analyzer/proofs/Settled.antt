@@ -15,7 +15,7 @@ use Rattle.analyzer.specs.Analyzing.{Leaves, Analyzes}
 left-settled : (o : Outcome) (work run : List ℕ) (a b : Analysis) (w w′ r r′ : List ℕ) → length (a .states) ≡ limit.listed → length (b .states) ≡ limit.listed
     → Leaves o work run a w r → Leaves o work run b w′ r′ → Same a w r b w′ r′
 left-settled (refused n l) work run a b w w′ r r′ p q g h = rw (g .0, h .0) ((refl, refl, g .2 ∙ sym (h .2)), refl, refl, g .1 ∙ sym (h .1))
-left-settled (accepted D P Q) work run a b w w′ r r′ p q g h = verdict.settled P Q work run a b w w′ r r′ p q (g .1) (h .1)
+left-settled (accepted D P Q) work run a b w w′ r r′ p q g h = verdict.settled P Q work run a b w w′ r r′ p q g h
 
 -- an array of the returned states has its length
 pub settled : (text work run : List ℕ) (a b : Analysis) (w w′ r r′ : List ℕ) → length (a .states) ≡ limit.listed → length (b .states) ≡ limit.listed

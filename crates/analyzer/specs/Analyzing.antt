@@ -6,8 +6,6 @@ use Prim.Native.Nat.{ℕ}
 use lib.ListN.{length, replicate}
 use Rattle.limits.specs.Limits as limit
 use Rattle.grammar.specs.Texts.{Outcome, accepted, refused}
-use Rattle.acceptance.specs.Sound.{carriedOf}
-use Rattle.spent.specs.Passes.{Spent}
 use Rattle.calls.specs.Calls.{short, called}
 use Rattle.analyzer_verdict.specs.declared.Answer.the-variants.{Refused}
 use Rattle.analyzer_verdict.specs.declared.Analysis.{Analysis}
@@ -17,10 +15,10 @@ use Rattle.analyzer_verdict.specs.Judging.{Judges}
 abbrev pub refusal : ℕ → ℕ → Analysis
 refusal n l = record { answer = Refused n l; states = replicate limit.listed 0; count = 0 }
 
--- WHAT THE CALL LEAVES, by the table's answer to it: after a refusal "both buffers are untouched"; no accepted text has 100,000 search passes the last of which still added something, so that row 13 is never given
+-- WHAT THE CALL LEAVES, by the table's answer to it: after a refusal "both buffers are untouched"; an accepted text has a verdict
 abbrev pub Leaves : Outcome → List ℕ → List ℕ → Analysis → List ℕ → List ℕ → Type 0
 Leaves (refused n l) work run a work′ run′ = (a ≡ refusal n l) × (work′ ≡ work) × (run′ ≡ run)
-Leaves (accepted D P Q) work run a work′ run′ = (Spent P Q (carriedOf Q) → ⊥) × Judges P Q work run a work′ run′
+Leaves (accepted D P Q) work run a work′ run′ = Judges P Q work run a work′ run′
 
 -- THE ANALYSIS a of a text, with the work area and the run table before and after it. "Order: 1, 12, .. then line by line"; row 14 speaks of replays only.
 abbrev pub Analyzes : List ℕ → List ℕ → List ℕ → Analysis → List ℕ → List ℕ → Type 0

@@ -131,12 +131,12 @@ answered text work run a work′ run′ h l w = rw (in-room text (short (length 
 module _ (text work run : List ℕ) (r : Reading) (a : Analysis) (work′ run′ : List ℕ) (whole : length (a .states) ≡ limit.listed) where
   pub text-ready : (o : Outcome) → outcome text ≡ o → Reads o text r → Leaves o work run a work′ run′ → limit.run ≤ length run′ → Ready text (r .model) (a .states) (a .count) run′ (a .answer)
   text-ready (refused n ℓ) ok reads leaves long = rw (leaves .0) tt
-  text-ready (accepted D P Q) ok reads leaves long = ready text D P Q (r .model) ok (reads .1) (reads .2) (a .states) (a .count) run run′ whole (leaves .1 .states) (a .answer) (leaves .1 .verdict) long
+  text-ready (accepted D P Q) ok reads leaves long = ready text D P Q (r .model) ok (reads .1) (reads .2) (a .states) (a .count) run run′ whole (leaves .states) (a .answer) (leaves .verdict) long
 
   module _ (d : List ℕ) (n : ℕ) (e : List ℕ) (w : Shows text (r .model) (a .states) (a .count) run′ (a .answer) d n e) where
     pub text-output : (o : Outcome) → outcome text ≡ o → Reads o text r → Leaves o work run a work′ run′ → Listing o text a run′ (take n e) × (n ≤ length d)
     text-output (refused k ℓ) ok reads leaves = let v = (rw (leaves .0) at w) in (v .front, v .room)
     text-output (accepted D P Q) ok reads leaves = (
-      lists text D P Q (r .model) ok (reads .1) (reads .2) (a .states) (a .count) run run′ whole (leaves .1 .states) d n e (a .answer) (leaves .1 .verdict) w,
-      room text D P Q (r .model) ok (reads .1) (reads .2) (a .states) (a .count) run run′ whole (leaves .1 .states) d n e (a .answer) (leaves .1 .verdict) w,
+      lists text D P Q (r .model) ok (reads .1) (reads .2) (a .states) (a .count) run run′ whole (leaves .states) d n e (a .answer) (leaves .verdict) w,
+      room text D P Q (r .model) ok (reads .1) (reads .2) (a .states) (a .count) run run′ whole (leaves .states) d n e (a .answer) (leaves .verdict) w,
     )

@@ -70,8 +70,8 @@ pub analysis-fits : (o : Outcome) (work run : List ℕ) (a : Analysis) (work′ 
     → ShortRun (a .answer) × Shown (length run′) (a .answer) × (a .count ≤ limit.listed)
 analysis-fits (refused n l) work run a work′ run′ h = rw (h .0) (tt, tt, omega arith)
 analysis-fits (accepted D P Q) work run a work′ run′ h =
-    let f = answer-fits P Q run run′ (a .answer) (h .1 .verdict) in
-    (f .0, f .1, h .1 .states .count)
+    let f = answer-fits P Q run run′ (a .answer) (h .verdict) in
+    (f .0, f .1, h .states .count)
 
 -- THE REPLAY
 module _ (P : Program) (Q : Question) where

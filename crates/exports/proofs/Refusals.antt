@@ -1,5 +1,5 @@
--- NUMBERS OF ANSWERS can be read: refusals have numbers to 14, and lines below 65,536.
-use mathlib.Core.Path.{_≡_}
+-- NUMBERS OF ANSWERS can be read: refusals have the numbers to 12, and 14, and lines below 65,536.
+use mathlib.Core.Path.{_≡_, refl}
 use mathlib.Core.Logic.{_⊎_, inl, inr, ⊎-elim}
 use mathlib.Core.Bool.{Bool, true, false, cond, not, _&&_, _||_}
 use mathlib.Core.List.{List, [], _∷_}
@@ -85,10 +85,14 @@ fault-most D k (nextForm x p m b) =
     (lower-bound _ _ 11 (list-most D p) (lower-bound _ _ 11 (list-most D m) (lower-bound _ _ 11 (body-most D b) (scope-most (x ∷ []) b))))
 fault-most D k (askForm qs) = lower-bound _ _ 11 (stages-most D qs) (row-most 11 (carriesMany qs) (omega arith))
 
--- A REFUSAL in range: its number is at most 14, its line at most m
+-- THE NUMBERS that a row has
+abbrev pub Numbered : ℕ → Type 0
+Numbered n = (n ≤ 12) ⊎ (n ≡ 14)
+
+-- A REFUSAL in range: a row has its number, and its line is at most m
 abbrev pub InRange : ℕ → Outcome → Type 0
 InRange m (accepted D P Q) = Unit {0}
-InRange m (refused n l) = (n ≤ 14) × (l ≤ m)
+InRange m (refused n l) = Numbered n × (l ≤ m)
 
 abbrev StepInRange : Step → Type 0
 StepInRange (wrong r) = r ≤ 11
@@ -130,16 +134,16 @@ wider m k h (refused n l) r = (r .0, omega (arith, r .1))
 finish-range : (n m : ℕ) (o : Outcome) (ls : List bytes.Line) → InRange 0 o → n + length ls ≤ m → InRange m (finish n o ls)
 unfolding finish
 finish-range n m o [] r h = wider 0 m (omega arith) o r
-finish-range n m o (l ∷ ls) r h = (omega arith, omega arith)
+finish-range n m o (l ∷ ls) r h = (inl (omega arith), omega arith)
 
 read-range : (m : ℕ) (ls : List bytes.Line) (n : ℕ) (D : Declared) (P : Program) → n + length ls ≤ m → InRange m (readLines n D P ls)
 unfolding readLines
-read-range m [] n D P h = (omega arith, omega arith)
+read-range m [] n D P h = (inl (omega arith), omega arith)
 read-range m (l ∷ ls) n D P h = go (step n D P (judge l)) (step-range n D P (judge l) (judge-range l)) (λ E R. read-range m ls (suc n) E R (omega arith))
   where
     go : (s : Step) → StepInRange s → ((E : Declared) (R : Program) → InRange m (readLines (suc n) E R ls))
         → InRange m (elim s [ wrong r ↦ refused r n | adds E R ↦ readLines (suc n) E R ls | asks o ↦ finish n o ls ])
-    go (wrong r) g rec = (omega arith, omega arith)
+    go (wrong r) g rec = (inl (omega arith), omega arith)
     go (adds E R) g rec = rec E R
     go (asks o) g rec = finish-range n m o ls g (omega arith)
 
@@ -151,15 +155,15 @@ outcome-range text = go (either wrong-size)
     wrong-size = eqb (length text) 0 || ltb limit.text (length text)
 
     go : (wrong-size ≡ true) ⊎ (wrong-size ≡ false) → InRange (limit.text + 1) (outcome text)
-    go (inl q) = rw q (omega arith, omega arith)
+    go (inl q) = rw q (inl (omega arith), omega arith)
     go (inr q) = rw q (read-range (limit.text + 1) (lines text) 1 [] [] (omega (arith, length-lines text, ltb-false limit.text (length text) (or-false (eqb (length text) 0) (ltb limit.text (length text)) q .1))))
 
 -- EVERY CALL
-rows-range : (b short long : Bool) → cond b 1 (cond short 12 (cond long 14 0)) ≤ 14
-rows-range true short long = omega arith
-rows-range false true long = omega arith
-rows-range false false true = omega arith
-rows-range false false false = omega arith
+rows-range : (b short long : Bool) → Numbered (cond b 1 (cond short 12 (cond long 14 0)))
+rows-range true short long = inl (omega arith)
+rows-range false true long = inl (omega arith)
+rows-range false false true = inr refl
+rows-range false false false = inl (omega arith)
 
 pub called-range : (text : List ℕ) (short long : Bool) → InRange (limit.text + 1) (called text short long)
 unfolding called early
@@ -172,5 +176,5 @@ called-range text short long = ⊎-elim (λ (q : eqb first 0 ≡ true). rw q (ou
 pub code-read : (kind value : ℕ) → value < 4294967296 → (code kind value / 4294967296 ≡ kind) × (code kind value % 4294967296 ≡ value)
 code-read kind value h = (omega arith, omega arith)
 
-pub refusal-read : (n l : ℕ) → n ≤ 14 → l ≤ (limit.text + 1) → (n * 65536 + l < 4294967296) × ((n * 65536 + l) / 65536 ≡ n) × ((n * 65536 + l) % 65536 ≡ l)
-refusal-read n l h k = (omega arith, omega arith, omega arith)
+pub refusal-read : (n l : ℕ) → Numbered n → l ≤ (limit.text + 1) → (n * 65536 + l < 4294967296) × ((n * 65536 + l) / 65536 ≡ n) × ((n * 65536 + l) % 65536 ≡ l)
+refusal-read n l h k = let few : n ≤ 14 = ⊎-elim (λ q. omega arith) (λ q. omega arith) h in (omega arith, omega arith, omega arith)

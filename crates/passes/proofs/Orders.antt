@@ -4,8 +4,8 @@ use mathlib.Core.Logic.{⊎-elim}
 use mathlib.Core.List.{List, [], _∷_, _++_, append-assoc, List·Memᴰ, List·Memᴰ·head, List·Memᴰ·tail, List·Memᴰ·not-nil, List·Memᴰ·cases-cons, Memᴰ·append-right}
 use Prim.Native.Nat.{ℕ}
 use Rattle.semantics.specs.Models.{Program, Question}
-use Rattle.spent.specs.Passes.{Item, Have, Has, Source, Gives, Given, Adds, Pass}
-use Rattle.spent.proofs.Quiet.{gives-more}
+use Rattle.passes.specs.Passes.{Item, Have, Has, Source, Gives, Given, Adds, Pass}
+use Rattle.passes.proofs.Quiet.{gives-more}
 
 module _ (P : Program) (Q : Question) (v : ℕ) where
   -- what is given over H may be added in any order

@@ -1,8 +1,8 @@
 -- THERE IS A SEARCH of any number of passes for every safe model: what is given over what there is can be listed.
-use mathlib.Core.Path.{_≡_, refl, sym, ap, _∙_, subst}
+use mathlib.Core.Path.{_≡_, refl, sym, ap, ap₂, _∙_, subst}
 use mathlib.Core.Logic.{_⊎_, inl, inr, ⊎-elim, _≢_}
 use mathlib.Core.Bool.{true, false, cond, Bool-discrete, false≢true}
-use mathlib.Core.List.{List, [], _∷_, _++_, map, List·Memᴰ, List·Memᴰ·head, List·Memᴰ·tail, List·Memᴰ·not-nil, List·Memᴰ·cases-cons, List·Memᴰ·append-cases, List·Memᴰ·eq-of-singleton, Memᴰ·append-left, Memᴰ·append-right}
+use mathlib.Core.List.{List, [], _∷_, _++_, map, List·Memᴰ, List·Memᴰ·head, List·Memᴰ·tail, List·Memᴰ·not-nil, List·Memᴰ·cases-cons, List·Memᴰ·append-cases, List·Memᴰ·eq-of-singleton, Memᴰ·cast, Memᴰ·append-left, Memᴰ·append-right}
 use mathlib.Core.Option.{Option, none, some}
 use mathlib.Core.Option as option
 use Prim.Native.Nat.{ℕ, zero, suc, _<_}
@@ -15,10 +15,68 @@ use Rattle.semantics.specs.Labels.{has, relabel}
 use Rattle.semantics.specs.Models.{elem, is, isnt, fact, Body, Line, rule, new, next, other, Program, line, Question, vars, SafeLine, Safe}
 use Rattle.semantics.proofs.Tools.{either, same?, or-right, or-true-cases, elem-here, elem-left, elem-right}
 use Rattle.semantics.proofs.Bodies.{Agree, map-agree, supported-vars}
-use Rattle.spent.specs.Passes.{Item, derived, found, carried, Have, Has, Carries, AllTrue, Shows, Hands, Changes, Source, clause, stage, ByLine, ByStage, Gives, Given, Pass, Passes}
-use Rattle.spent.proofs.Quiet.{has?}
-use Rattle.spent.proofs.Orders.{at-once}
-use Rattle.spent.proofs.Ended.{states, rows, state-in, in-states, carried-in, in-rows}
+use Rattle.passes.specs.Passes.{Item, derived, found, carried, Have, Has, Carries, AllTrue, Shows, Hands, Changes, Source, clause, stage, ByLine, ByStage, Gives, Given, Pass, Passes}
+use Rattle.passes.proofs.Quiet.{has?}
+use Rattle.passes.proofs.Orders.{at-once}
+
+-- what the items of a search tell, in a row
+abbrev gather : {B : Type 0} → (Item → List B) → Have → List B
+gather f [] = []
+gather f (x ∷ H) = f x ++ gather f H
+
+gathered : {B : Type 0} (f : Item → List B) (H : Have) (b : B) (x : Item) → Has H x → List·Memᴰ b (f x) → List·Memᴰ b (gather f H)
+gathered f [] b x m h = absurd (List·Memᴰ·not-nil m)
+gathered f (y ∷ H) b x m h = ⊎-elim (λ (e : x ≡ y). Memᴰ·append-left (gather f H) (subst (λ (z : Item). List·Memᴰ b (f z)) e h)) (λ k. Memᴰ·append-right (f y) (gathered f H b x k h)) (List·Memᴰ·cases-cons m)
+
+gathered-from : {B : Type 0} (f : Item → List B) (H : Have) (b : B) → List·Memᴰ b (gather f H) → (x : Item) × Has H x × List·Memᴰ b (f x)
+gathered-from f [] b m = absurd (List·Memᴰ·not-nil m)
+gathered-from f (y ∷ H) b m = ⊎-elim (λ h. (y, List·Memᴰ·head refl, h)) (λ k. let (x, h, t) = gathered-from f H b k in (x, List·Memᴰ·tail h, t)) (List·Memᴰ·append-cases (f y) m)
+
+-- THE STATES, and the states carried after i stages
+abbrev stateOf : Item → List ℕ
+stateOf (derived r ss) = []
+stateOf (found s) = s ∷ []
+stateOf (carried i c) = []
+
+abbrev carriedOf : ℕ → Item → List (Option ℕ)
+carriedOf i (derived r ss) = []
+carriedOf i (found s) = []
+carriedOf i (carried j c) = cond (eqb i j) (c ∷ []) []
+
+state-item : (s : ℕ) (x : Item) → List·Memᴰ s (stateOf x) → found s ≡ x
+state-item s (derived r ss) m = absurd (List·Memᴰ·not-nil m)
+state-item s (found t) m = ap found (List·Memᴰ·eq-of-singleton m)
+state-item s (carried i c) m = absurd (List·Memᴰ·not-nil m)
+
+carried-item : (i : ℕ) (c : Option ℕ) (x : Item) → List·Memᴰ c (carriedOf i x) → carried i c ≡ x
+carried-item i c (derived r ss) m = absurd (List·Memᴰ·not-nil m)
+carried-item i c (found s) m = absurd (List·Memᴰ·not-nil m)
+carried-item i c (carried j d) m = ⊎-elim
+    (λ (q : eqb i j ≡ true). ap₂ carried (eqb-true i j q) (List·Memᴰ·eq-of-singleton (rw q at m)))
+    (λ (q : eqb i j ≡ false). absurd (List·Memᴰ·not-nil (rw q at m))) (either (eqb i j))
+
+-- WHAT THERE IS in rows: the states, and what is carried after i stages
+module _ (H : Have) where
+  abbrev states : List ℕ
+  states = gather stateOf H
+
+  abbrev rows : ℕ → List (Option ℕ)
+  rows zero = none ∷ []
+  rows (suc i) = gather (carriedOf (suc i)) H
+
+  state-in : (s : ℕ) → Has H (found s) → List·Memᴰ s states
+  state-in s h = gathered stateOf H s (found s) h (List·Memᴰ·head refl)
+
+  in-states : (s : ℕ) → List·Memᴰ s states → Has H (found s)
+  in-states s m = let (x, h, k) = gathered-from stateOf H s m in Memᴰ·cast (state-item s x k) h
+
+  carried-in : (i : ℕ) (c : Option ℕ) → Carries H i c → List·Memᴰ c (rows i)
+  carried-in zero c e = List·Memᴰ·head e
+  carried-in (suc i) c h = gathered (carriedOf (suc i)) H c (carried (suc i) c) h (rw (eq-eqb (suc i) (suc i) refl) (List·Memᴰ·head refl))
+
+  in-rows : (i : ℕ) (c : Option ℕ) → List·Memᴰ c (rows i) → Carries H i c
+  in-rows zero c m = List·Memᴰ·eq-of-singleton m
+  in-rows (suc i) c m = let (x, h, k) = gathered-from (carriedOf (suc i)) H c m in Memᴰ·cast (carried-item (suc i) c x k) h
 
 -- the items with a property, in a list
 abbrev Listed : (Item → Type 0) → Type 0
@@ -64,10 +122,6 @@ dec-and : {A B : Type 0} → Dec A → Dec B → Dec (A × B)
 dec-and (yes a) (yes b) = yes (a, b)
 dec-and (yes a) (no n) = no (λ p. n (p .1))
 dec-and (no n) d = no (λ p. n (p .0))
-
-not? : {A : Type 0} → Dec A → Dec (A → ⊥)
-not? (yes a) = no (λ n. n a)
-not? (no n) = yes n
 
 imp? : {A B : Type 0} → Dec A → Dec B → Dec (A → B)
 imp? (yes a) (yes b) = yes (λ x. b)
@@ -140,8 +194,8 @@ module _ (H : Have) where
   module _ (P : Program) (Q : Question) (v : ℕ) where
     -- what a line gives
     listed-changes : (s t : ℕ) → Listed (Changes P Q v H s t)
-    listed-changes s t = listed-or (λ x. (t ≢ 0) × (x ≡ found t)) (λ x. (i : ℕ) × (i < length Q) × Carries H i (some s) × (x ≡ carried i (some t)))
-        (listed-and (t ≢ 0) (λ x. x ≡ found t) (not? (ℕ-discrete t 0)) (listed-one (found t)))
+    listed-changes s t = listed-or (λ x. x ≡ found t) (λ x. (i : ℕ) × (i < length Q) × Carries H i (some s) × (x ≡ carried i (some t)))
+        (listed-one (found t))
         (listed-as (λ x. (i : ℕ) × (i < length Q) × (Carries H i (some s) × (x ≡ carried i (some t)))) _ (λ x (i, l, (c, e)). (i, l, c, e)) (λ x (i, l, c, e). (i, l, (c, e)))
         (listed-below (λ i x. Carries H i (some s) × (x ≡ carried i (some t))) (λ i. listed-and (Carries H i (some s)) (λ x. x ≡ carried i (some t)) (carries? i (some s)) (listed-one (carried i (some t)))) (length Q)))
       where
@@ -152,8 +206,7 @@ module _ (H : Have) where
     listed-line : (L : Line) → SafeLine L → Listed (ByLine P Q v H L)
     listed-line (rule r xs b) s = listed-body b (λ σ x. x ≡ derived r (map σ xs)) (λ σ. listed-one (derived r (map σ xs)))
         (λ σ τ x h e. e ∙ ap (λ (ss : List ℕ). derived r ss) (map-agree σ τ xs (λ y k. h y (supported-vars y b (s .1 y k)))))
-    listed-line (new t b) s = listed-as (λ x. (σ : ℕ → ℕ) × Shows H σ b × ((t ≢ 0) × (x ≡ found t))) _ (λ x (σ, m, (n, e)). (σ, m, n, e)) (λ x (σ, m, n, e). (σ, m, (n, e)))
-        (listed-body b (λ σ x. (t ≢ 0) × (x ≡ found t)) (λ σ. listed-and (t ≢ 0) (λ x. x ≡ found t) (not? (ℕ-discrete t 0)) (listed-one (found t))) (λ σ τ x h r. r))
+    listed-line (new t b) s = listed-body b (λ σ x. x ≡ found t) (λ σ. listed-one (found t)) (λ σ τ x h r. r)
     listed-line (next y plus minus b) s = listed-body b (λ σ x. Changes P Q v H (σ y) (relabel (σ y) plus minus) x) (λ σ. listed-changes (σ y) (relabel (σ y) plus minus))
         (λ σ τ x h r. rw (← h y (supported-vars y b (s .0))) r)
     listed-line other s = listed-none _ (λ x g. g)

@@ -12,7 +12,7 @@ use native.Mathlib.Decide.{map-dec, ℕ-discrete}
 use lib.ListN.{getD}
 use Rattle.semantics.specs.Models.{is, isnt, fact, Body, Line, rule, new, next, other, Program, line, Question}
 use Rattle.semantics.proofs.Tools.{same?}
-use Rattle.spent.specs.Passes.{Item, derived, found, carried, Have, Has, Carries, AllTrue, Shows, ByLine, Source, clause, stage, Gives, Adds, Pass, Adding, Passes}
+use Rattle.passes.specs.Passes.{Item, derived, found, carried, Have, Has, Carries, AllTrue, Shows, ByLine, Source, clause, stage, Gives, Adds, Pass, Adding, Passes}
 
 -- all that G has, H has
 abbrev pub Under : Have → Have → Type 0
@@ -36,7 +36,7 @@ module _ (G H : Have) (more : Under G H) where
   module _ (P : Program) (Q : Question) (v : ℕ) where
     line-more : (L : Line) (x : Item) → ByLine P Q v G L x → ByLine P Q v H L x
     line-more (rule r xs b) x (σ, s, e) = (σ, shows-more σ b s, e)
-    line-more (new t b) x (σ, s, n, e) = (σ, shows-more σ b s, n, e)
+    line-more (new t b) x (σ, s, e) = (σ, shows-more σ b s, e)
     line-more (next y plus minus b) x (σ, s, inl c) = (σ, shows-more σ b s, inl c)
     line-more (next y plus minus b) x (σ, s, inr (i, l, c, e)) = (σ, shows-more σ b s, inr (i, l, carries-more i _ c, e))
     line-more other x g = g

@@ -1,6 +1,6 @@
--- SEARCH PASSES (row 13): what a search over atomic states adds, pass by pass. Nothing here says what a model means.
+-- SEARCH PASSES, as document 01 has them: what a search over atomic states adds, pass by pass. Nothing here says what a model means.
 use mathlib.Core.Path.{_≡_}
-use mathlib.Core.Logic.{_⊎_, _≢_}
+use mathlib.Core.Logic.{_⊎_}
 use mathlib.Core.Bool.{true, false}
 use mathlib.Core.List.{List, [], _∷_, _++_, map, List·Memᴰ}
 use mathlib.Core.Option.{Option, none, some}
@@ -64,12 +64,12 @@ module _ (P : Program) (Q : Question) (v : ℕ) where
   module _ (H : Have) where
     -- an object of state s gets the state t, which may be the carried object while stages are left to meet
     abbrev pub Changes : ℕ → ℕ → Item → Type 0
-    Changes s t x = ((t ≢ 0) × (x ≡ found t)) ⊎ ((i : ℕ) × (i < length Q) × Carries H i (some s) × (x ≡ carried i (some t)))
+    Changes s t x = (x ≡ found t) ⊎ ((i : ℕ) × (i < length Q) × Carries H i (some s) × (x ≡ carried i (some t)))
 
-    -- A CLAUSE GIVES an item over what is at hand: a rule the fact of its head, a `new` line its set, a `next` line the relabeled state. The empty state is no item.
+    -- A CLAUSE GIVES an item over what is at hand: a rule the fact of its head, a `new` line its set, a `next` line the relabeled state. The empty state is one of them.
     abbrev pub ByLine : Line → Item → Type 0
     ByLine (rule r xs b) x = (σ : ℕ → ℕ) × Shows H σ b × (x ≡ derived r (map σ xs))
-    ByLine (new s b) x = (σ : ℕ → ℕ) × Shows H σ b × (s ≢ 0) × (x ≡ found s)
+    ByLine (new s b) x = (σ : ℕ → ℕ) × Shows H σ b × (x ≡ found s)
     ByLine (next y plus minus b) x = (σ : ℕ → ℕ) × Shows H σ b × Changes (σ y) (relabel (σ y) plus minus) x
     ByLine other x = ⊥
 
@@ -106,7 +106,3 @@ module _ (P : Program) (Q : Question) (v : ℕ) where
     pub after : ℕ → Have
     pub nothing : after 0 ≡ []
     pub pass : (i : ℕ) → i < n → Pass (after i) (after (suc i))
-
-  -- ROW 13: "100,000 search passes done, the last of which still added"
-  abbrev pub Spent : Type 0
-  Spent = (p : Passes 100000) × Adding (p .after 99999) (p .after 100000)

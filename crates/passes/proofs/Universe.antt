@@ -1,7 +1,7 @@
 -- WHAT THERE IS TO ADD for a sound model.
 use mathlib.Core.Path.{_≡_, refl, sym, subst}
 use mathlib.Core.Logic.{inl, inr, ⊎-elim, _≢_}
-use mathlib.Core.Bool.{Bool, true, false, _||_, false≢true}
+use mathlib.Core.Bool.{true, false, false≢true}
 use mathlib.Core.List.{List, [], _∷_, _++_, map, List·Memᴰ·not-nil, List·Memᴰ·cases-cons}
 use mathlib.Core.Option.{Option, none, some}
 use Prim.Native.Nat.{ℕ, zero, suc, _^_, _≤_, _<_}
@@ -9,13 +9,15 @@ use native.Mathlib.Omega.{arith}
 use lib.Bits.{or-lt, and-lt, xor-lt}
 use lib.Dec.{eqb}
 use lib.ListN.{length, getD, length-map}
+use Rattle.limits.specs.Limits as limit
 use Rattle.semantics.specs.Labels.{union, difference, relabel}
 use Rattle.semantics.specs.Models.{elem, is, isnt, fact, Body, Line, rule, new, next, other, Program, line, Question, vars, supported, SafeLine}
 use Rattle.semantics.proofs.Tools.{either, clash, no-none, or-right, has-empty, elem-cases, each-head, each-tail, each-cons}
 use Rattle.semantics.proofs.Bodies.{supported-vars}
 use Rattle.grammar.specs.Declarations.{Declared, count}
 use Rattle.acceptance.specs.Sound.{Each, DeclaredRelation, GoodHead, GoodClause, Sound}
-use Rattle.spent.specs.Passes.{Item, derived, found, carried, Have, Has, Carries, AllTrue, Shows, Hands, Changes, ByLine, ByStage, clause, stage, Given, Adds, Pass, Passes}
+use Rattle.passes.specs.Counting.{chosen, Atomic, Labeled}
+use Rattle.passes.specs.Passes.{Item, derived, found, carried, Have, Has, Carries, AllTrue, Shows, Hands, Changes, ByLine, ByStage, clause, stage, Given, Adds, Pass, Passes}
 
 -- relabeling stays within the relations of both lists
 relabel-below : (k s plus minus : ℕ) → s < 2 ^ k → plus < 2 ^ k → minus < 2 ^ k → relabel s plus minus < 2 ^ k
@@ -32,23 +34,14 @@ each-unmap : (R : ℕ → Type 0) (σ : ℕ → ℕ) (xs : List ℕ) → Each R 
 each-unmap R σ [] h x e = absurd (false≢true e)
 each-unmap R σ (y ∷ xs) h x e = each-cons (λ (z : ℕ). R (σ z)) y xs (h .0) (each-unmap R σ xs (h .1)) x e
 
--- whether the variable stands in one of the first i stages
-abbrev pub chosen : Question → ℕ → ℕ → Bool
-chosen Q v zero = false
-chosen Q v (suc i) = elem v (vars (getD Q i [])) || chosen Q v i
-
 -- THE ITEMS of a sound model. A fact is of a declared relation and of states that are not empty; after i stages an object is carried exactly if the variable stands in one of them.
 module _ (D : Declared) (Q : Question) (v : ℕ) where
-  -- a set of declared state relations that is not empty
-  abbrev Proper : ℕ → Type 0
-  Proper s = (s ≢ 0) × (s < 2 ^ count 0 D)
-
   abbrev pub Within : Item → Type 0
-  Within (derived r ss) = DeclaredRelation D r (length ss) × Each Proper ss
-  Within (found s) = s < 2 ^ count 0 D
+  Within (derived r ss) = DeclaredRelation D r (length ss) × Each (Labeled D) ss
+  Within (found s) = Atomic D s
   Within (carried zero c) = ⊥
-  Within (carried (suc i) none) = (i < 4) × (chosen Q v (suc i) ≡ false)
-  Within (carried (suc i) (some c)) = (i < 4) × (chosen Q v (suc i) ≡ true) × (c < 2 ^ count 0 D)
+  Within (carried (suc i) none) = (i < limit.stages) × (chosen Q v (suc i) ≡ false)
+  Within (carried (suc i) (some c)) = (i < limit.stages) × (chosen Q v (suc i) ≡ true) × Atomic D c
 
   -- with such items at hand only such items are given
   module _ (P : Program) (H : Have) (all : (x : Item) → Has H x → Within x) where
@@ -57,14 +50,14 @@ module _ (D : Declared) (Q : Question) (v : ℕ) where
     not-empty σ [] t x e = absurd (false≢true e)
     not-empty σ (is a y ∷ b) t x e = each-cons (λ (z : ℕ). σ z ≢ 0) y (supported b) (λ q. clash (t .0) (rw q (has-empty a))) (not-empty σ b (t .1)) x e
     not-empty σ (isnt a y ∷ b) t x e = not-empty σ b (t .1) x e
-    not-empty σ (fact r xs ∷ b) t x e = ⊎-elim (λ q. each-unmap Proper σ xs (all _ (t .0) .1) x q .0) (λ q. not-empty σ b (t .1) x q) (elem-cases x xs (supported b) e)
+    not-empty σ (fact r xs ∷ b) t x e = ⊎-elim (λ q. each-unmap (Labeled D) σ xs (all _ (t .0) .1) x q .0) (λ q. not-empty σ b (t .1) x q) (elem-cases x xs (supported b) e)
 
-    proper : (σ : ℕ → ℕ) (b : Body) → Shows H σ b → (x : ℕ) → elem x (supported b) ≡ true → Proper (σ x)
+    proper : (σ : ℕ → ℕ) (b : Body) → Shows H σ b → (x : ℕ) → elem x (supported b) ≡ true → Labeled D (σ x)
     proper σ b m x e = (not-empty σ b (m .1) x e, all _ (m .0 x (supported-vars x b e)))
 
     line-within : (L : Line) → GoodHead D L → SafeLine L → (x : Item) → ByLine P Q v H L x → Within x
-    line-within (rule r xs b) g s x (σ, m, e) = subst Within (sym e) (subst (DeclaredRelation D r) (sym (length-map xs σ)) (g .0), each-map Proper σ xs (λ y h. proper σ b m y (s .1 y h)))
-    line-within (new t b) g s x (σ, m, n, e) = subst Within (sym e) g
+    line-within (rule r xs b) g s x (σ, m, e) = subst Within (sym e) (subst (DeclaredRelation D r) (sym (length-map xs σ)) (g .0), each-map (Labeled D) σ xs (λ y h. proper σ b m y (s .1 y h)))
+    line-within (new t b) g s x (σ, m, e) = subst Within (sym e) g
     line-within (next y plus minus b) g s x (σ, m, c) = go c
       where
         small : relabel (σ y) plus minus < 2 ^ count 0 D
@@ -75,7 +68,7 @@ module _ (D : Declared) (Q : Question) (v : ℕ) where
         moved (suc i) h = (all _ h .0, all _ h .1, small)
 
         go : Changes P Q v H (σ y) (relabel (σ y) plus minus) x → Within x
-        go (inl (n, e)) = subst Within (sym e) small
+        go (inl e) = subst Within (sym e) small
         go (inr (i, l, h, e)) = subst Within (sym e) (moved i h)
     line-within other g s x h = absurd h
 
@@ -84,7 +77,7 @@ module _ (D : Declared) (Q : Question) (v : ℕ) where
     program-within n (c ∷ cs) h ℓ x = ⊎-elim (λ (q : eqb ℓ (c .0) ≡ true). rw q (line-within (c .1) (h .0 .head) (h .0 .safe) x))
         (λ (q : eqb ℓ (c .0) ≡ false). rw q (program-within n cs (h .1) ℓ x)) (either (eqb ℓ (c .0)))
 
-    stage-within : length Q ≤ 4 → (i : ℕ) (x : Item) → ByStage P Q v H i x → Within x
+    stage-within : length Q ≤ limit.stages → (i : ℕ) (x : Item) → ByStage P Q v H i x → Within x
     stage-within few i x (l, (σ, m, (c, d, h, k, e))) = subst Within (sym e) (go c d h k)
       where
         uncarried : (j : ℕ) → Carries H j none → chosen Q v j ≡ false
