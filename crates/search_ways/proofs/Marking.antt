@@ -1,0 +1,82 @@
+-- Marking pairs in a table of rows.
+use mathlib.Core.Path.{_≡_, refl, sym, ap, _∙_, subst}
+use mathlib.Core.Logic.{_⊎_, inl, inr, ⊎-elim, _≢_, _↔_}
+use mathlib.Core.Bool.{Bool, true, false, _||_, false≢true}
+use mathlib.Core.List.{List}
+use Prim.Native.Nat.{ℕ, _+_, _*_, _/_, _%_, _≤_, _<_}
+use native.Mathlib.Omega.{arith}
+use borrow.Author.Tests.{eq-eqb, ne-eqb, eqb-true, ltb-true, ltb-false}
+use lib.Dec.{eqb, ltb}
+use lib.ListN.{length, getD, replicate, getD-replicate, length-replicate, List·getD-eq-default}
+use Rattle.semantics.specs.Labels.{has}
+use Rattle.semantics.proofs.Tools.{either, same?, has-empty, or-true-cases, or-right}
+use Rattle.facts_bits.specs.Bits.{bitAt, withBit, inRow}
+use Rattle.facts_bits.proofs.Laws.{with-bit}
+use Rattle.search_ways.specs.Moves.{Marks, None, With, InRow}
+
+-- bytes that are 0 have no bit
+pub marks-none : (n : ℕ) → Marks (replicate {A = ℕ} n 0) None
+unfolding bitAt
+marks-none n = record { bits = λ i e l. ((λ q. false≢true (sym (rw (zero i e) (has-empty ((i * 128 + e) % 8))) ∙ q)), λ q. absurd q) }
+  where
+    zero : (i e : ℕ) → getD (replicate {A = ℕ} n 0) ((i * 128 + e) / 8) 0 ≡ 0
+    zero i e = ⊎-elim
+        (λ q. getD-replicate n ((i * 128 + e) / 8) 0 0 (ltb-true ((i * 128 + e) / 8) n q))
+        (λ q. List·getD-eq-default (replicate n 0) 0 (rw length-replicate (ltb-false ((i * 128 + e) / 8) n q)))
+        (either (ltb ((i * 128 + e) / 8) n))
+
+-- the same pairs, said in another way
+pub marks-so : (w : List ℕ) (R R′ : ℕ → ℕ → Type 0) → ((i e : ℕ) → e < 128 → R i e ↔ R′ i e) → Marks w R → Marks w R′
+marks-so w R R′ f m = record { bits = λ i e l. let g = f i e l in let h = m .bits i e l in ((λ q. g .0 (h .0 q)), (λ q. h .1 (g .1 q))) }
+
+-- nothing is added
+pub marks-same : (w : List ℕ) (D : ℕ → ℕ → Type 0) → ((i e : ℕ) → D i e → ⊥) → Marks w (With w D)
+marks-same w D f = record { bits = λ i e l. ((λ q. inl q), λ q. ⊎-elim (λ r. r) (λ r. absurd (f i e r)) q) }
+
+-- one pair is added
+pub marks-bit : (w : List ℕ) (i e : ℕ) → e < 128 → (i * 128 + e) / 8 < length w → Marks (withBit w (i * 128 + e)) (With w (λ k t. (k ≡ i) × (t ≡ e)))
+marks-bit w i e h room = record {
+  bits = λ k t l. (
+    λ q. ⊎-elim
+        (λ r. let z = eqb-true (k * 128 + t) (i * 128 + e) r in inr (omega arith, omega arith))
+        (λ r. inl r)
+        (or-true-cases (eqb (k * 128 + t) (i * 128 + e)) (inRow w k t) (sym (law k t) ∙ q)),
+    λ q. law k t ∙ ⊎-elim (λ r. or-right (eqb (k * 128 + t) (i * 128 + e)) (inRow w k t) r) (λ r. rw (eq-eqb (k * 128 + t) (i * 128 + e) (rw (r .0, r .1)))) q,
+  );
+}
+  where
+    law : (k t : ℕ) → inRow (withBit w (i * 128 + e)) k t ≡ (eqb (k * 128 + t) (i * 128 + e) || inRow w k t)
+    law k t = with-bit w (i * 128 + e) (k * 128 + t) room
+
+-- one after the other
+pub marks-then : (w w₁ w₂ : List ℕ) (D E : ℕ → ℕ → Type 0) → Marks w₁ (With w D) → Marks w₂ (With w₁ E) → Marks w₂ (With w (λ i e. D i e ⊎ E i e))
+marks-then w w₁ w₂ D E a b = record {
+  bits = λ i e l. let p = a .bits i e l in let q = b .bits i e l in (
+    λ h. ⊎-elim (λ x. ⊎-elim (λ y. inl y) (λ y. inr (inl y)) (p .0 x)) (λ x. inr (inr x)) (q .0 h),
+    λ h. q .1 (⊎-elim (λ x. inl (p .1 (inl x))) (λ x. ⊎-elim (λ y. inl (p .1 (inr y))) (λ y. inr y) x) h),
+  );
+}
+
+-- A ROW SLOT BY SLOT
+module _ (w₀ w : List ℕ) (i e : ℕ) (D : ℕ → Type 0) (m : Marks w (With w₀ (InRow i e D))) where
+  -- slot e is such a one
+  pub row-more : e < 128 → (i * 128 + e) / 8 < length w → D e → Marks (withBit w (i * 128 + e)) (With w₀ (InRow i (e + 1) D))
+  row-more l room d = marks-so (withBit w (i * 128 + e)) (With w₀ (λ k t. InRow i e D k t ⊎ ((k ≡ i) × (t ≡ e)))) (With w₀ (InRow i (e + 1) D))
+      (λ k t h. (
+        λ q. ⊎-elim (λ x. inl x) (λ x. inr (⊎-elim (λ y. (y .0, omega (arith, y .1), y .2)) (λ y. (y .0, omega (arith, y .1), subst D (sym (y .1)) d)) x)) q,
+        λ q. ⊎-elim (λ x. inl x) (λ x. inr (⊎-elim (λ (z : t ≡ e). inr (x .0, z)) (λ (z : t ≢ e). inl (x .0, omega (arith, x .1), x .2)) (same? t e))) q,
+      ))
+      (marks-then w₀ w (withBit w (i * 128 + e)) (InRow i e D) (λ k t. (k ≡ i) × (t ≡ e)) m (marks-bit w i e l room))
+
+  -- slot e is no such one
+  pub row-skip : (D e → ⊥) → Marks w (With w₀ (InRow i (e + 1) D))
+  row-skip n = marks-so w (With w₀ (InRow i e D)) (With w₀ (InRow i (e + 1) D))
+      (λ k t h. (
+        λ q. ⊎-elim (λ x. inl x) (λ x. inr (x .0, omega (arith, x .1), x .2)) q,
+        λ q. ⊎-elim (λ x. inl x) (λ x. inr (⊎-elim (λ (z : t ≡ e). absurd (n (subst D z (x .2)))) (λ (z : t ≢ e). (x .0, omega (arith, x .1), x .2)) (same? t e))) q,
+      ))
+      m
+
+-- nothing is in the row yet
+pub row-none : (w : List ℕ) (i : ℕ) (D : ℕ → Type 0) → Marks w (With w (InRow i 0 D))
+row-none w i D = marks-same w (InRow i 0 D) (λ k t q. omega (arith, q .1))
