@@ -1,2 +1,5 @@
 pub mod Marking
 pub mod Table
+pub mod Stepping
+pub mod Closing
+pub mod Laws

@@ -1,16 +1,15 @@
 -- Marking pairs in a table of rows.
-use mathlib.Core.Path.{_≡_, refl, sym, ap, _∙_, subst}
+use mathlib.Core.Path.{_≡_, sym, _∙_, subst}
 use mathlib.Core.Logic.{_⊎_, inl, inr, ⊎-elim, _≢_, _↔_}
-use mathlib.Core.Bool.{Bool, true, false, _||_, false≢true}
+use mathlib.Core.Bool.{true, false, _||_, _&&_, false≢true, and-eq-true-iff}
 use mathlib.Core.List.{List}
-use Prim.Native.Nat.{ℕ, _+_, _*_, _/_, _%_, _≤_, _<_}
+use Prim.Native.Nat.{ℕ, _+_, _*_, _/_, _%_, _<_}
 use native.Mathlib.Omega.{arith}
-use borrow.Author.Tests.{eq-eqb, ne-eqb, eqb-true, ltb-true, ltb-false}
+use borrow.Author.Tests.{eq-eqb, eqb-true, ltb-true, ltb-false}
 use lib.Dec.{eqb, ltb}
 use lib.ListN.{length, getD, replicate, getD-replicate, length-replicate, List·getD-eq-default}
-use Rattle.semantics.specs.Labels.{has}
 use Rattle.semantics.proofs.Tools.{either, same?, has-empty, or-true-cases, or-right}
-use Rattle.facts_bits.specs.Bits.{bitAt, withBit, inRow}
+use Rattle.facts_bits.specs.Bits.{bitAt, withBit, inRow, Joined}
 use Rattle.facts_bits.proofs.Laws.{with-bit}
 use Rattle.search_ways.specs.Moves.{Marks, None, With, InRow}
 
@@ -80,3 +79,46 @@ module _ (w₀ w : List ℕ) (i e : ℕ) (D : ℕ → Type 0) (m : Marks w (With
 -- nothing is in the row yet
 pub row-none : (w : List ℕ) (i : ℕ) (D : ℕ → Type 0) → Marks w (With w (InRow i 0 D))
 row-none w i D = marks-same w (InRow i 0 D) (λ k t q. omega (arith, q .1))
+
+-- a row joined to another
+pub marks-join : (w : List ℕ) (k : ℕ) (r w′ : List ℕ) → Joined w k r w′ → Marks w′ (With w (InRow k 128 (λ t. bitAt r t ≡ true)))
+marks-join w k r w′ h = record {
+  bits = λ i e l. (
+    λ q. ⊎-elim
+        (λ x. inl x)
+        (λ x. let y = and-eq-true-iff (eqb i k) (bitAt r e) .0 x in inr (eqb-true i k (y .0), l, y .1))
+        (or-true-cases (inRow w i e) (eqb i k && bitAt r e) (sym (h i e l) ∙ q)),
+    λ q. h i e l ∙ ⊎-elim
+        (λ x. rw x)
+        (λ x. or-right (inRow w i e) (eqb i k && bitAt r e) (and-eq-true-iff (eqb i k) (bitAt r e) .1 (eq-eqb i k (x .0), x .2)))
+        q,
+  );
+}
+
+-- the one such slot of a row
+pub row-put : (w : List ℕ) (i n t : ℕ) (D : ℕ → Type 0) → t < n → t < 128 → (i * 128 + t) / 8 < length w → D t → ((u : ℕ) → u < n → D u → u ≡ t) → Marks (withBit w (i * 128 + t)) (With w (InRow i n D))
+row-put w i n t D h l room d one = marks-so (withBit w (i * 128 + t)) (With w (λ k u. (k ≡ i) × (u ≡ t))) (With w (InRow i n D))
+    (λ k u g. (
+      λ q. ⊎-elim (λ x. inl x) (λ x. inr (x .0, subst (λ (v : ℕ). v < n) (sym (x .1)) h, subst D (sym (x .1)) d)) q,
+      λ q. ⊎-elim (λ x. inl x) (λ x. inr (x .0, one u (x .1) (x .2))) q,
+    ))
+    (marks-bit w i t l room)
+
+-- A TABLE ROW BY ROW: the rows below k have the slots below n that D names
+abbrev pub Upto : ℕ → ℕ → (ℕ → ℕ → Type 0) → ℕ → ℕ → Type 0
+Upto k n D e t = (e < k) × (t < n) × D e t
+
+module _ (n : ℕ) (D : ℕ → ℕ → Type 0) where
+  pub upto-none : (w : List ℕ) → Marks w (With w (Upto 0 n D))
+  upto-none w = marks-same w (Upto 0 n D) (λ e t q. omega (arith, q .0))
+
+  pub upto-more : (k : ℕ) (E : ℕ → Type 0) → ((t : ℕ) → t < n → E t ↔ D k t) → (w₀ w w′ : List ℕ) → Marks w (With w₀ (Upto k n D)) → Marks w′ (With w (InRow k n E)) → Marks w′ (With w₀ (Upto (k + 1) n D))
+  upto-more k E f w₀ w w′ a b = marks-so w′ (With w₀ (λ e t. Upto k n D e t ⊎ InRow k n E e t)) (With w₀ (Upto (k + 1) n D))
+      (λ e t l. (
+        λ q. ⊎-elim (λ x. inl x) (λ x. inr (⊎-elim (λ y. (omega (arith, y .0), y .1, y .2)) (λ y. (omega (arith, y .0), y .1, subst (λ (v : ℕ). D v t) (sym (y .0)) (f t (y .1) .0 (y .2)))) x)) q,
+        λ q. ⊎-elim (λ x. inl x) (λ x. inr (⊎-elim (λ (z : e ≡ k). inr (z, x .1, f t (x .1) .1 (subst (λ (v : ℕ). D v t) z (x .2)))) (λ (z : e ≢ k). inl (omega (arith, x .0), x .1, x .2)) (same? e k))) q,
+      ))
+      (marks-then w₀ w w′ (Upto k n D) (InRow k n E) a b)
+
+  pub upto-skip : (k : ℕ) → ((t : ℕ) → D k t → ⊥) → (w₀ w : List ℕ) → Marks w (With w₀ (Upto k n D)) → Marks w (With w₀ (Upto (k + 1) n D))
+  upto-skip k f w₀ w a = upto-more k (D k) (λ t l. ((λ x. x), λ x. x)) w₀ w w a (marks-same w (InRow k n (D k)) (λ e t q. f t (q .2)))

@@ -1,18 +1,16 @@
 -- The table of moves, clause by clause.
-use mathlib.Core.Path.{_≡_, refl, sym, ap, _∙_, subst}
-use mathlib.Core.Logic.{_⊎_, inl, inr, ⊎-elim, _≢_, _↔_}
+use mathlib.Core.Path.{_≡_, sym, subst}
+use mathlib.Core.Logic.{_⊎_, inl, inr, ⊎-elim, _≢_}
 use mathlib.Core.Bool.{true, false}
 use mathlib.Core.List.{List}
-use Prim.Native.Nat.{ℕ, _+_, _*_, _/_, _≤_, _<_}
+use Prim.Native.Nat.{ℕ, _+_, _<_}
 use native.Mathlib.Omega.{arith}
-use lib.ListN.{length}
 use Rattle.semantics.specs.Models.{Body, Line, rule, new, next, other}
 use Rattle.semantics.specs.Facts.{Database, In, Derived}
 use Rattle.semantics.proofs.Tools.{same?}
 use Rattle.semantics.proofs.Bodies.{more-facts}
 use Rattle.model.specs.declared.Model.{Model}
 use Rattle.model.specs.Records.{clauseLine, programOf, clauseAt}
-use Rattle.facts_bits.specs.Bits.{inRow}
 use Rattle.facts_table.specs.Table.{tableOf}
 use Rattle.facts_holds.specs.Shows.{At, Tells}
 use Rattle.search_states.specs.declared.States.{States}

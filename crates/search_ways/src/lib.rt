@@ -7,15 +7,21 @@ use search_states::States;
 ghost use mathlib.Core.Path.{_≡_};
 ghost use mathlib.Core.List.{List};
 ghost use Prim.Native.Nat.{ℕ, _+_, _*_, _≤_, _<_};
-ghost use lib.ListN.{length};
-ghost use Rattle.semantics.specs.Facts.{In};
-ghost use Rattle.model.specs.Records.{bodyAt, clauseLine};
+ghost use lib.ListN.{length, take};
+ghost use Rattle.semantics.specs.Labels.{relabel};
+ghost use Rattle.semantics.specs.Models.{Distinct};
+ghost use Rattle.semantics.specs.Facts.{In, state};
+ghost use Rattle.model.specs.declared.Action.the-variants as action;
+ghost use Rattle.model.specs.Records.{bodyAt, clauseLine, programOf};
 ghost use Rattle.model.specs.WellFormed.{WellFormed};
 ghost use Rattle.facts_table.specs.Table.{tableOf, Consistent, Rows};
 ghost use Rattle.facts_candidates.specs.Choices.{Own};
 ghost use Rattle.facts_holds.specs.Shows.{Evaluable};
+ghost use Rattle.search_states.specs.States.{row, Proper};
 ghost use Rattle.search_clauses.specs.Reach.{Takable};
 ghost use Rattle.search_ways.specs.Moves.{Marks, None, With, HoldsAt, Starts, InRow, Exactly, CanTake};
+ghost use Rattle.search_ways.specs.Steps.{Between, Led, OneStep};
+ghost use Rattle.search_ways.specs.Chains.{Inside, Linked, Through};
 
 // The slots that a row has.
 const SLOTS: usize = 128;
@@ -97,5 +103,111 @@ pub fn takes(work: &[u8], slots: &[u8], m: Model, s: States, table: &mut [u8])
         let c = m.clauses[i];
         mark_clause(work, slots, n, &m.literals, c, i, table);
         i += 1;
+    }
+}
+
+// Marks each of the first n slots with itself.
+fn stay(n: usize, ways: &mut [u8])
+    requires { ⌜ (n ≤ 128) × (length (now ways) ≡ 2048) ⌝ }
+    ensures { λ _. ⌜ Marks (now (ways .exit)) (With (now (ways .entry)) (Between n (λ e t. e ≡ t))) ⌝ }
+{
+    let mut e: usize = 0;
+    while e < n {
+        facts_bits::put(ways, e * SLOTS + e);
+        e += 1;
+    }
+}
+
+// Marks the slot that the relabeled state of slot e has, if it has one.
+fn lead_at(states: &[u32], n: usize, plus: u32, minus: u32, e: usize, ways: &mut [u8])
+    requires { ⌜ (n ≤ length (now states)) × Distinct (take n (now states)) × (n ≤ 128) × (e < n) × (length (now ways) ≡ 2048) ⌝ }
+    ensures { λ _. ⌜ Marks (now (ways .exit)) (With (now (ways .entry)) (InRow e n (λ t. state (take n (now (states .entry))) t ≡ relabel (state (take n (now (states .entry))) e) plus minus))) ⌝ }
+{
+    let t = search_states::seek(states, n, labels::relabel(states[e], plus, minus));
+    if t < n {
+        facts_bits::put(ways, e * SLOTS + t);
+    }
+}
+
+// Marks where a `next` clause leads from each slot of its row of the table.
+fn lead_next(
+    states: &[u32],
+    n: usize,
+    plus: u32,
+    minus: u32,
+    table: &[u8],
+    i: usize,
+    ways: &mut [u8],
+)
+    requires { ⌜ (n ≤ length (now states)) × Distinct (take n (now states)) × (n ≤ 128) × (i < 64) × (length (now table) ≡ 1024) × (length (now ways) ≡ 2048) ⌝ }
+    ensures { λ _. ⌜ Marks (now (ways .exit)) (With (now (ways .entry)) (Between n (Led (now (table .entry)) i (take n (now (states .entry))) (action.Next plus minus)))) ⌝ }
+{
+    let mut e: usize = 0;
+    while e < n {
+        if facts_bits::get(table, i * SLOTS + e) {
+            lead_at(states, n, plus, minus, e, ways);
+        }
+        e += 1;
+    }
+}
+
+// Marks where a clause leads from each slot of its row of the table.
+fn lead_clause(states: &[u32], n: usize, c: Clause, table: &[u8], i: usize, ways: &mut [u8])
+    requires { ⌜ (n ≤ length (now states)) × Distinct (take n (now states)) × (n ≤ 128) × (i < 64) × (length (now table) ≡ 1024) × (length (now ways) ≡ 2048) ⌝ }
+    ensures { λ _. ⌜ Marks (now (ways .exit)) (With (now (ways .entry)) (Between n (Led (now (table .entry)) i (take n (now (states .entry))) (c .action)))) ⌝ }
+{
+    let action = c.action;
+    match action {
+        Action::Rule {
+            relation: _,
+            arity: _,
+        } => {}
+        Action::New { set: _ } => {}
+        Action::Next { plus, minus } => {
+            lead_next(states, n, plus, minus, table, i, ways);
+        }
+    }
+}
+
+// The matrix of single steps: row e has slot e and the slots to which some line takes an object of its state.
+pub fn steps(m: Model, s: States, table: &[u8], ways: &mut [u8])
+    requires { ⌜ WellFormed m × Proper s × (length (now table) ≡ 1024) × Marks (now table) (CanTake m s) × (length (now ways) ≡ 2048) ⌝ }
+    ensures { λ _. ⌜ Marks (now (ways .exit)) (Between (s .count) (OneStep (programOf m) (row s))) ⌝ }
+{
+    let n = s.count;
+    clear(ways);
+    stay(n, ways);
+    let mut i: usize = 0;
+    while i < m.clausecount {
+        let c = m.clauses[i];
+        lead_clause(&s.states, n, c, table, i, ways);
+        i += 1;
+    }
+}
+
+// Adds what row k has to each of the first n rows that has slot k.
+fn pass(ways: &mut [u8], n: usize, k: usize)
+    requires { ⌜ (n ≤ 128) × (k < n) × (length (now ways) ≡ 2048) ⌝ }
+    ensures { λ _. ⌜ Marks (now (ways .exit)) (With (now (ways .entry)) (λ e t. (e < n) × Through (now (ways .entry)) k e t)) ⌝ }
+{
+    let row = facts_bits::keep(facts_bits::full(), ways, k);
+    let mut e: usize = 0;
+    while e < n {
+        if facts_bits::get(ways, e * SLOTS + k) {
+            facts_bits::join(ways, e, row);
+        }
+        e += 1;
+    }
+}
+
+// The transitive closure of a matrix of n slots.
+pub fn close(ways: &mut [u8], n: usize)
+    requires { ⌜ (n ≤ 128) × (length (now ways) ≡ 2048) × Inside n (now ways) ⌝ }
+    ensures { λ _. ⌜ Marks (now (ways .exit)) (Between n (Linked (now (ways .entry)) n)) ⌝ }
+{
+    let mut k: usize = 0;
+    while k < n {
+        pass(ways, n, k);
+        k += 1;
     }
 }

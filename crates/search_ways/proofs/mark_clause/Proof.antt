@@ -1,5 +1,4 @@
-use mathlib.Core.Path.{_≡_, subst}
-use Prim.Native.Nat.{ℕ}
+use mathlib.Core.Path.{subst}
 use Rattle.semantics.specs.Facts.{In}
 use Rattle.model.specs.declared.Action.{Action}
 use Rattle.model.specs.Records.{clauseLine}
