@@ -3,3 +3,4 @@ pub mod Table
 pub mod Stepping
 pub mod Closing
 pub mod Laws
+pub mod Nearest

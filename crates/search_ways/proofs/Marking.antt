@@ -76,6 +76,10 @@ module _ (w₀ w : List ℕ) (i e : ℕ) (D : ℕ → Type 0) (m : Marks w (With
       ))
       m
 
+-- another row is as it was
+pub row-other : (w₀ w : List ℕ) (i n : ℕ) (D : ℕ → Type 0) → Marks w (With w₀ (InRow i n D)) → (k : ℕ) → k ≢ i → (t : ℕ) → t < 128 → (inRow w k t ≡ true) ↔ (inRow w₀ k t ≡ true)
+row-other w₀ w i n D m k f t l = let p = m .bits k t l in ((λ q. ⊎-elim (λ x. x) (λ x. absurd (f (x .0))) (p .0 q)), λ q. p .1 (inl q))
+
 -- nothing is in the row yet
 pub row-none : (w : List ℕ) (i : ℕ) (D : ℕ → Type 0) → Marks w (With w (InRow i 0 D))
 row-none w i D = marks-same w (InRow i 0 D) (λ k t q. omega (arith, q .1))

@@ -23,7 +23,7 @@ use Rattle.model.specs.Records.{lineOf, clauseBody, programOf, clauseAt}
 use Rattle.model.specs.WellFormed.{WellFormed}
 use Rattle.model.proofs.Accepted.{on-line, clause-safe}
 use Rattle.model.proofs.Lines.{clause-or-other}
-use Rattle.facts_bits.specs.Bits.{withBit}
+use Rattle.facts_bits.specs.Bits.{withBit, inRow}
 use Rattle.search_states.specs.declared.States.{States}
 use Rattle.search_states.specs.States.{row, Proper}
 use Rattle.search_states.proofs.Laws.{length-row}
@@ -86,6 +86,10 @@ module _ (m : Model) (S : Database) (n : ℕ) (table : List ℕ) where
       ))
       b
 
+-- the states by their slots
+pub turns-at : (s : States) (u t : ℕ) → u < s .count → t < s .count → (a : Action) → Turns a (state (row s) u) (state (row s) t) ≡ Turns a (getD (s .states) u 0) (getD (s .states) t 0)
+turns-at s u t l h a = rw (getD-take (s .count) (s .states) u 0 l, getD-take (s .count) (s .states) t 0 h)
+
 -- WHAT THE TABLE OF MOVES SAYS, in the words of the semantics
 module _ (P : Program) (S : Database) (e : ℕ) (b : Body) where
   starts-takes : (t : ℕ) (a : Action) → Starts S (Derived P S) e (lineOf a b) → Turns a (state S e) t → Takes P S (state S e) t (lineOf a b)
@@ -121,23 +125,31 @@ module _ (m : Model) (wf : WellFormed m) (s : States) (proper : Proper s) where
     λ q. takes-can i e (q .0) h l (q .1) .0,
   )
 
-  -- all clauses: one step at most
   module _ (table : List ℕ) (marked : Marks table (CanTake m s)) where
+    small : (e : ℕ) → e < s .count → e < 128
+    small e l = omega (arith, proper .count)
+
+    -- the table has a clause for each move
+    pub takes-clause : (e t ℓ : ℕ) → e < s .count → Takes (programOf m) (row s) (state (row s) e) t (line (programOf m) ℓ) → (k : ℕ) × (k < m .clausecount) × (inRow table k e ≡ true) × Turns (clauseAt m k .action) (state (row s) e) t
+    takes-clause e t ℓ l q = ⊎-elim
+        (λ c.
+        let r = takes-can (c .0) e t (c .1) l (subst (λ (n : ℕ). Takes (programOf m) (row s) (state (row s) e) t (line (programOf m) n)) (sym (c .2)) q) in
+        (c .0, c .1, marked .bits (c .0) e (small e l) .1 (r .0), r .1))
+        (λ c. absurd (rw (c .1) at q))
+        (clause-or-other m ℓ)
+
+    -- and no other
+    pub clause-takes : (e t k : ℕ) → e < s .count → inRow table k e ≡ true → Turns (clauseAt m k .action) (state (row s) e) t → Takes (programOf m) (row s) (state (row s) e) t (line (programOf m) (clauseAt m k .line))
+    clause-takes e t k l q h = can-takes k e t (marked .bits k e (small e l) .0 q) h
+
+    -- all clauses: one step at most
     pub led-all : (w : List ℕ) → Marks w (LedTo m (row s) (s .count) table (m .clausecount)) → Marks w (Between (s .count) (OneStep (programOf m) (row s)))
     led-all w h = marks-so w (LedTo m (row s) (s .count) table (m .clausecount)) (Between (s .count) (OneStep (programOf m) (row s))) (λ e t l. (onward e t, back e t)) h
       where
-        small : (e : ℕ) → e < s .count → e < 128
-        small e l = omega (arith, proper .count)
-
         onward : (e t : ℕ) → LedTo m (row s) (s .count) table (m .clausecount) e t → Between (s .count) (OneStep (programOf m) (row s)) e t
         onward e t (inl x) = (x .0, x .1, inl (x .2))
-        onward e t (inr (k, l, x)) = (x .0, x .1, inr (clauseAt m k .line, can-takes k e (state (row s) t) (marked .bits k e (small e (x .0)) .0 (x .2 .0)) (x .2 .1)))
+        onward e t (inr (k, l, x)) = (x .0, x .1, inr (clauseAt m k .line, clause-takes e (state (row s) t) k (x .0) (x .2 .0) (x .2 .1)))
 
         back : (e t : ℕ) → Between (s .count) (OneStep (programOf m) (row s)) e t → LedTo m (row s) (s .count) table (m .clausecount) e t
         back e t (l, h, inl q) = inl (l, h, q)
-        back e t (l, h, inr (ℓ, q)) = ⊎-elim
-            (λ c.
-            let r = takes-can (c .0) e (state (row s) t) (c .1) l (subst (λ (n : ℕ). Takes (programOf m) (row s) (state (row s) e) (state (row s) t) (line (programOf m) n)) (sym (c .2)) q) in
-            inr (c .0, c .1, (l, h, (marked .bits (c .0) e (small e l) .1 (r .0), r .1))))
-            (λ c. absurd (rw (c .1) at q))
-            (clause-or-other m ℓ)
+        back e t (l, h, inr (ℓ, q)) = let r = takes-clause e (state (row s) t) ℓ l q in inr (r .0, r .1, (l, h, (r .2, r .3)))

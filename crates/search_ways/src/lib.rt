@@ -9,8 +9,9 @@ ghost use mathlib.Core.List.{List};
 ghost use Prim.Native.Nat.{ℕ, _+_, _*_, _≤_, _<_};
 ghost use lib.ListN.{length, take};
 ghost use Rattle.semantics.specs.Labels.{relabel};
-ghost use Rattle.semantics.specs.Models.{Distinct};
+ghost use Rattle.semantics.specs.Models.{Distinct, line};
 ghost use Rattle.semantics.specs.Facts.{In, state};
+ghost use Rattle.semantics.specs.Walkers.{Whole, Takes, Comes};
 ghost use Rattle.model.specs.declared.Action.the-variants as action;
 ghost use Rattle.model.specs.Records.{bodyAt, clauseLine, programOf};
 ghost use Rattle.model.specs.WellFormed.{WellFormed};
@@ -20,11 +21,14 @@ ghost use Rattle.facts_holds.specs.Shows.{Evaluable};
 ghost use Rattle.search_states.specs.States.{row, Proper};
 ghost use Rattle.search_clauses.specs.Reach.{Takable};
 ghost use Rattle.search_ways.specs.Moves.{Marks, None, With, HoldsAt, Starts, InRow, Exactly, CanTake};
-ghost use Rattle.search_ways.specs.Steps.{Between, Led, OneStep};
+ghost use Rattle.search_ways.specs.Steps.{Between, Turns, Led, OneStep};
 ghost use Rattle.search_ways.specs.Chains.{Inside, Linked, Through};
+ghost use Rattle.search_ways.specs.Shortest.{Says, Near, Joins, Joined, Nearest, Shortest};
 
 // The slots that a row has.
 const SLOTS: usize = 128;
+// The bytes of a matrix of 128 rows.
+const MATRIX: usize = 2048;
 
 // Clears every bit.
 fn clear(rows: &mut [u8])
@@ -210,4 +214,124 @@ pub fn close(ways: &mut [u8], n: usize)
         pass(ways, n, k);
         k += 1;
     }
+}
+
+// Sets in row j + 1 of the layers the slots to which one pair leads from those of row j.
+fn spread(links: &[u8], n: usize, layers: &mut [u8], j: usize)
+    requires { ⌜ (n ≤ 128) × (j < 127) × (length (now links) ≡ 2048) × (length (now layers) ≡ 2048) ⌝ }
+    ensures { λ _. ⌜ Marks (now (layers .exit)) (With (now (layers .entry)) (InRow (j + 1) 128 (Joined (now (links .entry)) (now (layers .entry)) n j))) ⌝ }
+{
+    let mut u: usize = 0;
+    while u < n {
+        if facts_bits::get(layers, j * SLOTS + u) {
+            let row = facts_bits::keep(facts_bits::full(), links, u);
+            facts_bits::join(layers, j + 1, row);
+        }
+        u += 1;
+    }
+}
+
+// The least number of pairs that lead from one slot to another; the layers up to it are laid out.
+fn reach(links: &[u8], n: usize, from: usize, to: usize, layers: &mut [u8]) -> usize
+    requires { ⌜ (n ≤ 128) × (from < n) × (to < n) × (length (now links) ≡ 2048) × (length (now layers) ≡ 2048) × Marks (now layers) None × ((j : ℕ) × (j < n) × Near (now links) n j from to) ⌝ }
+    ensures { λ r. ⌜ Nearest (now (links .entry)) n from to (now (layers .exit)) r ⌝ }
+{
+    facts_bits::put(layers, from);
+    let mut j: usize = 0;
+    loop {
+        if facts_bits::get(layers, j * SLOTS + to) {
+            return j;
+        }
+        spread(links, n, layers, j);
+        j += 1;
+    }
+}
+
+// Is slot u in row j of the layers, with a pair that leads from it to slot t?
+fn joins(links: &[u8], layers: &[u8], j: usize, t: usize, u: usize) -> bool
+    requires { ⌜ (j < 128) × (t < 128) × (u < 128) × (length (now links) ≡ 2048) × (length (now layers) ≡ 2048) ⌝ }
+    ensures { λ r. ⌜ Says r (Joins (now (links .entry)) (now (layers .entry)) j t u) ⌝ }
+{
+    if facts_bits::get(layers, j * SLOTS + u) {
+        return facts_bits::get(links, u * SLOTS + t);
+    }
+    false
+}
+
+// The first slot of row j of the layers with a pair that leads from it to slot t.
+fn before(links: &[u8], layers: &[u8], n: usize, j: usize, t: usize) -> usize
+    requires { ⌜ (n ≤ 128) × (j < 128) × (t < n) × (length (now links) ≡ 2048) × (length (now layers) ≡ 2048) × Joined (now links) (now layers) n j t ⌝ }
+    ensures { λ r. ⌜ (r < n) × Joins (now (links .entry)) (now (layers .entry)) j t r ⌝ }
+{
+    let mut u: usize = 0;
+    while u < n {
+        if joins(links, layers, j, t, u) {
+            return u;
+        }
+        u += 1;
+    }
+    n
+}
+
+// Does the clause make one state of the other?
+fn turns(c: Clause, from: u32, to: u32) -> bool
+    ensures { λ r. ⌜ Says r (Turns (c .action) from to) ⌝ }
+{
+    let action = c.action;
+    match action {
+        Action::Rule {
+            relation: _,
+            arity: _,
+        } => false,
+        Action::New { set: _ } => false,
+        Action::Next { plus, minus } => to == labels::relabel(from, plus, minus),
+    }
+}
+
+// The line of the first clause that takes an object of the state of slot u to that of slot t.
+fn line_to(m: Model, s: States, table: &[u8], u: usize, t: usize) -> u32
+    requires { ⌜ WellFormed m × Proper s × (length (now table) ≡ 1024) × Marks (now table) (CanTake m s) × (u < s .count) × (t < s .count) × ((ℓ : ℕ) × Takes (programOf m) (row s) (state (row s) u) (state (row s) t) (line (programOf m) ℓ)) ⌝ }
+    ensures { λ r. ⌜ Takes (programOf m) (row s) (state (row s) u) (state (row s) t) (line (programOf m) r) ⌝ }
+{
+    let from = s.states[u];
+    let to = s.states[t];
+    let mut i: usize = 0;
+    while i < m.clausecount {
+        if facts_bits::get(table, i * SLOTS + u) {
+            let c = m.clauses[i];
+            if turns(c, from, to) {
+                return c.line;
+            }
+        }
+        i += 1;
+    }
+    0
+}
+
+// The lines of a shortest way from one slot to another, and how many they are.
+pub fn way(
+    m: Model,
+    s: States,
+    table: &[u8],
+    links: &[u8],
+    from: usize,
+    to: usize,
+    out: &mut [u32],
+) -> usize
+    requires { ⌜ WellFormed m × Proper s × Whole (programOf m) (row s) × (length (now table) ≡ 1024) × Marks (now table) (CanTake m s) × (length (now links) ≡ 2048) × Marks (now links) (Between (s .count) (OneStep (programOf m) (row s))) × (from < s .count) × (to < s .count) × Comes (programOf m) (row s) (state (row s) from) (state (row s) to) × (s .count ≤ length (now out)) ⌝ }
+    ensures { λ r. ⌜ Shortest (programOf m) (row s) from to (now (out .entry)) (now (out .exit)) r ⌝ }
+{
+    let n = s.count;
+    let mut layers = [0u8; MATRIX];
+    let k = reach(links, n, from, to, &mut layers);
+    let mut t = to;
+    let mut j = k;
+    while 0 < j {
+        j -= 1;
+        let u = before(links, &layers, n, j, t);
+        let line = line_to(m, s, table, u, t);
+        out[j] = line;
+        t = u;
+    }
+    k
 }
