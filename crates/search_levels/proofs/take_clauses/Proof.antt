@@ -2,7 +2,7 @@ use mathlib.Core.Path.{_≡_, subst}
 use Prim.Native.Nat.{ℕ, _≤_, _-_}
 use native.Mathlib.Omega.{arith}
 use lib.ListN.{take}
-use Rattle.search_reachable.proofs.Laws.{takable}
+use Rattle.search_clauses.proofs.WellFormed.{takable}
 use Rattle.search_levels.specs.Passes.{TakesClauses}
 use Rattle.search_levels.proofs.Laws.{clauses-none, clauses-one}
 use Rattle.search_levels.proofs.take_clauses.Statement.{statement}
