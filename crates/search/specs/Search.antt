@@ -4,6 +4,7 @@ use mathlib.Core.Logic.{_↔_}
 use mathlib.Core.Bool.{true}
 use mathlib.Core.List.{List}
 use Prim.Native.Nat.{ℕ, _<_}
+use lib.ListN.{length}
 use Rattle.semantics.specs.Facts.{state}
 use Rattle.semantics.specs.Steps.{Reachable}
 use Rattle.semantics.specs.Questions.{Verdict}
@@ -24,6 +25,9 @@ use Rattle.search.specs.declared.Found.{Found}
 
 -- the moves over the found states: from which slots a clause can be taken, to which slots one step at most leads, and to which states an object can come
 pub record Moving (m : Model) (s : States) (t : Moves) : Type 0 where
+  pub tabled : length (t .table) ≡ 1024
+  pub stepped : length (t .steps) ≡ 2048
+  pub closed : length (t .ways) ≡ 2048
   pub table : Marks (t .table) (CanTake m s)
   pub steps : Marks (t .steps) (Between (s .count) (OneStep (programOf m) (row s)))
   pub ways : Marks (t .ways) (Between (s .count) (λ e u. Comes (programOf m) (row s) (state (row s) e) (state (row s) u)))

@@ -9,7 +9,7 @@ ghost use lib.ListN.{length};
 ghost use Rattle.semantics.specs.Walkers.{Whole};
 ghost use Rattle.model.specs.Records.{programOf};
 ghost use Rattle.model.specs.WellFormed.{WellFormed};
-ghost use Rattle.facts_table.specs.Layout.{size};
+ghost use Rattle.facts_heads.specs.Heads.{room};
 ghost use Rattle.search_states.specs.States.{row};
 ghost use Rattle.search_ways.specs.Moves.{Exactly};
 ghost use Rattle.search.specs.Search.{Moving, Searched};
@@ -52,7 +52,7 @@ fn tables(work: &[u8], m: Model, s: States) -> Moves
 
 // Searches a well-formed model; it always ends with a verdict.
 pub fn search(work: &mut [u8], m: Model) -> Found
-    requires { ⌜ WellFormed m × (size ≤ length (now work)) ⌝ }
+    requires { ⌜ WellFormed m × (room ≤ length (now work)) ⌝ }
     ensures { λ r. ⌜ Searched m (now (work .exit)) r × (length (now (work .exit)) ≡ length (now (work .entry))) ⌝ }
 {
     let found = search_reachable::reachable(work, m);

@@ -183,7 +183,7 @@ module _ (m : Model) (wf : WellFormed m) (w : List ℕ) (s : States) (ex : Exact
   first-law k h c = ((λ q. let r = sound k h 0 (omega arith) q in (r .0, r .1)), λ q. complete k h (q .0) (q .1) .0 c)
 
   -- THE LAST LEVEL has a slot exactly if some stand passes every stage,
-  passable-law : ((e : ℕ) × (e < 128) × (bit (m .stagecount) e ≡ true)) ↔ Passable (programOf m) (questionOf m) (row s) nobody
+  pub passable-law : ((e : ℕ) × (e < 128) × (bit (m .stagecount) e ≡ true)) ↔ Passable (programOf m) (questionOf m) (row s) nobody
   passable-law = (
     λ q. let r = sound (m .stagecount) (omega arith) (q .0) (q .1) (q .2) in (r .0, subst (λ (k : ℕ). Level P Q S nobody k (r .0)) (sym (stages m wf)) (r .1)),
     λ q. let r = complete (m .stagecount) (omega arith) (q .0) (subst (λ (k : ℕ). Level P Q S nobody k (q .0)) (stages m wf) (q .1)) in

@@ -28,9 +28,9 @@ pub struct Levels {
 }
 
 // The slots of a level, and whether the carried variable stood in a stage before it.
-pub struct Frontier {
-    pub row: [u8; 16],
-    pub chosen: bool,
+struct Frontier {
+    row: [u8; 16],
+    chosen: bool,
 }
 
 // The row that has slot 0 alone.

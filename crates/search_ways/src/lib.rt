@@ -249,7 +249,7 @@ fn reach(links: &[u8], n: usize, from: usize, to: usize, layers: &mut [u8]) -> u
 
 // Is slot u in row j of the layers, with a pair that leads from it to slot t?
 fn joins(links: &[u8], layers: &[u8], j: usize, t: usize, u: usize) -> bool
-    requires { ⌜ (j < 128) × (t < 128) × (u < 128) × (length (now links) ≡ 2048) × (length (now layers) ≡ 2048) ⌝ }
+    requires { ⌜ (j < 128) × (t < 128) × (u < 128) × (length (now links) ≡ 2048) × (j * 16 + 16 ≤ length (now layers)) ⌝ }
     ensures { λ r. ⌜ Says r (Joins (now (links .entry)) (now (layers .entry)) j t u) ⌝ }
 {
     if facts_bits::get(layers, j * SLOTS + u) {
@@ -259,8 +259,8 @@ fn joins(links: &[u8], layers: &[u8], j: usize, t: usize, u: usize) -> bool
 }
 
 // The first slot of row j of the layers with a pair that leads from it to slot t.
-fn before(links: &[u8], layers: &[u8], n: usize, j: usize, t: usize) -> usize
-    requires { ⌜ (n ≤ 128) × (j < 128) × (t < n) × (length (now links) ≡ 2048) × (length (now layers) ≡ 2048) × Joined (now links) (now layers) n j t ⌝ }
+pub fn before(links: &[u8], layers: &[u8], n: usize, j: usize, t: usize) -> usize
+    requires { ⌜ (n ≤ 128) × (j < 128) × (t < n) × (length (now links) ≡ 2048) × (j * 16 + 16 ≤ length (now layers)) × Joined (now links) (now layers) n j t ⌝ }
     ensures { λ r. ⌜ (r < n) × Joins (now (links .entry)) (now (layers .entry)) j t r ⌝ }
 {
     let mut u: usize = 0;

@@ -47,6 +47,9 @@ returns c =
     let k = c .before .before .before .before .steps2 in
     let w = c .before .close in
     record {
+      tabled = search needs;
+      stepped = search needs;
+      closed = search needs;
       table = search needs;
       steps = k .ensures;
       ways = closed-law (a .m) (s .pre .0) (a .s) (s .pre .1 .proper) (k .last .1 .1 .1 .0) (k .ensures) (s .pre .2) (w .last .0) (w .ensures);

@@ -19,7 +19,7 @@ loop-holds : tie.Need-loop-holds Inv-loop μ-loop
 loop-holds c = (omega arith, c .before .pre .1, via-none (c .before .args .ways .now))
 
 pass-requires : tie.Need-pass-requires Inv-loop μ-loop
-pass-requires c κs = (c .before .before .before .before .pre .0, omega (arith, c .before .loop-test .taken), c .before .before .loop .inv .1)
+pass-requires c κs = (c .before .before .before .before .pre .0, c .before .loop-test .taken, c .before .before .loop .inv .1)
 
 add-k : tie.Need-add-k Inv-loop μ-loop
 add-k c = search needs

@@ -1,4 +1,3 @@
-use native.Mathlib.Omega.{arith}
 use Rattle.search_ways.proofs.Stepping.{led-one, led-none}
 use borrow.Author.Needs.{needs}
 use Rattle.search_ways.proofs.lead_at.Statement.{statement}
@@ -33,7 +32,7 @@ returns c =
     let s = c .before .before .before .before .before .before .before .before .before .before in
     let a = s .args in
     let x = c .before .before .before .before .before .before .relabel in
-    rw (c .before .before .put .ensures) (led-one (a .states .now) (a .n) (s .pre .0) (s .pre .1) (s .pre .2) (a .plus) (a .minus) (a .e) (s .pre .3) (a .ways .now) (s .pre .4) (c .before .before .before .before .before .seek .result) (rw (x .ensures) at (c .before .before .before .before .before .seek .ensures)) (omega (arith, c .before .before .before .before .if1 .taken, s .pre .3)))
+    rw (c .before .before .put .ensures) (led-one (a .states .now) (a .n) (s .pre .0) (s .pre .1) (s .pre .2) (a .plus) (a .minus) (a .e) (s .pre .3) (a .ways .now) (s .pre .4) (c .before .before .before .before .before .seek .result) (rw (x .ensures) at (c .before .before .before .before .before .seek .ensures)) (c .before .before .before .before .if1 .taken))
 
 returns-2 : tie.Need-returns-2
 returns-2 c =
