@@ -1,6 +1,6 @@
 //! The texts in the Datalog form of the EON paper's section 4, for a stock engine.
 
-use crate::plain::{Action, Kind, Literal, Model};
+use crate::model::{Action, Kind, Literal, Model};
 use std::fmt::Write;
 
 /// How an object's atomic state is spelled: as the vector of section 4, or as one number, which is easier for an engine.

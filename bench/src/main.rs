@@ -3,7 +3,8 @@
 
 mod clock;
 mod datalog;
-mod plain;
+mod method;
+mod model;
 mod product;
 mod texts;
 
@@ -97,10 +98,10 @@ fn main() {
         }
         let bytes = text.bytes.as_bytes();
         let (own, analysis) = best(|| buffers.analyze(bytes));
-        let (plain, expected) = best(|| plain::analyze(&plain::read(bytes)));
+        let (plain, expected) = best(|| method::analyze(&method::text::read(bytes)));
         assert_eq!(analysis.states, expected.states, "{}", text.name);
-        assert_eq!(analysis.run.is_some(), expected.run.is_some(), "{}", text.name);
-        let model = plain::read(bytes);
+        assert_eq!(analysis.run.is_some(), expected.reached, "{}", text.name);
+        let model = model::read(bytes);
         let mut stock: Option<f64> = None;
         for spelling in [Spelling::Number, Spelling::Vector] {
             if let Some((time, reached)) = gringo(&datalog::program(&model, spelling)) {
@@ -115,7 +116,7 @@ fn main() {
         }
         if let Some(run) = analysis.run {
             let (own, broken) = best(|| buffers.replay(bytes, &run));
-            let (plain, expected) = best(|| plain::replay(&plain::read(bytes), &run));
+            let (plain, expected) = best(|| method::replay(&method::text::read(bytes), &run));
             assert_eq!((broken, expected), (None, None), "{}", text.name);
             let name = format!("  replay of {} places", run.len());
             line(&name, own, [Some(plain), None], &mut worst);

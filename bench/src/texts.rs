@@ -277,6 +277,77 @@ fn slow_levels() -> String {
     t
 }
 
+/// Four stages whose carried variable stands last, behind two variables that a full pair relation leaves free, and so many rules of eight literals that never hold.
+fn carried_last(rules: usize) -> String {
+    let mut t = declared(&["O"], &PAIRS);
+    all_states(&mut t);
+    every(&mut t, "O");
+    halves(&mut t, &["Q", "R", "S"], &["P", "T"]);
+    writeln!(t, "(rule (U x y) (O x) (O y))").unwrap();
+    for i in 0..rules {
+        writeln!(t, "(rule (P x y){})", no_triangle(i)).unwrap();
+    }
+    t.push_str("(ask");
+    for (k, n) in [127, 126, 124, 120].iter().enumerate() {
+        let body: String = (0..6).map(|i| bit(n >> i & 1 == 1, i, "c")).collect();
+        write!(t, " ((U a{k} b{k}) (U b{k} a{k}){body})").unwrap();
+    }
+    t.push_str(")\n");
+    t
+}
+
+/// Bodies of eight literals and two variables that hold for no two states, though each relation has half of all pairs.
+fn no_pair(i: usize) -> String {
+    let alike = ["Q", "R", "S"];
+    let (a, b, c) = (alike[i % 3], alike[(i + 1) % 3], alike[(i + 2) % 3]);
+    format!(" ({a} x y) ({b} y x) ({c} x y) ({a} y x) ({b} x y) ({c} y x) (P x y) (T y x)")
+}
+
+/// `next` lines that fail for every pair of states, and a carried object that is moved one state at a time.
+fn slow_pairs() -> String {
+    let mut t = declared(&["O"], &PAIRS[..5]);
+    every(&mut t, "O");
+    halves(&mut t, &["Q", "R", "S"], &["P", "T"]);
+    cycle(&mut t, true);
+    for i in 0..38 {
+        writeln!(t, "(next x (A) (B){})", no_pair(i)).unwrap();
+    }
+    last_states(&mut t);
+    t
+}
+
+/// The counter, each step of which needs a pair that is derived from the state before: states, facts and guards are found one after the other.
+fn chained(t: &mut String) {
+    writeln!(t, "(new (A))").unwrap();
+    writeln!(t, "(next x (A) () (O x) (not (A x)) (U x y) (U y x) (O y))").unwrap();
+    for i in 1..7 {
+        let low = STATES[..i].join(" ");
+        let ones: String = STATES[..i].iter().map(|l| format!("({l} x) ")).collect();
+        writeln!(t, "(next x ({}) ({low}) {ones}(not ({} x)) (U x y))", STATES[i], STATES[i]).unwrap();
+    }
+}
+
+/// States that come one at a time, each after the pairs of the one before, and rules of eight literals over full relations; or over half-full ones, which never hold.
+fn chained_full() -> String {
+    six_full(chained)
+}
+
+fn chained_never() -> String {
+    let mut t = declared(&["O"], &PAIRS);
+    chained(&mut t);
+    every(&mut t, "O");
+    halves(&mut t, &["Q", "R", "S"], &["P", "T"]);
+    writeln!(t, "(rule (U x y) (O x) (O y))").unwrap();
+    for i in 0..19 {
+        writeln!(t, "(rule (P x y){})", no_triangle(i)).unwrap();
+    }
+    for i in 0..18 {
+        writeln!(t, "(next x (A) (B){})", no_triangle(i)).unwrap();
+    }
+    t.push_str("(ask ((U x y) (P x y) (Q x y)))\n");
+    t
+}
+
 /// The counter, and a line that begins it anew.
 fn cycle(t: &mut String, guarded: bool) {
     counter(t, guarded);
@@ -353,6 +424,11 @@ pub fn all() -> Vec<Text> {
         text("never all three", never(all_states)),
         text("never all three, slowly", never(|t| counter(t, true))),
         text("carried, one at a time", slow_levels()),
+        text("carried last", carried_last(0)),
+        text("carried last, 64 clauses", carried_last(38)),
+        text("no pair, one at a time", slow_pairs()),
+        text("chained, six full relations", chained_full()),
+        text("chained, never all three", chained_never()),
         text("longest text", longest_text()),
     ]
 }

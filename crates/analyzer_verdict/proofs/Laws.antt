@@ -28,12 +28,14 @@ parts k = refl
 module _ (m : Model) (wf : WellFormed m) where
   module _ (w : List ℕ) (r : Found) (h : Searched m w r) where
     -- what the search recorded
-    pub recorded : Recorded m w (r .states) (r .levels)
+    pub recorded : Recorded m w (r .states) (r .levels) (r .moves .table) (r .moves .steps) (r .moves .ways)
     recorded =
         record {
           known = record { model = wf; proper = h .proper; found = h .found; agree = h .agree; exact = h .exact };
+          mapped = record { whole = h .whole; tabled = h .moves .tabled; moves = h .moves .table; stepped = h .moves .stepped; single = h .moves .steps };
+          long = h .moves .closed;
+          comes = h .moves .ways;
           levels = h .levels;
-          rows = h .rows;
         }
 
     -- the states by rising number

@@ -4,35 +4,49 @@ use mathlib.Core.Logic.{_↔_}
 use mathlib.Core.Bool.{true}
 use mathlib.Core.List.{List}
 use Prim.Native.Nat.{ℕ, _<_}
+use lib.ListN.{length}
+use Rattle.semantics.specs.Facts.{state}
 use Rattle.semantics.specs.Steps.{Reachable}
 use Rattle.semantics.specs.Questions.{Verdict}
-use Rattle.semantics.specs.Tables.{Saturated, FoundedRows}
+use Rattle.semantics.specs.Walkers.{Whole, Comes}
 use Rattle.model.specs.declared.Model.{Model}
 use Rattle.model.specs.Records.{programOf, questionOf}
-use Rattle.facts_table.specs.Table.{tableOf, Consistent}
+use Rattle.facts_bits.specs.Bits.{inRow}
+use Rattle.facts_table.specs.Table.{Consistent}
 use Rattle.facts.specs.Facts.{Exact}
-use Rattle.search_states.specs.States as states
-use Rattle.search_states.specs.States.{row, Known, Discovered}
+use Rattle.search_states.specs.declared.States.{States}
+use Rattle.search_states.specs.States.{row, Known, Proper, Discovered}
 use Rattle.search_states.specs.Rising.{Lists}
-use Rattle.search_entries.specs.Entries as entries
-use Rattle.search_entries.specs.Entries.{count, rowsOf, cameOf}
+use Rattle.search_ways.specs.Moves.{Marks, CanTake}
+use Rattle.search_ways.specs.Steps.{Between, OneStep}
+use Rattle.search_levels.specs.Levels.{Filled}
+use Rattle.search.specs.declared.Moves.{Moves}
 use Rattle.search.specs.declared.Found.{Found}
+
+-- the moves over the found states: from which slots a clause can be taken, to which slots one step at most leads, and to which states an object can come
+pub record Moving (m : Model) (s : States) (t : Moves) : Type 0 where
+  pub tabled : length (t .table) ≡ 1024
+  pub stepped : length (t .steps) ≡ 2048
+  pub closed : length (t .ways) ≡ 2048
+  pub table : Marks (t .table) (CanTake m s)
+  pub steps : Marks (t .steps) (Between (s .count) (OneStep (programOf m) (row s)))
+  pub ways : Marks (t .ways) (Between (s .count) (λ e u. Comes (programOf m) (row s) (state (row s) e) (state (row s) u)))
 
 -- w is the work area as the search leaves it
 pub record Searched (m : Model) (w : List ℕ) (r : Found) : Type 0 where
   -- the states found are exactly the reachable ones, the empty one if it is noted; and so are those by rising number
-  pub proper : states.Proper (r .states)
+  pub proper : Proper (r .states)
   pub reachable : (t : ℕ) → Reachable (programOf m) t ↔ Known (r .states) t
   pub listing : Lists (r .states) (r .listing)
-  -- the verdict is right, and where it is reached the last level has an entry
+  -- the verdict is right, and where it is reached the last level has a slot
   pub verdict : Verdict (programOf m) (questionOf m) (r .reached)
-  pub entered : r .reached ≡ true → 0 < count (r .levels) (m .stagecount)
-  -- each state and each entry came from those before it
+  pub entered : r .reached ≡ true → (e : ℕ) × (e < 128) × (inRow (r .levels .rows) (m .stagecount) e ≡ true)
+  -- each state came from those before it, and no line adds another
   pub found : Discovered (programOf m) (r .states)
-  pub levels : entries.Proper (r .levels)
-  pub rows : FoundedRows (programOf m) (questionOf m) (m .carried) (row (r .states)) (rowsOf (r .levels)) (cameOf (r .levels))
+  pub whole : Whole (programOf m) (row (r .states))
   -- the facts of the work area are those derived over the states
   pub agree : Consistent w
   pub exact : Exact m (row (r .states)) w
-  -- and nothing is missing
-  pub complete : Saturated (programOf m) (questionOf m) (m .carried) (row (r .states)) (tableOf w) (rowsOf (r .levels))
+  -- the moves over the states, and the levels of the question by them
+  pub moves : Moving m (r .states) (r .moves)
+  pub levels : Filled m (row (r .states)) w (r .moves .ways) (r .levels)

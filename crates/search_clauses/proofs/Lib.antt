@@ -1,2 +1,4 @@
 pub mod Laws
 pub mod Clauses
+pub mod Marks
+pub mod WellFormed

@@ -1,5 +1,7 @@
 -- The run that builds the states and walks on is kept, fits, and ends with a meeting.
 use mathlib.Core.Path.{_≡_, sym, ap, _∙_, subst}
+use mathlib.Core.Logic.{⊎-elim}
+use mathlib.Core.Bool.{Bool, true, false}
 use mathlib.Core.List.{List, [], _∷_, _++_, map, map-append, reverse}
 use mathlib.Core.Option.{Option, some}
 use Prim.Native.Nat.{ℕ, suc, _+_, _-_, _≤_, _<_}
@@ -13,6 +15,7 @@ use Rattle.semantics.specs.Steps.{Steps}
 use Rattle.semantics.specs.Runs.{Place, step, meet, Session, start, nobody, after, Plays, Kept}
 use Rattle.semantics.specs.PlayingOn.{PlayingOn}
 use Rattle.semantics.specs.Building.{session, Leads, build}
+use Rattle.semantics.proofs.Tools.{either}
 use Rattle.semantics.proofs.Leads.{leads-plays, steps-lead, kept-length}
 use Rattle.semantics.proofs.Playing.{playing-on}
 use Rattle.semantics.proofs.Build.{built, length-build}
@@ -21,16 +24,20 @@ use Rattle.model.specs.Records.{programOf, questionOf}
 use Rattle.model.specs.WellFormed.{WellFormed}
 use Rattle.model.specs.Places.{numberOf, placeOf}
 use Rattle.model.proofs.Accepted.{stages}
+use Rattle.facts_bits.specs.Bits.{inRow}
 use Rattle.search_states.specs.declared.States.{States}
 use Rattle.search_states.specs.States.{row, by, from}
 use Rattle.search_states.proofs.Laws.{length-row}
+use Rattle.search_levels.specs.declared.Levels.{Levels}
+use Rattle.search_levels.specs.Levels.{chosen}
 use Rattle.witness_table.specs.Runs.{numbers, AllNumerable, backwards}
 use Rattle.witness_table.proofs.Laws.{length-backwards, backwards-on, turned, numerable-append, decoded-numbers}
 use Rattle.witness_lineage.specs.Lineage.{building}
 use Rattle.witness_lineage.proofs.Making.{length-steps, numerable-building}
 use Rattle.witness_meetings.specs.Legs.{Known}
-use Rattle.witness_walk.specs.Walk.{Walked}
-use Rattle.witness.specs.Witness.{Shown}
+use Rattle.witness_walk.specs.Walk.{Recorded, Sits, Walked}
+use Rattle.witness_walk.proofs.Laws.{sits-there, sits-nowhere}
+use Rattle.witness.specs.Witness.{Ends, Shown}
 
 -- what is played to its end ends with the meeting of the last stage
 plays-last : (P : Program) (Q : Question) (s : Session) (ps : List Place) → Plays P Q s ps → s .met < length Q
@@ -42,6 +49,15 @@ plays-last P Q s (meet i os ∷ step ℓ o ∷ ps) h l =
     let t = plays-last P Q (after P Q s (meet i os)) (step ℓ o ∷ ps) (h .1) (h .1 .0 .0) in (meet i os ∷ t .0, t .1, ap (λ (qs : List Place). meet i os ∷ qs) (t .2))
 plays-last P Q s (meet i os ∷ meet j ps ∷ qs) h l =
     let t = plays-last P Q (after P Q s (meet i os)) (meet j ps ∷ qs) (h .1) (h .1 .0 .0) in (meet i os ∷ t .0, t .1, ap (λ (qs : List Place). meet i os ∷ qs) (t .2))
+
+-- the slot at the end is one of the last level
+pub ends-sits : (m : Model) (w : List ℕ) (s : States) (l : Levels) (table steps ways : List ℕ) → Recorded m w s l table steps ways → (e : ℕ) → e < 128 → inRow (l .rows) (m .stagecount) e ≡ true
+    → (r : ℕ) → Ends (chosen m (m .stagecount)) l (m .stagecount) r → Sits (chosen m (m .stagecount)) s l (m .stagecount) r
+ends-sits m w s l table steps ways rec e g q r h = ⊎-elim
+    (λ (c : chosen m (m .stagecount) ≡ true). let k = subst (λ (b : Bool). Ends b l (m .stagecount) r) c h in sits-there m w s l table steps ways rec (m .stagecount) r (omega arith) (k .0) (k .1) c)
+    (λ (c : chosen m (m .stagecount) ≡ false).
+    subst (Sits (chosen m (m .stagecount)) s l (m .stagecount)) (sym (subst (λ (b : Bool). Ends b l (m .stagecount) r) c h)) (sits-nowhere m w s l table steps ways rec (m .stagecount) e (omega arith) g q c))
+    (either (chosen m (m .stagecount)))
 
 module _ (m : Model) (w : List ℕ) (s : States) (known : Known m w s) where
   some-stage : 0 < length (questionOf m)

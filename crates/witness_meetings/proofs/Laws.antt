@@ -23,6 +23,7 @@ use Rattle.semantics.proofs.Legs.{behind, handing, hand-leads}
 use Rattle.model.specs.declared.Model.{Model}
 use Rattle.model.specs.declared.Stage.{Stage}
 use Rattle.model.specs.Records.{upFrom, stageBody, stageOf, numberIn, programOf, questionOf, stageAt}
+use Rattle.model.specs.WellFormed.{WellFormed}
 use Rattle.model.specs.declared.Place.the-variants.{Meeting}
 use Rattle.model.specs.Places.{numberOf, numeral, Objects, Numerable}
 use Rattle.model.proofs.Numbering.{length-upFrom}
@@ -36,13 +37,12 @@ use Rattle.search_states.specs.declared.States.{States}
 use Rattle.search_states.specs.States.{row, by, from}
 use Rattle.search_states.proofs.Laws.{length-row}
 use Rattle.facts_holds.specs.Shows.{Evaluable}
-use Rattle.search_entries.specs.Entries.{entryOf}
 use Rattle.witness_table.specs.Runs.{backwards}
 use Rattle.witness_table.proofs.Laws.{set-backwards, backwards-on, numerable-append}
 use Rattle.witness_lineage.specs.Lineage.{linesTo, making}
 use Rattle.witness_lineage.proofs.Making.{length-places, numerable-making}
 use Rattle.witness_lineage.proofs.Laws.{lineage-enough}
-use Rattle.witness_meetings.specs.Legs.{Known, Meetable, meeting, standing, effort, Leg}
+use Rattle.witness_meetings.specs.Legs.{Known, entryOf, Meetable, meeting, standing, effort, Leg}
 
 -- in a row of different states each has its place
 pub seat-own : (S : List ℕ) (o : ℕ) → Distinct S → o < length S → seat (getD S o 0) S ≡ o
@@ -82,6 +82,26 @@ free-chosen x = ⊎-elim (λ (q : eqb x 0 ≡ true). rw q) (λ (q : eqb x 0 ≡ 
 pub free-fixed : (n : ℕ) (σ : ℕ → ℕ) → Fixed n (record { first = 255; second = 255; third = 255 }) σ
 free-fixed n σ x l h = absurd (h (free-chosen x))
 
+-- STAGE k of a well-formed model, with names of its own for its variables
+module _ (m : Model) (wf : WellFormed m) (k : ℕ) (here : k < m .stagecount) where
+  in-vars : (y : ℕ) → elem y (vars (stageOf (m .literals) (stageAt m k))) ≡ true → (x : ℕ) × (x < stageAt m k .variables) × (y ≡ numberIn (stageAt m k) x)
+  in-vars y e =
+      let t = elem-of-map (numberIn (stageAt m k)) y (vars (stageBody (m .literals) (stageAt m k))) (rw vars-renamed at e) in
+      (t .0, stage-vars m wf k here (t .0) .0 (t .1), t .2)
+
+  vars-in : (x : ℕ) → x < stageAt m k .variables → elem (numberIn (stageAt m k) x) (vars (stageOf (m .literals) (stageAt m k))) ≡ true
+  vars-in x l = rw vars-renamed (elem-map (numberIn (stageAt m k)) x (vars (stageBody (m .literals) (stageAt m k))) (stage-vars m wf k here x .1 l))
+
+  -- whether the stage has the carried variable
+  pub has-carried : (x : ℕ) → x < stageAt m k .variables → numberIn (stageAt m k) x ≡ m .carried → elem (m .carried) (vars (getD (questionOf m) k [])) ≡ true
+  has-carried x l e = rw (stage-here m wf k here) (subst (λ (y : ℕ). elem y (vars (stageOf (m .literals) (stageAt m k))) ≡ true) e (vars-in x l))
+
+  pub not-carried : ((x : ℕ) → x < stageAt m k .variables → numberIn (stageAt m k) x ≢ m .carried) → elem (m .carried) (vars (getD (questionOf m) k [])) ≡ false
+  not-carried h = rw (stage-here m wf k here) (⊎-elim
+      (λ (e : elem (m .carried) (vars (stageOf (m .literals) (stageAt m k))) ≡ true). let t = in-vars (m .carried) e in absurd (h (t .0) (t .1) (sym (t .2))))
+      (λ (e : elem (m .carried) (vars (stageOf (m .literals) (stageAt m k))) ≡ false). e)
+      (either (elem (m .carried) (vars (stageOf (m .literals) (stageAt m k))))))
+
 module _ (m : Model) (w : List ℕ) (s : States) (known : Known m w s) (k : ℕ) (here : k < m .stagecount) where
   abbrev st : Stage
   st = stageAt m k
@@ -92,29 +112,11 @@ module _ (m : Model) (w : List ℕ) (s : States) (known : Known m w s) (k : ℕ)
   abbrev asked : Body
   asked = stageOf (m .literals) (stageAt m k)
 
-  in-vars : (y : ℕ) → elem y (vars asked) ≡ true → (x : ℕ) × (x < st .variables) × (y ≡ numberIn st x)
-  in-vars y e =
-      let t = elem-of-map (numberIn st) y (vars body) (rw vars-renamed at e) in
-      (t .0, stage-vars m (known .model) k here (t .0) .0 (t .1), t .2)
-
-  vars-in : (x : ℕ) → x < st .variables → elem (numberIn st x) (vars asked) ≡ true
-  vars-in x l = rw vars-renamed (elem-map (numberIn st) x (vars body) (stage-vars m (known .model) k here x .1 l))
-
-  -- whether the stage has the carried variable
-  pub has-carried : (x : ℕ) → x < st .variables → numberIn st x ≡ m .carried → elem (m .carried) (vars (getD (questionOf m) k [])) ≡ true
-  has-carried x l e = rw (stage-here m (known .model) k here) (subst (λ (y : ℕ). elem y (vars asked) ≡ true) e (vars-in x l))
-
-  pub not-carried : ((x : ℕ) → x < st .variables → numberIn st x ≢ m .carried) → elem (m .carried) (vars (getD (questionOf m) k [])) ≡ false
-  not-carried h = rw (stage-here m (known .model) k here) (⊎-elim
-      (λ (e : elem (m .carried) (vars asked) ≡ true). let t = in-vars (m .carried) e in absurd (h (t .0) (t .1) (sym (t .2))))
-      (λ (e : elem (m .carried) (vars asked) ≡ false). e)
-      (either (elem (m .carried) (vars asked))))
-
   -- the stage's body can be evaluated
   stage-safe : Supported (vars body) body
   stage-safe x e =
       let t = elem-of-map (numberIn st) (numberIn st x) (supported body)
-      (rw supported-renamed at (subst (λ (b : Body). Supported (vars b) b) (stage-here m (known .model) k here) (known .model .safely k) (numberIn st x) (vars-in x (stage-vars m (known .model) k here x .0 e)))) in
+      (rw supported-renamed at (subst (λ (b : Body). Supported (vars b) b) (stage-here m (known .model) k here) (known .model .safely k) (numberIn st x) (vars-in m (known .model) k here x (stage-vars m (known .model) k here x .0 e)))) in
       subst (λ (y : ℕ). elem y (supported body) ≡ true) (sym (stage-different m (known .model) k here x (t .0) e (supported-vars (t .0) body (t .1)) (t .2))) (t .1)
 
   pub stage-evaluable : Evaluable (m .literals) (record { first = st .first; count = st .count; variables = st .variables })
@@ -189,10 +191,10 @@ module _ (m : Model) (w : List ℕ) (s : States) (known : Known m w s) (k : ℕ)
         (λ x a b. behind-other (m .carried) (row s) (over c) (numberIn st x) (without x (omega arith)) ∙ over-at c x (omega arith))
 
     pub without-leads : (b d : Option ℕ) → Meetable m s k b d → Leads (programOf m) (questionOf m) (standing m s k b) (meeting k (st .variables) c ∷ []) (standing m s (suc k) d)
-    without-leads none none t = rw (← same-objects) (over-leads c shown none none (not-carried without))
-    without-leads none (some d) t = clash (t .2 .0) (not-carried without)
+    without-leads none none t = rw (← same-objects) (over-leads c shown none none (not-carried m (known .model) k here without))
+    without-leads none (some d) t = clash (t .2 .0) (not-carried m (known .model) k here without)
     without-leads (some b) none t = absurd (t .2)
-    without-leads (some b) (some d) t = rw (← behind-objects) (over-leads c shown (some b) (some d) ((λ e. clash e (not-carried without)), t .2 .1))
+    without-leads (some b) (some d) t = rw (← behind-objects) (over-leads c shown (some b) (some d) ((λ e. clash e (not-carried m (known .model) k here without)), t .2 .1))
 
     pub without-leg : (b d : Option ℕ) → Meetable m s k b d → (run : List ℕ) (at number : ℕ) → number ≡ numberOf (meeting k (st .variables) c)
         → Leg m (standing m s k b) (standing m s (suc k) d) (suc (effort (s .count) b d)) run at (set run at number) (at + 1)
@@ -215,19 +217,19 @@ module _ (m : Model) (w : List ℕ) (s : States) (known : Known m w s) (k : ℕ)
         o = h .0 (m .carried)
 
         same-slot : getD (row s) o 0 ≡ getD (row s) slot 0 → o ≡ slot
-        same-slot e = sym (seat-own (row s) o (known .proper .distinct) (h .1 .0 (m .carried) (has-carried x l own))) ∙ ap (λ (t : ℕ). seat t (row s)) e
+        same-slot e = sym (seat-own (row s) o (known .proper .distinct) (h .1 .0 (m .carried) (has-carried m (known .model) k here x l own))) ∙ ap (λ (t : ℕ). seat t (row s)) e
             ∙ seat-own (row s) slot (known .proper .distinct) (omega (arith, length-row s (known .proper)))
 
         same : (b : Option ℕ) → Hands (m .carried) (row s) (getD (questionOf m) k []) (h .0) b (some (getD (row s) slot 0)) → o ≡ slot
         same none g = same-slot (sym (g .1))
-        same (some c) g = same-slot (g .0 (has-carried x l own) ∙ sym (g .1))
+        same (some c) g = same-slot (g .0 (has-carried m (known .model) k here x l own) ∙ sym (g .1))
 
     -- which slot that is
     pub carried-slot : (b : Option ℕ) (n : ℕ) → Meetable m s k b (entryOf n) → (1 ≤ n) × (seat (n - 1) (row s) < s .count) × (entryOf n ≡ some (getD (row s) (seat (n - 1) (row s)) 0))
     carried-slot b zero h = absurd (none-carried b (h .2))
       where
         none-carried : (b : Option ℕ) → Hands (m .carried) (row s) (getD (questionOf m) k []) (h .0) b none → ⊥
-        none-carried none g = clash (has-carried x l own) g
+        none-carried none g = clash (has-carried m (known .model) k here x l own) g
         none-carried (some c) g = g
     carried-slot b (suc t) h = (omega arith, rw minus (omega (arith, sits, inside, length-row s (known .proper))), rw (minus, sits, now b (h .2)))
       where
@@ -238,11 +240,11 @@ module _ (m : Model) (w : List ℕ) (s : States) (known : Known m w s) (k : ℕ)
         minus = omega arith
 
         inside : o < length (row s)
-        inside = h .1 .0 (m .carried) (has-carried x l own)
+        inside = h .1 .0 (m .carried) (has-carried m (known .model) k here x l own)
 
         now : (b : Option ℕ) → Hands (m .carried) (row s) (getD (questionOf m) k []) (h .0) b (some t) → getD (row s) o 0 ≡ t
         now none g = sym (g .1)
-        now (some c) g = g .0 (has-carried x l own) ∙ sym (g .1)
+        now (some c) g = g .0 (has-carried m (known .model) k here x l own) ∙ sym (g .1)
 
         sits : seat t (row s) ≡ o
         sits = subst (λ (u : ℕ). seat u (row s) ≡ o) (now b (h .2)) (seat-own (row s) o (known .proper .distinct) inside)
@@ -279,7 +281,7 @@ module _ (m : Model) (w : List ℕ) (s : States) (known : Known m w s) (k : ℕ)
       with-leads : (b : Option ℕ) → Meetable m s k b (some (getD (row s) slot 0))
           → Leads (programOf m) (questionOf m) (standing m s k b) (withCarried slot e b) (standing m s (suc k) (some (getD (row s) slot 0)))
       with-leads none g = subst (λ (os : List Place). Leads (programOf m) (questionOf m) (standing m s k none) os (standing m s (suc k) (some (getD (row s) slot 0)))) same
-          (over-leads c shown none (some (getD (row s) slot 0)) (has-carried x l own, sym stands))
+          (over-leads c shown none (some (getD (row s) slot 0)) (has-carried m (known .model) k here x l own, sym stands))
         where
           made : lineage (programOf m) (by s) (from s) (length (row s)) (over c (m .carried)) ≡ linesTo m s slot
           made = rw over-carried (lineage-enough (programOf m) (row s) (by s) (from s) (known .found) (length (row s)) (suc slot) slot

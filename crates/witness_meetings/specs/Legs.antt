@@ -3,7 +3,7 @@ use mathlib.Core.Path.{_≡_}
 use mathlib.Core.Logic.{_⊎_, _≢_}
 use mathlib.Core.List.{List, [], map}
 use mathlib.Core.Option.{Option, none, some}
-use Prim.Native.Nat.{ℕ, suc, _+_, _≤_, _<_}
+use Prim.Native.Nat.{ℕ, zero, suc, _+_, _≤_, _<_}
 use lib.ListN.{length, getD}
 use Rattle.semantics.specs.Facts.{Meets}
 use Rattle.semantics.specs.Runs.{Place, Session, meet}
@@ -28,6 +28,11 @@ pub record Known (m : Model) (w : List ℕ) (s : States) : Type 0 where
   pub found : Discovered (programOf m) s
   pub agree : Consistent w
   pub exact : Exact m (row s) w
+
+-- what a number stands for: nothing is carried yet, or the carried object's state
+abbrev pub entryOf : ℕ → Option ℕ
+entryOf zero = none
+entryOf (suc c) = some c
 
 -- stage k can be met for some objects, with c carried before and d after
 abbrev pub Meetable : Model → States → ℕ → Option ℕ → Option ℕ → Type 0

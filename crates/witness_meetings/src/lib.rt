@@ -21,11 +21,10 @@ ghost use Rattle.facts_candidates.specs.Choices.{chosen, Own};
 ghost use Rattle.facts_find.specs.Bodies.{Fixed};
 ghost use Rattle.search_states.specs.States.{row};
 ghost use Rattle.facts_holds.specs.Shows.{Evaluable};
-ghost use Rattle.search_entries.specs.Entries.{entryOf};
-ghost use Rattle.witness_meetings.specs.Legs.{Known, Meetable, Spots, meeting, standing, effort, Leg};
+ghost use Rattle.witness_meetings.specs.Legs.{Known, entryOf, Meetable, Spots, meeting, standing, effort, Leg};
 
 // The stage's own number of a variable, or the number of its variables where it has not that one.
-fn spot(stage: Stage, variable: u32) -> usize
+pub fn spot(stage: Stage, variable: u32) -> usize
     requires { ⌜ (length (stage .numbers) ≡ limit.variables) × (stage .variables ≤ limit.variables) ⌝ }
     ensures { λ r. ⌜ Spots stage variable r ⌝ }
 {

@@ -1,223 +1,241 @@
--- One step back along the levels, and the first and the last.
+-- One stage back along the levels, and the first and the last.
 use mathlib.Core.Path.{_≡_, refl, sym, ap, _∙_, subst}
-use mathlib.Core.Logic.{⊎-elim, _≢_}
-use mathlib.Core.List.{List, [], _∷_, _++_}
+use mathlib.Core.Logic.{_⊎_, inl, inr}
+use mathlib.Core.Bool.{Bool, true, false, _||_}
+use mathlib.Core.List.{List, [], _++_}
 use mathlib.Core.Option.{Option, none, some}
 use Prim.Native.Nat.{ℕ, zero, suc, _+_, _-_, _*_, _≤_, _<_}
 use native.Mathlib.Omega.{arith}
 use native.Mathlib.Nat.{zero-add, mul-le-mul}
-use lib.ListN.{length, set, getD, length-append}
-use lib.Seq.{getD-take, getD-drop}
-use Rattle.limits.specs.Limits as limit
-use Rattle.semantics.specs.Models.{Line, rule, new, next, other, line}
-use Rattle.semantics.specs.Runs.{step, Plays}
-use Rattle.semantics.specs.Tables.{entry, Moves, Hands, Came, rank}
-use Rattle.semantics.proofs.Tools.{same?, no-none}
+use borrow.Author.Tests.{ne-eqb}
+use lib.ListN.{length, getD, length-append}
+use lib.Seq.{getD-take}
+use Rattle.semantics.specs.Models.{Body}
+use Rattle.semantics.specs.Facts.{state, Holds, In, Derived, Meets}
+use Rattle.semantics.specs.Runs.{Session}
+use Rattle.semantics.specs.Tables.{Hands}
+use Rattle.semantics.specs.Walkers.{Comes}
+use Rattle.semantics.proofs.Tools.{clash, or-right}
+use Rattle.semantics.proofs.Bodies.{more-facts}
 use Rattle.semantics.proofs.Leads.{leads-plays}
-use Rattle.semantics.proofs.Legs.{move-leads}
-use Rattle.semantics.proofs.Shown.{rank-less, rank-most, level-zero}
+use Rattle.semantics.proofs.WalkersMoves.{elem-state}
 use Rattle.model.specs.declared.Model.{Model}
-use Rattle.model.specs.declared.Place.the-variants.{Step}
-use Rattle.model.specs.Places.{numberOf, numeral}
 use Rattle.model.specs.Records.{programOf, questionOf}
 use Rattle.model.proofs.Accepted.{stages}
+use Rattle.facts_bits.specs.Bits.{inRow}
+use Rattle.facts_table.specs.Table.{tableOf}
 use Rattle.search_states.specs.declared.States.{States}
-use Rattle.search_states.specs.States.{row, by, from}
+use Rattle.search_states.specs.States.{row, Proper}
 use Rattle.search_states.proofs.Laws.{length-row}
-use Rattle.search_entries.specs.declared.Levels.{Levels}
-use Rattle.search_entries.specs.Entries.{entryOf, count, rowsOf, arrivalOf, cameOf}
-use Rattle.search_entries.proofs.Laws.{entry-at}
-use Rattle.search_entries.proofs.Blocks.{length-rows}
+use Rattle.search_ways.specs.Shortest.{Joins, Joined}
+use Rattle.search_levels.specs.declared.Levels.{Levels}
+use Rattle.search_levels.specs.Levels.{holder, chosen, Open, Next}
 use Rattle.witness_table.specs.Runs.{backwards}
-use Rattle.witness_table.proofs.Laws.{backwards-none, backwards-on, backwards-more, numerable-append}
-use Rattle.witness_lineage.proofs.Laws.{small-line}
-use Rattle.witness_meetings.specs.Legs.{Meetable, standing, effort, Leg}
-use Rattle.witness_walk.specs.Walk.{Recorded, lineTo, originOf, moves, Behind, Walked}
+use Rattle.witness_table.proofs.Laws.{backwards-none, backwards-on, numerable-append}
+use Rattle.witness_meetings.specs.Legs.{entryOf, Meetable, standing, effort, Leg}
+use Rattle.witness_walk.specs.Walk.{Recorded, noSlot, carriedAt, Sits, Played, ahead, Behind, Walked}
 
-module _ (m : Model) (w : List ℕ) (s : States) (l : Levels) (rec : Recorded m w s l) where
-  -- an entry of a level, by its number
-  pub entry-number : (i j : ℕ) → j < length (rowsOf l i) → entry (rowsOf l) i j ≡ entryOf (getD (l .entries) (i * 129 + j) 0)
-  entry-number i j h = entry-at l i j ∙ ap entryOf (getD-take (count l i) _ j 0 (rw (length-rows l (rec .levels)) at h) ∙ getD-drop (i * 129) (l .entries) j 0)
+-- WHETHER AN OBJECT IS CARRIED after stage k
+module _ (m : Model) (k : ℕ) where
+  pub chosen-with : holder m k ≡ true → chosen m (suc k) ≡ true
+  chosen-with z = or-right (chosen m k) (holder m k) z
 
-  rank-few : (i j c : ℕ) → j < length (rowsOf l i) → entry (rowsOf l) i j ≡ some c → rank (rowsOf l) i j < s .count
-  rank-few i j c h e = rw (← length-row s (rec .known .proper)) (rank-most (programOf m) (rec .known .model .safe) (questionOf m) (m .carried) (rec .known .model .carries) (row s) (by s) (from s) (rec .known .found)
-      (rowsOf l) (cameOf l) (rec .rows) i j c h e)
+  pub chosen-without : holder m k ≡ false → chosen m (suc k) ≡ chosen m k
+  chosen-without z = ap (λ (h : Bool). chosen m k || h) z ∙ or-nothing (chosen m k)
+    where
+      or-nothing : (a : Bool) → (a || false) ≡ a
+      or-nothing true = refl
+      or-nothing false = refl
 
-  module _ (k j : ℕ) (inside : j < length (rowsOf l (suc k))) where
-    -- the stage was met
-    pub met-before : lineTo l (suc k) j ≡ 0
-        → (k < m .stagecount) × (originOf l (suc k) j < length (rowsOf l k)) × Meetable m s k (entry (rowsOf l) k (originOf l (suc k) j)) (entry (rowsOf l) (suc k) j)
-    met-before z = go (lineTo l (suc k) j) z (rec .rows .arrived (suc k) j inside)
+-- once it is, it stays so
+pub chosen-later : (m : Model) (i n : ℕ) → chosen m i ≡ true → chosen m (n + i) ≡ true
+chosen-later m i zero h = rw zero-add h
+chosen-later m i (suc n) h = rw (let e : suc n + i ≡ suc (n + i) = omega arith in e, chosen-later m i n h) refl
+
+-- WHAT IS CARRIED with a slot
+module _ (s : States) (proper : Proper s) (e : ℕ) (h : e < s .count) where
+  pub carried-some : carriedAt s e ≡ some (state (row s) e)
+  carried-some = rw (ne-eqb e noSlot (λ q. absurd (omega (arith, proper .count)))) refl
+
+  in-row : state (row s) e ≡ getD (s .states) e 0
+  in-row = getD-take (s .count) (s .states) e 0 h
+
+  pub carried-small : getD (s .states) e 0 < 128
+  carried-small = rw in-row at (proper .atomic (state (row s) e) (elem-state (row s) e (rw (length-row s proper) h)) .1)
+
+  pub carried-number : entryOf (getD (s .states) e 0 + 1) ≡ carriedAt s e
+  carried-number = rw (let q : getD (s .states) e 0 + 1 ≡ suc (getD (s .states) e 0) = omega arith in q) (ap {B = Option ℕ} some (sym in-row)) ∙ sym carried-some
+
+-- A LEG IS WRITTEN BEFORE what is played to its end
+pub played-on : (m : Model) (a b : Session) (few most : ℕ) (run₀ run run′ : List ℕ) (at at′ : ℕ) → Leg m a b few run at run′ at′ → Played m b most run₀ run at → Played m a (few + most) run₀ run′ at′
+played-on m a b few most run₀ run run′ at at′ g h = record {
+  places = g .places ++ h .places;
+  plays = leads-plays (programOf m) (questionOf m) a b (g .places) (h .places) (g .leads) (h .plays);
+  numerable = numerable-append (g .places) (h .places) (g .numerable) (h .numerable);
+  written = g .written ∙ ap (λ (t : List ℕ). backwards t at (g .places)) (h .written) ∙ (rw (h .index, ← zero-add (length (h .places))) (backwards-on run₀ 0 (h .places) (g .places)));
+  index = omega (arith, g .index, h .index, length-append (g .places) (h .places));
+  few = omega (arith, g .few, h .few, length-append (g .places) (h .places));
+}
+
+-- what is carried on is not made
+pub carried-on : (n : ℕ) (c : Option ℕ) → effort n c c ≡ 0
+carried-on n none = refl
+carried-on n (some c) = refl
+
+module _ (m : Model) (w : List ℕ) (s : States) (l : Levels) (table steps ways : List ℕ) (rec : Recorded m w s l table steps ways) where
+  small : (e : ℕ) → e < s .count → e < 128
+  small e h = omega (arith, rec .known .proper .count)
+
+  -- how slot e of level k + 1 came
+  came : (k e : ℕ) → k < m .stagecount → e < 128 → inRow (l .rows) (suc k) e ≡ true → (h : Bool) → holder m k ≡ h → Next h m (row s) w ways k (inRow (l .rows) k) e
+  came k e b g q h z = subst (λ (d : Bool). Next d m (row s) w ways k (inRow (l .rows) k) e) z (rec .levels .stages k b .bits e g .0 q)
+
+  -- THE SLOTS of a level are those of found states; as long as nothing is carried there is bit 0 alone
+  abbrev Slot : Bool → ℕ → Type 0
+  Slot true e = e < s .count
+  Slot false e = e ≡ 0
+
+  slot-of : (k : ℕ) → k ≤ m .stagecount → (e : ℕ) → e < 128 → inRow (l .rows) k e ≡ true → Slot (chosen m k) e
+  slot-of zero h e g q = rec .levels .begins e g .0 q
+  slot-of (suc k) h e g q = go (slot-of k (omega arith) e g) (holder m k) refl
+    where
+      go : (inRow (l .rows) k e ≡ true → Slot (chosen m k) e) → (d : Bool) → holder m k ≡ d → Slot (chosen m (suc k)) e
+      go ih false z = subst (λ (b : Bool). Slot b e) (sym (chosen-without m k z)) (ih (came k e (omega arith) g q false z .0))
+      go ih true z = subst (λ (b : Bool). Slot b e) (sym (chosen-with m k z)) (omega (arith, came k e (omega arith) g q true z .0, length-row s (rec .known .proper)))
+
+  -- where the last level has a slot, this is where the carried object ends
+  module _ (k e : ℕ) (h : k ≤ m .stagecount) (g : e < 128) (q : inRow (l .rows) k e ≡ true) where
+    pub sits-there : chosen m k ≡ true → Sits (chosen m k) s l k e
+    sits-there c = subst (λ (b : Bool). Sits b s l k e) (sym c) (subst (λ (b : Bool). Slot b e) c (slot-of k h e g q), q)
+
+    pub sits-nowhere : chosen m k ≡ false → Sits (chosen m k) s l k noSlot
+    sits-nowhere c = subst (λ (b : Bool). Sits b s l k noSlot) (sym c) (refl, subst (λ (u : ℕ). inRow (l .rows) k u ≡ true) (subst (λ (b : Bool). Slot b e) c (slot-of k h e g q)) q)
+
+  -- a slot, or none
+  pub sits-either : (b : Bool) (i e : ℕ) → Sits b s l i e → (e ≡ noSlot) ⊎ (e < s .count)
+  sits-either true i e h = inr (h .0)
+  sits-either false i e h = inl (h .0)
+
+  -- what holds with the facts of the work area is met
+  meets : (σ : ℕ → ℕ) (b : Body) → Holds (row s) (In (tableOf w)) σ b → Meets (programOf m) (row s) σ b
+  meets σ b h = more-facts (row s) (In (tableOf w)) (Derived (programOf m) (row s)) (λ r os d. rec .known .exact .facts r os .0 d) σ b h
+
+  -- STAGE k, from slot e of level k + 1 back
+  module _ (k e : ℕ) (b : k < m .stagecount) (sits : Sits (chosen m (suc k)) s l (suc k) e) where
+    -- it has not the carried variable: the same slot
+    pub without-sits : holder m k ≡ false → Sits (chosen m k) s l k e × Meetable m s k (carriedAt s e) (carriedAt s e)
+    without-sits z = go (chosen m k) (subst (λ (d : Bool). Sits d s l (suc k) e) (chosen-without m k z) sits)
       where
-        go : (n : ℕ) → n ≡ 0 → Came (programOf m) (questionOf m) (m .carried) (row s) (rowsOf l) (suc k) j (arrivalOf (suc k) n (originOf l (suc k) j))
-            → (k < m .stagecount) × (originOf l (suc k) j < length (rowsOf l k)) × Meetable m s k (entry (rowsOf l) k (originOf l (suc k) j)) (entry (rowsOf l) (suc k) j)
-        go zero z h = (rw (stages m (rec .known .model)) at (h .0), h .1, h .2)
-        go (suc n) z h = absurd (omega arith)
+        same : (σ : ℕ → ℕ) (c : Option ℕ) → Hands (m .carried) (row s) (getD (questionOf m) k []) σ c c
+        same σ none = z
+        same σ (some c) = ((λ y. clash y z), refl)
 
-    -- the carried object was moved
-    pub moved-before : lineTo l (suc k) j ≢ 0
-        → (suc k < m .stagecount) × (originOf l (suc k) j < j) × Moves (programOf m) (row s) (line (programOf m) (lineTo l (suc k) j)) (entry (rowsOf l) (suc k) (originOf l (suc k) j)) (entry (rowsOf l) (suc k) j)
-    moved-before z = go (lineTo l (suc k) j) z (rec .rows .arrived (suc k) j inside)
-      where
-        go : (n : ℕ) → n ≢ 0 → Came (programOf m) (questionOf m) (m .carried) (row s) (rowsOf l) (suc k) j (arrivalOf (suc k) n (originOf l (suc k) j))
-            → (suc k < m .stagecount) × (originOf l (suc k) j < j) × Moves (programOf m) (row s) (line (programOf m) n) (entry (rowsOf l) (suc k) (originOf l (suc k) j)) (entry (rowsOf l) (suc k) j)
-        go zero z h = absurd (z refl)
-        go (suc n) z h = (rw (stages m (rec .known .model)) at (h .0), h .1, h .2)
+        go : (d : Bool) → Sits d s l (suc k) e → Sits d s l k e × Meetable m s k (carriedAt s e) (carriedAt s e)
+        go true q = let n = came k e b (small e (q .0)) (q .1) false z in ((q .0, n .0), (n .1 .0, meets (n .1 .0) (getD (questionOf m) k []) (n .1 .1), same (n .1 .0) (carriedAt s e)))
+        go false q = let n = came k 0 b (omega arith) (q .1) false z in ((q .0, n .0), (n .1 .0, meets (n .1 .0) (getD (questionOf m) k []) (n .1 .1), same (n .1 .0) (carriedAt s e)))
 
-    -- its line has a number that leaves the object its room
-    pub moved-small : lineTo l (suc k) j ≢ 0 → lineTo l (suc k) j < limit.text
-    moved-small z = small-line m (rec .known .model) (λ (L : Line). Moves (programOf m) (row s) L (entry (rowsOf l) (suc k) (originOf l (suc k) j)) (entry (rowsOf l) (suc k) j)) (λ f. f) (lineTo l (suc k) j) (moved-before z .2)
+    -- it has the carried variable
+    module _ (z : holder m k ≡ true) where
+      pub with-slot : e < s .count
+      with-slot = subst (λ (d : Bool). Sits d s l (suc k) e) (chosen-with m k z) sits .0
 
-    pub moved-number : lineTo l (suc k) j ≢ 0 → numeral (Step (lineTo l (suc k) j) (s .count)) ≡ numberOf (step (lineTo l (suc k) j) (s .count))
-    moved-number z = let a = moved-small z in let b = rec .known .proper .count in omega arith
+      next : Next true m (row s) w ways k (inRow (l .rows) k) e
+      next = came k e b (small e with-slot) (subst (λ (d : Bool). Sits d s l (suc k) e) (chosen-with m k z) sits .1) true z
+
+      -- and nothing was carried before
+      pub made-sits : chosen m k ≡ false → Sits (chosen m k) s l k noSlot × Meetable m s k none (carriedAt s e)
+      made-sits c = (
+        subst (λ (d : Bool). Sits d s l k noSlot) (sym c) (refl, subst (λ (d : Bool). Open ways d (inRow (l .rows) k) e) c (next .1)),
+        rw (carried-some s (rec .known .proper) e with-slot) (next .2 .0, meets (next .2 .0) (getD (questionOf m) k []) (next .2 .2), (z, ap (state (row s)) (sym (next .2 .1)))),
+      )
+
+      -- or its object could come to this slot from one of the level before
+      module _ (c : chosen m k ≡ true) where
+        pub kept-meets : Meetable m s k (carriedAt s e) (carriedAt s e)
+        kept-meets = rw (carried-some s (rec .known .proper) e with-slot) (next .2 .0, meets (next .2 .0) (getD (questionOf m) k []) (next .2 .2), ((λ y. ap (state (row s)) (next .2 .1)), refl))
+
+        pub kept-joined : Joined ways (l .rows) (s .count) k e
+        kept-joined = let o = subst (λ (d : Bool). Open ways d (inRow (l .rows) k) e) c (next .1) in (o .0, rec .comes .bits (o .0) e (small e with-slot) .0 (o .3) .0, (o .2, o .3))
+
+        module _ (u : ℕ) (h : u < s .count) (j : Joins ways (l .rows) k e u) where
+          pub kept-sits : Sits (chosen m k) s l k u
+          kept-sits = subst (λ (d : Bool). Sits d s l k u) (sym c) (h, j .0)
+
+          pub kept-comes : Comes (programOf m) (row s) (state (row s) u) (state (row s) e)
+          kept-comes = rec .comes .bits u e (small e with-slot) .0 (j .1) .2
 
   module _ (run₀ : List ℕ) where
-    -- THE LAST: an entry of the last level
-    pub behind-start : (j : ℕ) → j < length (rowsOf l (m .stagecount)) → Behind m s l run₀ run₀ (m .stagecount) j 0
-    behind-start j h = record {
-      places = [];
-      plays = ends (entry (rowsOf l) (m .stagecount) j);
-      numerable = tt;
-      written = sym (backwards-none run₀ 0);
-      index = refl;
-      inside = h;
+    -- THE LAST: a slot of the last level
+    pub behind-start : (e : ℕ) → Sits (chosen m (m .stagecount)) s l (m .stagecount) e → Behind m s l run₀ run₀ (m .stagecount) e 0
+    behind-start e h = record {
       level = omega arith;
-      before = 0;
-      ranked = λ q. absurd (omega arith);
-      few = fits (entry (rowsOf l) (m .stagecount) j);
+      sits = h;
+      most = 0;
+      played = record { places = []; plays = ends (carriedAt s e); numerable = tt; written = sym (backwards-none run₀ 0); index = refl; few = omega arith };
+      few = fits (carriedAt s e);
     }
       where
         ends : (c : Option ℕ) → standing m s (m .stagecount) c .met ≡ length (questionOf m)
         ends none = sym (stages m (rec .known .model))
         ends (some c) = sym (stages m (rec .known .model))
 
-        fits : (c : Option ℕ) → 0 + m .stagecount + moves (s .count) (m .stagecount) c 0 ≤ m .stagecount + suc (m .stagecount * (s .count - 1))
+        fits : (c : Option ℕ) → 0 + ahead (s .count) (m .stagecount) c ≤ m .stagecount + suc (m .stagecount * (s .count - 1))
         fits none = omega arith
         fits (some c) = omega arith
 
+    -- at most 509 places are written
+    pub behind-few : (run : List ℕ) (i e at : ℕ) (h : Behind m s l run₀ run i e at) → h .most ≤ 509
+    behind-few run i e at h = let a = h .few in let b = rec .known .model .stages in let c = rec .known .proper .count in omega (arith, mul-le-mul b (let k : s .count - 1 ≤ 126 = omega arith in k))
+
+    pub behind-index : (run : List ℕ) (i e at : ℕ) → Behind m s l run₀ run i e at → at ≤ 509
+    behind-index run i e at h = omega (arith, behind-few run i e at h, h .played .index, h .played .few)
+
     -- THE FIRST: with no stage met nothing is carried
-    pub behind-end : (run : List ℕ) (i j at : ℕ) → i ≡ 0 → Behind m s l run₀ run i j at → Walked m s run₀ run at
-    behind-end run i j at z h = record {
-      places = h .places;
-      plays = subst (λ (c : Option ℕ). Plays (programOf m) (questionOf m) (standing m s 0 c) (h .places)) bare (subst (λ (n : ℕ). Plays (programOf m) (questionOf m) (standing m s n (entry (rowsOf l) n j)) (h .places)) z (h .plays));
-      numerable = h .numerable;
-      written = h .written;
-      index = h .index;
-      few = let a = h .few in let b = rec .known .model .stages in let c = rec .known .proper .count in omega (arith, mul-le-mul b (let k : s .count - 1 ≤ 126 = omega arith in k));
-    }
+    pub behind-end : (run : List ℕ) (i e at : ℕ) → i ≡ 0 → Behind m s l run₀ run i e at → Walked m s run₀ run at
+    behind-end run i e at z h = go (subst (λ (n : ℕ). Behind m s l run₀ run n e at) z h)
       where
-        bare : entry (rowsOf l) 0 j ≡ none
-        bare = level-zero (programOf m) (rec .known .model .safe) (questionOf m) (m .carried) (rec .known .model .carries) (row s) (by s) (from s) (rec .known .found)
-            (rowsOf l) (cameOf l) (rec .rows) (suc j) j (omega arith) (subst (λ (n : ℕ). j < length (rowsOf l n)) z (h .inside))
+        go : Behind m s l run₀ run 0 e at → Walked m s run₀ run at
+        go k =
+            let p = subst (λ (u : ℕ). Played m (standing m s 0 (carriedAt s u)) (k .most) run₀ run at) (k .sits .0) (k .played) in
+            record { places = p .places; plays = p .plays; numerable = p .numerable; written = p .written; index = p .index; few = omega (arith, p .few, behind-few run 0 e at k) }
 
-    module _ (run : List ℕ) (k j at : ℕ) (h : Behind m s l run₀ run (suc k) j at) where
-      -- there is room for a leg
-      pub behind-room : limit.run ≤ length run → at + s .count + 1 ≤ length run
-      behind-room r = let a = h .few in let b = rec .known .model .stages in let c = rec .known .proper .count in let d = h .index in omega (arith, mul-le-mul b (let k : s .count - 1 ≤ 126 = omega arith in k))
+    -- a level that is not the first, with the one before
+    pub behind-level : (run : List ℕ) (i e at : ℕ) → 0 < i → Behind m s l run₀ run i e at → Behind m s l run₀ run (suc (i - 1)) e at
+    behind-level run i e at p h = let z : i ≡ suc (i - 1) = omega arith in subst (λ (n : ℕ). Behind m s l run₀ run n e at) z h
 
-      -- A MEETING is written before
-      pub behind-met : lineTo l (suc k) j ≡ 0 → (run′ : List ℕ) (at′ : ℕ)
-          → Leg m (standing m s k (entry (rowsOf l) k (originOf l (suc k) j))) (standing m s (suc k) (entry (rowsOf l) (suc k) j)) (suc (effort (s .count) (entry (rowsOf l) k (originOf l (suc k) j)) (entry (rowsOf l) (suc k) j))) run at run′ at′
-          → Behind m s l run₀ run′ k (originOf l (suc k) j) at′
-      behind-met z run′ at′ g = record {
-        places = g .places ++ h .places;
-        plays = leads-plays (programOf m) (questionOf m) _ _ (g .places) (h .places) (g .leads) (h .plays);
-        numerable = numerable-append (g .places) (h .places) (g .numerable) (h .numerable);
-        written = g .written ∙ ap (λ (t : List ℕ). backwards t at (g .places)) (h .written) ∙ (rw (h .index, ← zero-add (length (h .places))) (backwards-on run₀ 0 (h .places) (g .places)));
-        index = omega (arith, g .index, h .index, length-append (g .places) (h .places));
-        inside = t .1;
-        level = omega (arith, t .0);
-        before = rank (rowsOf l) k (originOf l (suc k) j);
-        ranked = λ q. refl;
-        few = rw length-append (fits (entry (rowsOf l) k (originOf l (suc k) j)) (entry (rowsOf l) (suc k) j) refl (t .2 .2) (g .few) (h .few));
-      }
+    -- ONE STAGE BACK
+    module _ (run : List ℕ) (k e at : ℕ) (h : Behind m s l run₀ run (suc k) e at) where
+      here : k < m .stagecount
+      here = h .level
+
+      behind-by : (d most : ℕ) (run′ : List ℕ) (at′ : ℕ) → Sits (chosen m k) s l k d → Played m (standing m s k (carriedAt s d)) most run₀ run′ at′
+          → most + ahead (s .count) k (carriedAt s d) ≤ h .most + ahead (s .count) (suc k) (carriedAt s e) → Behind m s l run₀ run′ k d at′
+      behind-by d most run′ at′ sits p f = record { level = omega (arith, h .level); sits = sits; most = most; played = p; few = omega (arith, f, h .few) }
+
+      -- the stage is met without the carried variable
+      pub back-without : holder m k ≡ false → (run′ : List ℕ) (at′ : ℕ)
+          → Leg m (standing m s k (carriedAt s e)) (standing m s (suc k) (carriedAt s e)) (suc (effort (s .count) (carriedAt s e) (carriedAt s e))) run at run′ at′ → Behind m s l run₀ run′ k e at′
+      back-without z run′ at′ g = behind-by e _ run′ at′ (without-sits k e here (h .sits) z .0) (played-on m _ _ _ (h .most) run₀ run run′ at at′ g (h .played)) (fits (carriedAt s e))
         where
-          t : (k < m .stagecount) × (originOf l (suc k) j < length (rowsOf l k)) × Meetable m s k (entry (rowsOf l) k (originOf l (suc k) j)) (entry (rowsOf l) (suc k) j)
-          t = met-before k j (h .inside) z
+          fits : (c : Option ℕ) → suc (effort (s .count) c c) + h .most + ahead (s .count) k c ≤ h .most + ahead (s .count) (suc k) c
+          fits none = omega arith
+          fits (some c) = omega arith
 
-          fits : (c d : Option ℕ) → entry (rowsOf l) k (originOf l (suc k) j) ≡ c → Hands (m .carried) (row s) (getD (questionOf m) k []) (t .2 .0) c d
-              → length (g .places) ≤ suc (effort (s .count) c d) → length (h .places) + suc k + moves (s .count) (suc k) d (h .before) ≤ m .stagecount + suc (m .stagecount * (s .count - 1))
-              → length (g .places) + length (h .places) + k + moves (s .count) k c (rank (rowsOf l) k (originOf l (suc k) j)) ≤ m .stagecount + suc (m .stagecount * (s .count - 1))
-          fits none none e q a b = omega arith
-          fits none (some d) e q a b = omega arith
-          fits (some c) none e q a b = absurd q
-          fits (some c) (some d) e q a b = omega (arith, rank-few k (originOf l (suc k) j) c (t .1) e)
+      module _ (z : holder m k ≡ true) where
+        -- the carried object is made for it
+        pub back-made : chosen m k ≡ false → (run′ : List ℕ) (at′ : ℕ)
+            → Leg m (standing m s k none) (standing m s (suc k) (carriedAt s e)) (suc (effort (s .count) none (carriedAt s e))) run at run′ at′ → Behind m s l run₀ run′ k noSlot at′
+        back-made c run′ at′ g = behind-by noSlot _ run′ at′ (made-sits k e here (h .sits) z c .0) (played-on m _ _ _ (h .most) run₀ run run′ at at′ g (h .played))
+            (rw (carried-some s (rec .known .proper) e (with-slot k e here (h .sits) z)) (omega arith))
 
-      -- A MOVE is written before
-      pub behind-moved : lineTo l (suc k) j ≢ 0 → Behind m s l run₀ (set run at (numberOf (step (lineTo l (suc k) j) (s .count)))) (suc k) (originOf l (suc k) j) (at + 1)
-      behind-moved z = go (line (programOf m) (lineTo l (suc k) j)) refl (entry (rowsOf l) (suc k) (originOf l (suc k) j)) (entry (rowsOf l) (suc k) j) refl refl (t .2)
-        where
-          t : (suc k < m .stagecount) × (originOf l (suc k) j < j) × Moves (programOf m) (row s) (line (programOf m) (lineTo l (suc k) j)) (entry (rowsOf l) (suc k) (originOf l (suc k) j)) (entry (rowsOf l) (suc k) j)
-          t = moved-before k j (h .inside) z
-
-          go : (L : Line) → line (programOf m) (lineTo l (suc k) j) ≡ L → (c d : Option ℕ) → entry (rowsOf l) (suc k) (originOf l (suc k) j) ≡ c → entry (rowsOf l) (suc k) j ≡ d → Moves (programOf m) (row s) L c d
-              → Behind m s l run₀ (set run at (numberOf (step (lineTo l (suc k) j) (s .count)))) (suc k) (originOf l (suc k) j) (at + 1)
-          go (rule r xs b) e c d p q g = absurd g
-          go (new r b) e c d p q g = absurd g
-          go other e c d p q g = absurd g
-          go (next x plus minus b) e none d p q g = absurd g
-          go (next x plus minus b) e (some c) none p q g = no-none (g .0)
-          go (next x plus minus b) e (some c) (some d) p q g = record {
-            places = step (lineTo l (suc k) j) (s .count) ∷ h .places;
-            plays = rw p (subst (λ (n : ℕ). Plays (programOf m) (questionOf m) (standing m s (suc k) (some c)) (step (lineTo l (suc k) j) n ∷ h .places)) (length-row s (rec .known .proper))
-                (leads-plays (programOf m) (questionOf m) (standing m s (suc k) (some c)) (standing m s (suc k) (some d)) (step (lineTo l (suc k) j) (length (row s)) ∷ []) (h .places)
-                (move-leads (programOf m) (rec .known .model .safe) (questionOf m) (m .carried) (rec .known .model .carries) (row s) (by s) (from s) (rec .known .found) (suc k) c d (next x plus minus b) (lineTo l (suc k) j)
-                (rw (stages m (rec .known .model)) (t .0)) e g)
-                (rw q at (h .plays))));
-            numerable = (
-              (
-                let a = moved-small k j (h .inside) z in omega arith,
-                let a = rec .known .proper .count in omega arith,
-              ),
-              h .numerable,
-            );
-            written = ap (λ (r : List ℕ). set r at (numberOf (step (lineTo l (suc k) j) (s .count)))) (h .written)
-                ∙ (rw (h .index, ← zero-add (length (h .places))) (backwards-more run₀ 0 (h .places) (step (lineTo l (suc k) j) (s .count))));
-            index = let a = h .index in omega arith;
-            inside = omega (arith, t .1, h .inside);
-            level = h .level;
-            before = rank (rowsOf l) (suc k) (originOf l (suc k) j);
-            ranked = λ r. refl;
-            few = rw p (omega (arith, rw q at (h .few), h .ranked (t .0), rank-less (rowsOf l (suc k)) (originOf l (suc k) j) j c (t .1) (omega (arith, t .1, h .inside)) p));
-          }
-
-  -- THE SAME for a level that is not the first
-  below-129 : (i j : ℕ) → j < length (rowsOf l i) → j < 129
-  below-129 i j h = omega (arith, length-rows l (rec .levels) i, rec .levels .few i)
-
-  pub back-inside : (run₀ run : List ℕ) (i j at : ℕ) → Behind m s l run₀ run i j at → (i ≤ 4) × (j < 129)
-  back-inside run₀ run i j at h = (let a = rec .known .model .stages in omega (arith, h .level), below-129 i j (h .inside))
-
-  pub back-origin : (i j : ℕ) → 0 < i → j < length (rowsOf l i) → originOf l i j < 129
-  back-origin zero j p h = absurd (omega arith)
-  back-origin (suc k) j p h = ⊎-elim
-      (λ (z : lineTo l (suc k) j ≡ 0). below-129 k _ (met-before k j h z .1))
-      (λ (z : lineTo l (suc k) j ≢ 0). omega (arith, moved-before k j h z .1, below-129 (suc k) j h))
-      (same? (lineTo l (suc k) j) 0)
-
-  pub back-meets : (i j : ℕ) → 0 < i → j < length (rowsOf l i) → lineTo l i j ≡ 0
-      → (i - 1 < m .stagecount) × (originOf l i j < 129) × Meetable m s (i - 1) (entryOf (getD (l .entries) ((i - 1) * 129 + originOf l i j) 0)) (entryOf (getD (l .entries) (i * 129 + j) 0))
-  back-meets zero j p h z = absurd (omega arith)
-  back-meets (suc k) j p h z =
-      let e : suc k - 1 ≡ k = omega arith in
-      let t = met-before k j h z in
-      rw e (t .0, back-origin (suc k) j p h, rw (entry-number k (originOf l (suc k) j) (t .1), entry-number (suc k) j h) at (t .2))
-
-  pub back-met : (run₀ run : List ℕ) (i j at : ℕ) → 0 < i → Behind m s l run₀ run i j at → lineTo l i j ≡ 0 → (run′ : List ℕ) (at′ : ℕ)
-      → Leg m (standing m s (i - 1) (entryOf (getD (l .entries) ((i - 1) * 129 + originOf l i j) 0))) (standing m s (suc (i - 1)) (entryOf (getD (l .entries) (i * 129 + j) 0)))
-      (suc (effort (s .count) (entryOf (getD (l .entries) ((i - 1) * 129 + originOf l i j) 0)) (entryOf (getD (l .entries) (i * 129 + j) 0)))) run at run′ at′
-      → Behind m s l run₀ run′ (i - 1) (originOf l i j) at′
-  back-met run₀ run zero j at p h z run′ at′ g = absurd (omega arith)
-  back-met run₀ run (suc k) j at p h z run′ at′ g =
-      let e : suc k - 1 ≡ k = omega arith in
-      let t = met-before k j (h .inside) z in
-      rw e (behind-met run₀ run k j at h z run′ at′ (rw (entry-number k (originOf l (suc k) j) (t .1), entry-number (suc k) j (h .inside)) (rw e at g)))
-
-  pub back-moved : (run₀ run : List ℕ) (i j at : ℕ) → 0 < i → Behind m s l run₀ run i j at → lineTo l i j ≢ 0
-      → Behind m s l run₀ (set run at (numeral (Step (lineTo l i j) (s .count)))) i (originOf l i j) (at + 1) × (originOf l i j < j)
-  back-moved run₀ run zero j at p h z = absurd (omega arith)
-  back-moved run₀ run (suc k) j at p h z = (rw (moved-number k j (h .inside) z) (behind-moved run₀ run k j at h z), moved-before k j (h .inside) z .1)
-
-  pub back-room : (run₀ run : List ℕ) (i j at : ℕ) → 0 < i → Behind m s l run₀ run i j at → limit.run ≤ length run → at + s .count + 1 ≤ length run
-  back-room run₀ run zero j at p h r = absurd (omega arith)
-  back-room run₀ run (suc k) j at p h r = behind-room run₀ run k j at h r
+        -- the carried object comes to it
+        pub back-kept : chosen m k ≡ true → (u : ℕ) → u < s .count → Joins ways (l .rows) k e u → (run′ run″ : List ℕ) (at′ at″ : ℕ)
+            → Leg m (standing m s k (carriedAt s e)) (standing m s (suc k) (carriedAt s e)) (suc (effort (s .count) (carriedAt s e) (carriedAt s e))) run at run′ at′
+            → Leg m (standing m s k (some (state (row s) u))) (standing m s k (some (state (row s) e))) (s .count - 1) run′ at′ run″ at″ → Behind m s l run₀ run″ k u at″
+        back-kept c u b j run′ run″ at′ at″ g f = behind-by u _ run″ at″ (kept-sits k e here (h .sits) z c u b j)
+            (played-on m (standing m s k (carriedAt s u)) (standing m s k (carriedAt s e)) (s .count - 1) (suc (effort (s .count) (carriedAt s e) (carriedAt s e)) + h .most) run₀ run′ run″ at′ at″
+            (rw (carried-some s (rec .known .proper) u b, carried-some s (rec .known .proper) e slot) f) (played-on m _ _ _ (h .most) run₀ run run′ at at′ g (h .played)))
+            (rw (carried-some s (rec .known .proper) u b, carried-some s (rec .known .proper) e slot) (omega arith))
+          where
+            slot : e < s .count
+            slot = with-slot k e here (h .sits) z

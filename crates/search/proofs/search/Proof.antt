@@ -1,8 +1,11 @@
-use mathlib.Core.Path.{refl}
-use Rattle.search_entries.specs.Entries.{count}
-use Rattle.search.proofs.Laws.{saturated, reachable, verdict}
+use mathlib.Core.Path.{subst}
+use mathlib.Core.List.{List}
+use Prim.Native.Nat.{ℕ}
+use native.Mathlib.Omega.{arith}
+use borrow.Author.Tests.{not-true}
+use Rattle.facts_bits.specs.Bits.{Kept}
+use Rattle.search.proofs.Laws.{some-slot, exactly, no-more, reachable, verdict}
 use borrow.Author.Needs.{needs}
-use borrow.Author.Tests.{ltb-true}
 use Rattle.search.proofs.search.Statement.{statement}
 use Rattle.search.proofs.search.Tie as tie
 
@@ -12,35 +15,50 @@ reachable-requires c κs = search needs
 rising-requires : tie.Need-rising-requires
 rising-requires c κs = search needs
 
+tables-requires : tie.Need-tables-requires
+tables-requires c κs =
+    let s = c .before .before .before .before .before .before .before in
+    let q = c .before .before .before .before .reachable in
+    (s .pre .0, exactly (s .args .m) (s .pre .0) (q .last .0) (q .result) (q .ensures .0), no-more (s .args .m) (s .pre .0) (q .last .0) (q .result) (q .ensures .0))
+
 fill-requires : tie.Need-fill-requires
 fill-requires c κs = search needs
 
-mul-reached : tie.Need-mul-reached
-mul-reached c = search needs
+full-requires : tie.Need-full-requires
+full-requires c κs = search needs
 
-element-copy-out-reached : tie.Need-element-copy-out-reached
-element-copy-out-reached c = search needs
+keep-requires : tie.Need-keep-requires
+keep-requires c κs =
+    let s = c .before .before .before .before .before .before .before .before .before .before .before .before .before .before .before .before .before in
+    omega (arith, s .pre .0 .stages, c .before .before .before .before .fill .ensures .long)
+
+empty-requires : tie.Need-empty-requires
+empty-requires c κs = search needs
 
 same-length : tie.Need-same-length
 same-length c = search needs
 
 returns : tie.Need-returns
 returns c =
-    let s = c .before .before .before .before .before .before .before .before .before in
-    let q = c .before .before .before .before .before .before .reachable in
-    let f = c .before .fill in (
+    let s = c .before .before .before .before .before .before .before .before .before .before .before .before .before .before .before .before .before .before .before in
+    let m = s .args .m in
+    let q = c .before .before .before .before .before .before .before .before .before .before .before .before .before .before .before .before .reachable in
+    let f = c .before .before .before .before .before .before .fill in
+    let t = c .before .before .before .before .before .before .before .before .before .before .before .tables in
+    let row = c .before .keep in
+    let kept = subst (λ (all : List ℕ). Kept all (f .result .rows) (m .stagecount) (row .result)) (c .before .before .before .before .before .full .ensures) (row .ensures) in (
       record {
         proper = q .ensures .0 .proper;
-        reachable = reachable (s .args .m) (s .pre .0) (q .last .0) (q .result) (f .result) (q .ensures .0) (f .ensures);
-        listing = c .before .before .before .rising .ensures;
-        verdict = verdict (s .args .m) (s .pre .0) (q .last .0) (q .result) (f .result) (q .ensures .0) (f .ensures) _ refl;
+        reachable = reachable m (s .pre .0) (q .last .0) (q .result) (q .ensures .0);
+        listing = c .before .before .before .before .before .before .before .before .before .before .before .before .before .rising .ensures;
+        verdict = verdict m (s .pre .0) (q .last .0) (q .result) (q .ensures .0) (t .result .ways) (t .ensures .ways) (f .result) (f .ensures) (row .result) kept (c .empty .result) (c .empty .ensures);
+        entered = λ e. some-slot (f .result .rows) (row .result) (m .stagecount) kept (c .empty .result) (c .empty .ensures) (not-true (c .empty .result) e);
         found = q .ensures .0 .found;
-        levels = f .ensures .proper;
-        rows = f .ensures .rows;
-        entered = λ e. ltb-true 0 (count (f .result) (s .args .m .stagecount)) e;
+        whole = no-more m (s .pre .0) (q .last .0) (q .result) (q .ensures .0);
         agree = q .ensures .0 .agree;
         exact = q .ensures .0 .exact;
-        complete = saturated (s .args .m) (s .pre .0) (q .last .0) (q .result) (f .result) (q .ensures .0) (f .ensures);
+        moves = t .ensures;
+        levels = f .ensures;
       },
       q .ensures .1,
     )
@@ -51,8 +69,10 @@ search-spec =
     (tie.spec
     reachable-requires
     rising-requires
+    tables-requires
     fill-requires
-    mul-reached
-    element-copy-out-reached
+    full-requires
+    keep-requires
+    empty-requires
     same-length
     returns)

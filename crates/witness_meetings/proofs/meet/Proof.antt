@@ -7,8 +7,7 @@ use lib.ListN.{getD}
 use Rattle.semantics.specs.Tables.{seat}
 use Rattle.model.specs.Records.{numberIn, stageAt}
 use Rattle.search_states.specs.States.{row}
-use Rattle.search_entries.specs.Entries.{entryOf}
-use Rattle.witness_meetings.specs.Legs.{Meetable}
+use Rattle.witness_meetings.specs.Legs.{entryOf, Meetable}
 use Rattle.witness_meetings.proofs.Laws.{few-variables, carried-slot}
 use borrow.Author.Needs.{needs}
 use Rattle.witness_meetings.proofs.meet.Statement.{statement}

@@ -4,10 +4,10 @@ use lib.ListN.{length, length-set}
 use Rattle.model.specs.Records.{stageAt}
 use Rattle.facts_candidates.specs.Choices.{chosen}
 use Rattle.facts_holds.proofs.Laws.{fixed-at, at-fixed}
-use Rattle.search_entries.specs.Entries.{entryOf}
 use Rattle.witness_table.proofs.Laws.{length-backwards}
 use Rattle.witness_lineage.specs.Lineage.{linesTo}
 use Rattle.witness_lineage.proofs.Making.{length-places}
+use Rattle.witness_meetings.specs.Legs.{entryOf}
 use Rattle.witness_meetings.proofs.Laws.{free-chosen, few-variables, making-few, carried-shows, named-below, with-leg, with-leg-made, entry-there}
 use borrow.Author.Needs.{needs}
 use Rattle.witness_meetings.proofs.meet_with.Statement.{statement}

@@ -1,151 +1,191 @@
-use mathlib.Core.Path.{ap, _∙_}
-use Prim.Native.Nat.{_+_, _≤_, _<_}
+use mathlib.Core.Path.{_≡_, sym, ap, _∙_}
+use mathlib.Core.Bool.{true, false}
+use Prim.Native.Nat.{suc, _-_, _≤_}
 use native.Mathlib.Omega.{arith}
-use lib.ListN.{length, length-set}
+use borrow.Author.Tests.{not-true, not-false}
+use lib.ListN.{length}
+use Rattle.search_levels.specs.Levels.{holder, chosen}
+use Rattle.witness_meetings.specs.Legs.{entryOf}
 use Rattle.witness_table.proofs.Laws.{length-backwards}
-use Rattle.witness_walk.specs.Walk.{originOf}
-use Rattle.witness_walk.proofs.Laws.{back-inside, back-origin, back-meets, back-met, back-moved, back-room}
+use Rattle.witness_walk.specs.Walk.{Behind}
+use Rattle.witness_walk.proofs.Laws.{carried-on, sits-either, without-sits, with-slot, made-sits, kept-meets, kept-joined, kept-comes, behind-index, behind-level, back-without, back-made, back-kept}
 use borrow.Author.Needs.{needs}
 use Rattle.witness_walk.proofs.back.Statement.{statement}
 use Rattle.witness_walk.proofs.back.Tie as tie
 
--- the entry is within its level's room
-inside : (c : tie.Start) → let a = c .args in (a .p .level ≤ 4) × (a .p .entry < 129)
-inside c =
-    let p = c .pre in
-    let a = c .args in
-    back-inside (a .m) (a .work .now) (a .s) (a .t6) (p .0) (p .4 .0) (a .run .now) (a .p .level) (a .p .entry) (a .p .at) (p .4 .1)
-
-origin : (c : tie.Start) → let a = c .args in originOf (a .t6) (a .p .level) (a .p .entry) < 129
-origin c =
-    let p = c .pre in
-    let a = c .args in
-    back-origin (a .m) (a .work .now) (a .s) (a .t6) (p .0) (a .p .level) (a .p .entry) (p .2) (p .4 .1 .inside)
+-- what is behind the slot, with the level before
+behind : (c : tie.Start) → let a = c .args in Behind (a .m) (a .s) (a .l) (c .pre .4 .0) (a .run .now) (suc (a .p .level - 1)) (a .p .slot) (a .p .at)
+behind c = let p = c .pre in let a = c .args in behind-level (a .m) (a .work .now) (a .s) (a .l) (a .table .now) (a .steps .now) (a .ways .now) (p .0) (p .4 .0) (a .run .now) (a .p .level) (a .p .slot) (a .p .at) (p .2) (p .4 .1)
 
 -- there is room for the places
-room : (c : tie.Start) → let a = c .args in a .p .at + a .s .count + 1 ≤ length (a .run .now)
-room c =
-    let p = c .pre in
-    let a = c .args in
-    back-room (a .m) (a .work .now) (a .s) (a .t6) (p .0) (p .4 .0) (a .run .now) (a .p .level) (a .p .entry) (a .p .at) (p .2) (p .4 .1) (p .3)
+room : (c : tie.Start) → c .args .p .at ≤ 509
+room c = let p = c .pre in let a = c .args in behind-index (a .m) (a .work .now) (a .s) (a .l) (a .table .now) (a .steps .now) (a .ways .now) (p .0) (p .4 .0) (a .run .now) (a .p .level) (a .p .slot) (a .p .at) (p .4 .1)
 
-mul-here : tie.Need-mul-here
-mul-here c = search needs
+-- whether the stage has the carried variable, and whether an object is carried before it
+without : (c : tie.Then1) → holder (c .before .before .before .before .before .before .before .before .before .before .args .m) (c .before .before .before .before .before .before .before .before .before .before .args .p .level - 1) ≡ false
+without c = sym (c .before .holds .ensures) ∙ not-true (c .before .holds .result) (c .if1 .taken)
 
-add-here : tie.Need-add-here
-add-here c = let i = inside (c .before .before .before .before) in omega arith
+has : (c : tie.Else1) → holder (c .before .before .before .before .before .before .before .before .before .before .args .m) (c .before .before .before .before .before .before .before .before .before .before .args .p .level - 1) ≡ true
+has c = sym (c .before .holds .ensures) ∙ not-false (c .before .holds .result) (c .if1 .left)
 
-mul-line : tie.Need-mul-line
-mul-line c = let i = inside (c .before .before .before .before) in omega arith
+nothing : (c : tie.Then2) → chosen (c .before .before .before .before .before .before .before .before .before .before .before .before .args .m) (c .before .before .before .before .before .before .before .before .before .before .before .before .args .p .level - 1) ≡ false
+nothing c = sym (c .before .carries .ensures) ∙ not-true (c .before .carries .result) (c .if2 .taken)
 
-element-copy-out-line : tie.Need-element-copy-out-line
-element-copy-out-line c = let i = inside (c .before .before .before .before) in omega (arith, c .before .before .before .before .pre .0 .levels .lines)
+something : (c : tie.Else2) → chosen (c .before .before .before .before .before .before .before .before .before .before .before .before .args .m) (c .before .before .before .before .before .before .before .before .before .before .before .before .args .p .level - 1) ≡ true
+something c = sym (c .before .carries .ensures) ∙ not-false (c .before .carries .result) (c .if2 .left)
 
-mul-origin : tie.Need-mul-origin
-mul-origin c = let i = inside (c .before .before .before .before .before) in omega arith
+sub-k : tie.Need-sub-k
+sub-k c = search needs
 
-element-copy-out-origin : tie.Need-element-copy-out-origin
-element-copy-out-origin c = let i = inside (c .before .before .before .before .before) in omega (arith, c .before .before .before .before .before .pre .0 .levels .origins)
+carried-requires : tie.Need-carried-requires
+carried-requires c κs =
+    let b = c .before .before .before .before .before .before .before in
+    let p = b .pre in
+    let a = b .args in
+    (p .0 .known .proper, sits-either (a .m) (a .work .now) (a .s) (a .l) (a .table .now) (a .steps .now) (a .ways .now) (p .0) (chosen (a .m) (a .p .level)) (a .p .level) (a .p .slot) (p .4 .1 .sits))
 
-cast-origin : tie.Need-cast-origin
-cast-origin c = let i = origin (c .before .before .before .before .before .before) in omega arith
-
-sub-below : tie.Need-sub-below
-sub-below c = search needs
-
-mul-from : tie.Need-mul-from
-mul-from c = search needs
-
-add-from : tie.Need-add-from
-add-from c = let i = inside (c .before .before .before .before .before .before .before) in let o = origin (c .before .before .before .before .before .before .before) in omega arith
-
-mul-meet : tie.Need-mul-meet
-mul-meet c = let i = inside (c .before .before .before .before .before .before .before .before) in let o = origin (c .before .before .before .before .before .before .before .before) in omega arith
-
-element-copy-out-meet : tie.Need-element-copy-out-meet
-element-copy-out-meet c = let i = inside (c .before .before .before .before .before .before .before .before) in let o = origin (c .before .before .before .before .before .before .before .before) in omega (arith, c .before .before .before .before .before .before .before .before .pre .0 .levels .entries)
-
-mul-meet-2 : tie.Need-mul-meet-2
-mul-meet-2 c = let i = inside (c .before .before .before .before .before .before .before .before .before) in omega arith
-
-element-copy-out-meet-2 : tie.Need-element-copy-out-meet-2
-element-copy-out-meet-2 c = let i = inside (c .before .before .before .before .before .before .before .before .before) in omega (arith, c .before .before .before .before .before .before .before .before .before .pre .0 .levels .entries)
+holds-requires : tie.Need-holds-requires
+holds-requires c κs = let b = c .before .before .before .before .before .before .before .before in (b .pre .0 .known .model, behind b .level)
 
 meet-requires : tie.Need-meet-requires
 meet-requires c κs =
-    let b = c .before .before .before .before .before .before .before .before .before .before in
+    let b = c .before .before .before .before .before .before .before .before .before .before .before in
     let p = b .pre in
     let a = b .args in
-    let t = back-meets (a .m) (a .work .now) (a .s) (a .t6) (p .0) (a .p .level) (a .p .entry) (p .2) (p .4 .1 .inside) (c .before .before .before .if1 .taken) in
-    (p .0 .known, p .1, t .0, t .2, omega (arith, room b))
+    let h = behind b in (
+      p .0 .known,
+      p .1,
+      h .level,
+      rw (c .before .before .before .carried .ensures) (without-sits (a .m) (a .work .now) (a .s) (a .l) (a .table .now) (a .steps .now) (a .ways .now) (p .0) (a .p .level - 1) (a .p .slot) (h .level) (h .sits) (without (c .before)) .1),
+      omega (arith, room b, p .0 .known .proper .count, p .3),
+    )
 
 same-length : tie.Need-same-length
 same-length c = search needs
 
 returns : tie.Need-returns
 returns c =
+    let b = c .before .before .before .before .before .before .before .before .before .before .before .before .before .before in
+    let p = b .pre in
+    let a = b .args in
+    let g = c .before .before .meet .ensures in (
+      λ run₀ h. back-without (a .m) (a .work .now) (a .s) (a .l) (a .table .now) (a .steps .now) (a .ways .now) (p .0) run₀ (a .run .now) (a .p .level - 1) (a .p .slot) (a .p .at) (behind-level (a .m) (a .work .now) (a .s) (a .l) (a .table .now) (a .steps .now) (a .ways .now) (p .0) run₀ (a .run .now) (a .p .level) (a .p .slot) (a .p .at) (p .2) h) (without (c .before .before .before .before)) _ _ (rw (c .before .before .before .before .before .before .carried .ensures) at g),
+      omega (arith, p .2),
+      ap length (g .written) ∙ length-backwards _ _ _,
+    )
+
+carries-requires : tie.Need-carries-requires
+carries-requires c κs = let b = c .before .before .before .before .before .before .before .before .before .before in (b .pre .0 .known .model, omega (arith, behind b .level))
+
+meet-requires-2 : tie.Need-meet-requires-2
+meet-requires-2 c κs =
     let b = c .before .before .before .before .before .before .before .before .before .before .before .before .before in
     let p = b .pre in
     let a = b .args in
-    let o = origin b in (
-      λ run₀ h. back-met (a .m) (a .work .now) (a .s) (a .t6) (p .0) run₀ (a .run .now) (a .p .level) (a .p .entry) (a .p .at) (p .2) h (c .before .before .before .before .before .before .if1 .taken) _ _ (c .before .before .meet .ensures),
-      omega arith,
-      ap length (c .before .before .meet .ensures .written) ∙ length-backwards _ _ _,
+    let h = behind b in (
+      p .0 .known,
+      p .1,
+      h .level,
+      rw (c .before .before .before .before .before .carried .ensures) (made-sits (a .m) (a .work .now) (a .s) (a .l) (a .table .now) (a .steps .now) (a .ways .now) (p .0) (a .p .level - 1) (a .p .slot) (h .level) (h .sits) (has (c .before .before .before)) (nothing (c .before)) .1),
+      omega (arith, room b, p .0 .known .proper .count, p .3),
     )
-
-cast-t34 : tie.Need-cast-t34
-cast-t34 c = search needs
-
-number-of-requires : tie.Need-number-of-requires
-number-of-requires c κs = search needs
-
-mul-run : tie.Need-mul-run
-mul-run c = let r = room (c .before .before .before .before .before .before .before .before .before) in omega arith
-
-slice-write-run : tie.Need-slice-write-run
-slice-write-run c = let r = room (c .before .before .before .before .before .before .before .before .before) in omega arith
-
-add-t17 : tie.Need-add-t17
-add-t17 c = let r = room (c .before .before .before .before .before .before .before .before .before) in omega arith
 
 same-length-2 : tie.Need-same-length-2
 same-length-2 c = search needs
 
 returns-2 : tie.Need-returns-2
 returns-2 c =
-    let b = c .before .before .before .before .before .before .before .before .before in
+    let b = c .before .before .before .before .before .before .before .before .before .before .before .before .before .before .before .before in
     let p = b .pre in
-    let a = b .args in (
-      λ run₀ h. rw (c .number-of .ensures) (back-moved (a .m) (a .work .now) (a .s) (a .t6) (p .0) run₀ (a .run .now) (a .p .level) (a .p .entry) (a .p .at) (p .2) h (c .before .before .if1 .left) .0),
-      let q = back-moved (a .m) (a .work .now) (a .s) (a .t6) (p .0) (p .4 .0) (a .run .now) (a .p .level) (a .p .entry) (a .p .at) (p .2) (p .4 .1) (c .before .before .if1 .left) .1 in omega arith,
-      simp length-set,
+    let a = b .args in
+    let g = c .before .before .meet2 .ensures in (
+      λ run₀ h. back-made (a .m) (a .work .now) (a .s) (a .l) (a .table .now) (a .steps .now) (a .ways .now) (p .0) run₀ (a .run .now) (a .p .level - 1) (a .p .slot) (a .p .at) (behind-level (a .m) (a .work .now) (a .s) (a .l) (a .table .now) (a .steps .now) (a .ways .now) (p .0) run₀ (a .run .now) (a .p .level) (a .p .slot) (a .p .at) (p .2) h) (has (c .before .before .before .before .before .before)) (nothing (c .before .before .before .before)) _ _ (rw (c .before .before .before .before .before .before .before .before .carried .ensures) at g),
+      omega (arith, p .2),
+      ap length (g .written) ∙ length-backwards _ _ _,
+    )
+
+slice-aggregate-before : tie.Need-slice-aggregate-before
+slice-aggregate-before c = search needs
+
+before-requires : tie.Need-before-requires
+before-requires c κs =
+    let b = c .before .before .before .before .before .before .before .before .before .before .before .before .before .before in
+    let p = b .pre in
+    let a = b .args in
+    let h = behind b in
+    let stages = p .0 .known .model .stages in (
+      omega (arith, p .0 .known .proper .count),
+      omega (arith, h .level),
+      with-slot (a .m) (a .work .now) (a .s) (a .l) (a .table .now) (a .steps .now) (a .ways .now) (p .0) (a .p .level - 1) (a .p .slot) (h .level) (h .sits) (has (c .before .before .before .before)),
+      p .0 .long,
+      omega (arith, h .level, p .0 .levels .long),
+      kept-joined (a .m) (a .work .now) (a .s) (a .l) (a .table .now) (a .steps .now) (a .ways .now) (p .0) (a .p .level - 1) (a .p .slot) (h .level) (h .sits) (has (c .before .before .before .before)) (something (c .before .before)),
+    )
+
+meet-requires-3 : tie.Need-meet-requires-3
+meet-requires-3 c κs =
+    let b = c .before .before .before .before .before .before .before .before .before .before .before .before .before .before .before .before in
+    let p = b .pre in
+    let a = b .args in
+    let h = behind b in (
+      p .0 .known,
+      p .1,
+      h .level,
+      rw (c .before .before .before .before .before .before .before .before .carried .ensures) (kept-meets (a .m) (a .work .now) (a .s) (a .l) (a .table .now) (a .steps .now) (a .ways .now) (p .0) (a .p .level - 1) (a .p .slot) (h .level) (h .sits) (has (c .before .before .before .before .before .before)) (something (c .before .before .before .before))),
+      omega (arith, room b, p .0 .known .proper .count, p .3),
+    )
+
+lead-requires : tie.Need-lead-requires
+lead-requires c κs =
+    let b = c .before .before .before .before .before .before .before .before .before .before .before .before .before .before .before .before .before .before .before .before in
+    let p = b .pre in
+    let a = b .args in
+    let h = behind b in
+    let j = c .before .before .before .before .before .before2 .ensures in
+    let g = c .before .before .before .meet3 .ensures in (
+      p .0 .known .model,
+      p .0 .known .proper,
+      p .0 .mapped,
+      j .0,
+      with-slot (a .m) (a .work .now) (a .s) (a .l) (a .table .now) (a .steps .now) (a .ways .now) (p .0) (a .p .level - 1) (a .p .slot) (h .level) (h .sits) (has (c .before .before .before .before .before .before .before .before .before .before)),
+      kept-comes (a .m) (a .work .now) (a .s) (a .l) (a .table .now) (a .steps .now) (a .ways .now) (p .0) (a .p .level - 1) (a .p .slot) (h .level) (h .sits) (has (c .before .before .before .before .before .before .before .before .before .before)) (something (c .before .before .before .before .before .before .before .before)) (c .before .before .before .before .before .before2 .result) (j .0) (j .1),
+      omega (arith, room b, p .0 .known .proper .count, p .3, g .index, g .few, carried-on (a .s .count) (entryOf (c .before .before .before .before .before .before .before .before .before .before .before .before .carried .result)), ap length (g .written) ∙ length-backwards _ _ _),
+    )
+
+same-length-3 : tie.Need-same-length-3
+same-length-3 c = search needs
+
+returns-3 : tie.Need-returns-3
+returns-3 c =
+    let b = c .before .before .before .before .before .before .before .before .before .before .before .before .before .before .before .before .before .before .before .before .before .before .before in
+    let p = b .pre in
+    let a = b .args in
+    let j = c .before .before .before .before .before .before .before .before .before2 .ensures in
+    let g = c .before .before .before .before .before .before .meet3 .ensures in
+    let f = c .before .before .lead .ensures (a .p .level - 1) (behind b .level) in (
+      λ run₀ h. back-kept (a .m) (a .work .now) (a .s) (a .l) (a .table .now) (a .steps .now) (a .ways .now) (p .0) run₀ (a .run .now) (a .p .level - 1) (a .p .slot) (a .p .at) (behind-level (a .m) (a .work .now) (a .s) (a .l) (a .table .now) (a .steps .now) (a .ways .now) (p .0) run₀ (a .run .now) (a .p .level) (a .p .slot) (a .p .at) (p .2) h) (has (c .before .before .before .before .before .before .before .before .before .before .before .before .before)) (something (c .before .before .before .before .before .before .before .before .before .before .before))
+          (c .before .before .before .before .before .before .before .before .before2 .result) (j .0) (j .1) _ _ _ _ (rw (c .before .before .before .before .before .before .before .before .before .before .before .before .before .before .before .carried .ensures) at g) f,
+      omega (arith, p .2),
+      ap length (f .written) ∙ length-backwards _ _ _ ∙ ap length (g .written) ∙ length-backwards _ _ _,
     )
 
 pub back-spec : {M : Type 1} → statement M
 back-spec =
     tie.close
     (tie.spec
-    mul-here
-    add-here
-    mul-line
-    element-copy-out-line
-    mul-origin
-    element-copy-out-origin
-    cast-origin
-    sub-below
-    mul-from
-    add-from
-    mul-meet
-    element-copy-out-meet
-    mul-meet-2
-    element-copy-out-meet-2
+    sub-k
+    carried-requires
+    holds-requires
     meet-requires
     same-length
     returns
-    cast-t34
-    number-of-requires
-    mul-run
-    slice-write-run
-    add-t17
+    carries-requires
+    meet-requires-2
     same-length-2
-    returns-2)
+    returns-2
+    slice-aggregate-before
+    before-requires
+    meet-requires-3
+    lead-requires
+    same-length-3
+    returns-3)
