@@ -9,7 +9,7 @@ use native.Mathlib.Omega.{arith}
 use native.Mathlib.Numerals.{add-one}
 use native.Mathlib.Nat.{not-suc-le-zero}
 use lib.Dec.{eqb}
-use lib.ListN.{length, drop, getD, length-set, length-replicate, drop-of-length-le}
+use lib.ListN.{length, take, drop, getD, length-set, length-replicate, drop-of-length-le}
 use lib.Seq.{drop-cons}
 use Rattle.limits.specs.Limits as limit
 use Rattle.semantics.specs.Models.{Line, rule, new, next, other, line}
@@ -30,7 +30,10 @@ use Rattle.replay_session.specs.Sessions.{stepped}
 use Rattle.replay_session.specs.Records.{sessionOf, Fits, taken}
 use Rattle.replay_session.specs.Replays.{Replays}
 use Rattle.replay_session.proofs.Effects.{taken-after, taken-fits}
-use Rattle.replay_steps.specs.Tries.{TriedAt}
+use Rattle.replay_numbers.specs.Numbers.{Numbered}
+use Rattle.replay_view.specs.declared.View.{View}
+use Rattle.replay_steps.specs.Tries.{Sees, Lent, TriedAt}
+use Rattle.replay_places.proofs.Looking.{fits-small}
 use Rattle.replay_runs.specs.Replies.{fresh}
 
 -- THE START
@@ -44,7 +47,7 @@ fresh-session m = λ i. record { db = []; met = 0; carried = fun-ext none-carrie
     none-carried : (x : ℕ) → sessionOf m fresh .carried x ≡ nobody x
     none-carried x = either-none (eqb x (m .carried))
 
-pub fresh-fits : (m : Model) → Fits m fresh
+fresh-fits : (m : Model) → Fits m fresh
 fresh-fits m =
     record {
       objects = omega arith;
@@ -54,7 +57,7 @@ fresh-fits m =
       places = omega arith;
     }
 
-pub fresh-long : length (fresh .states) ≡ 255
+fresh-long : length (fresh .states) ≡ 255
 fresh-long = length-replicate {A = ℕ} 255 0
 
 -- WHAT A PLACE LEAVES: the array's length, and one more place kept
@@ -121,3 +124,21 @@ module _ (m : Model) (w : WellFormed m) (run : List ℕ) (i : ℕ) (s : Session)
 
     pub running-early : s .met ≢ m .stagecount → Replays (programOf m) (questionOf m) (start []) run 0 (Broken i)
     running-early e = r .rest (Broken i) (rw nothing ((λ q. e (q ∙ stages m w)), refl))
+
+-- WHAT IS LENT to the next place of a run
+pub running-lent : (m : Model) → WellFormed m → (run : List ℕ) (i : ℕ) (s : Session) → Running m run i s → i < limit.run → (ns row slots w : List ℕ) (v : View) → Sees m (take (s .objects) (s .states)) v w → Numbered m ns → m .literals ≡ row → v .slots ≡ slots
+    → Lent m v s ns row slots w
+running-lent m wf run i s r l ns row slots w v sees numbered e q =
+    record {
+      ready = record { accepted = wf; fits = r .fits; room = let k = r .kept in omega arith; sees = sees; long = r .long };
+      numbered = numbered;
+      literals = e;
+      seats = q;
+    }
+
+-- the states are as a view needs them
+pub few-objects : (m : Model) (run : List ℕ) (i : ℕ) (s : Session) → Running m run i s → s .objects ≤ length (s .states)
+few-objects m run i s r = let a = r .fits .objects in let b = r .long in omega arith
+
+pub small-states : (m : Model) → WellFormed m → (run : List ℕ) (i : ℕ) (s : Session) → Running m run i s → (o : ℕ) → o < s .objects → getD (s .states) o 0 < limit.sets
+small-states m w run i s r = fits-small m s w (r .fits)
