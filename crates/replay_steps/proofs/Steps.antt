@@ -27,6 +27,7 @@ use Rattle.model.proofs.Accepted.{on-line, clause-safe, clause-vars, clause-bod
 use Rattle.facts_candidates.specs.declared.Choice.{Choice}
 use Rattle.facts_candidates.specs.Choices.{chosen}
 use Rattle.facts_find.specs.Bodies.{Fixed}
+use Rattle.facts_rests.specs.Rests.{Within}
 use Rattle.replay_session.specs.declared.Position.{Position}
 use Rattle.replay_session.specs.declared.Session.{Session}
 use Rattle.replay_session.specs.Sessions.{sessionIn, created, relabeled, stepped}
@@ -35,7 +36,7 @@ use Rattle.replay_session.proofs.Effects.{size}
 use Rattle.replay_numbers.specs.Numbers.{clausePlace, clauseFrom}
 use Rattle.replay_view.specs.declared.View.{View}
 use Rattle.replay_steps.specs.declared.Outcome.{Outcome}
-use Rattle.replay_steps.specs.Tries.{Ready, Open, Stepping, Holding, Tried, afterwards, TriedBy}
+use Rattle.replay_steps.specs.Tries.{lineBody, Plain, Ready, Open, Stepping, Holding, Tried, afterwards, TriedBy}
 
 -- WHAT STANDS on the line of clause k
 body-supported : (a : Action) (b : Body) → SafeLine (lineOf a b) → Supported (vars b) b
@@ -84,24 +85,56 @@ module _ (m : Model) (v : View) (s : Session) (row slots w : List ℕ) (c : Clau
   pub slots-enough : s .objects ≤ length slots
   slots-enough = let g = t .ready .sees .views .good .slots in let f = t .ready .fits .objects in omega (arith, ap length (t .seats))
 
--- A CLAUSE among the numbers lent
-module _ (m : Model) (v : View) (s : Session) (ns row slots w : List ℕ) (l : Open m v s ns row slots w) where
-  pub stepping : (k : ℕ) → k < getD ns 0 0 → (c : Clause) → c ≡ clauseFrom ns (clausePlace k) → Stepping m v s row slots w c
-  stepping k h c e =
+-- A CLAUSE among the numbers of a model
+body-on : (a : Action) (b : Body) → lineBody (lineOf a b) ≡ b
+body-on (Rule r n) b = refl
+body-on (New t) b = refl
+body-on (Next plus minus) b = refl
+
+module _ (m : Model) (ns row : List ℕ) (plain : Plain m ns row) where
+  counted : (k : ℕ) → k < getD ns 0 0 → k < m .clausecount
+  counted k h = let q = plain .numbered .clauses in omega arith
+
+  -- what holds of the record's literals and clause holds of those lent
+  pub numbered : (k : ℕ) → k < getD ns 0 0 → (c : Clause) → c ≡ clauseFrom ns (clausePlace k) → (P : List ℕ → Clause → Type 0) → P (m .literals) (clauseAt m k) → P row c
+  numbered k h c e P q = subst (P row) (sym (e ∙ plain .numbered .clause k (counted k h))) (subst (λ (l : List ℕ). P l (clauseAt m k)) (plain .literals) q)
+
+  -- the body on its line
+  pub own-body : (k : ℕ) → k < getD ns 0 0 → (c : Clause) → c ≡ clauseFrom ns (clausePlace k) → lineBody (line (programOf m) (c .line)) ≡ clauseBody row c
+  own-body k h c e = numbered k h c e (λ l x. lineBody (line (programOf m) (x .line)) ≡ clauseBody l x)
+      (ap lineBody (on-line m (plain .accepted) k (counted k h)) ∙ body-on (clauseAt m k .action) (clauseBody (m .literals) (clauseAt m k)))
+
+  -- its literals are good
+  pub own-within : (k : ℕ) → k < getD ns 0 0 → (c : Clause) → c ≡ clauseFrom ns (clausePlace k) → c .first ≤ length row
+  own-within k h c e = numbered k h c e (λ l x. x .first ≤ length l)
+      (let wf = plain .accepted in let p = wf .clause k (counted k h) .part .within in let l = wf .literalcount in let n = wf .literals in omega arith)
+
+  pub own-good : (k : ℕ) → k < getD ns 0 0 → (c : Clause) → c ≡ clauseFrom ns (clausePlace k) → GoodBody (drop (c .first) row) (c .count) (c .variables)
+  own-good k h c e = numbered k h c e (λ l x. GoodBody (drop (x .first) l) (x .count) (x .variables)) (clause-body m (plain .accepted) k (counted k h))
+
+  -- no clause stands on the line
+  pub none-on : (ℓ : ℕ) → ((k : ℕ) → k < getD ns 0 0 → clauseFrom ns (clausePlace k) .line ≢ ℓ) → line (programOf m) ℓ ≡ other
+  none-on ℓ h = line-other m ℓ (λ k g e. h k (let q = plain .numbered .clauses in omega arith) (ap (λ (c : Clause). c .line) (plain .numbered .clause k g) ∙ e))
+
+-- the same of what is lent to a step
+module _ (m : Model) (v : View) (s : Session) (ns row slots w : List ℕ) (ℓ o : ℕ) (l : Open m v s ns row slots w (step ℓ o)) where
+  pub plainly : Plain m ns row
+  plainly = record { accepted = l .ready .accepted; numbered = l .numbered; literals = l .literals }
+
+  pub stepping : (k : ℕ) → k < getD ns 0 0 → (c : Clause) → c ≡ clauseFrom ns (clausePlace k) → clauseFrom ns (clausePlace k) .line ≡ ℓ → Stepping m v s row slots w c
+  stepping k h c e on =
       let here : k < m .clausecount = let q = l .numbered .clauses in omega arith in
+      let same : c .line ≡ ℓ = ap (λ (x : Clause). x .line) e ∙ on in
       record {
         ready = l .ready;
         left = l .left;
         index = k;
         within = here;
         clause = sym (e ∙ l .numbered .clause k here);
+        rests = subst (Within (l .ready .relations)) (ap (λ (x : ℕ). lineBody (line (programOf m) x)) (sym same) ∙ own-body m ns row plainly k h c e) (l .rests);
         literals = l .literals;
         seats = l .seats;
       }
-
-  -- no clause stands on the line
-  pub none-on : (ℓ : ℕ) → ((k : ℕ) → k < getD ns 0 0 → clauseFrom ns (clausePlace k) .line ≢ ℓ) → line (programOf m) ℓ ≡ other
-  none-on ℓ h = line-other m ℓ (λ k g e. h k (let q = l .numbered .clauses in omega arith) (ap (λ (c : Clause). c .line) (l .numbered .clause k g) ∙ e))
 
 -- a choice that fixes variable 0 alone
 abbrev pub only : ℕ → Choice

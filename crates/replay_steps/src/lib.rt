@@ -22,12 +22,13 @@ ghost use Rattle.model.specs.Records.{upFrom, bodyAt};
 ghost use Rattle.facts_table.specs.Table.{Consistent};
 ghost use Rattle.facts_candidates.specs.Choices.{chosen};
 ghost use Rattle.facts_find.specs.Bodies.{Decides};
+ghost use Rattle.facts_rests.specs.Rests.{Within};
 ghost use Rattle.replay_session.specs.declared.Session.{Session};
 ghost use Rattle.replay_session.specs.Sessions.{sessionIn};
 ghost use Rattle.replay_session.specs.Notes.{standing};
 ghost use Rattle.replay_numbers.specs.Numbers.{clausePlace, clauseFrom};
 ghost use Rattle.replay_view.specs.declared.View.{View};
-ghost use Rattle.replay_steps.specs.Tries.{Ready, Open, Stepping, Holding, afterwards, Gives, TriedBy};
+ghost use Rattle.replay_steps.specs.Tries.{Rests, Plain, Ready, Open, Stepping, Holding, afterwards, Gives, TriedBy};
 
 // Whether a place is allowed; the object that it gave a state, or NONE, and that state; the position after it; and the number of those who stood by, which only a step has.
 pub struct Outcome {
@@ -68,6 +69,20 @@ fn clause_on(numbers: &[u32], n: usize, line: u32) -> usize
     i
 }
 
+// The derived relations that a step of a line rests on, as a row of bits.
+pub fn needs(numbers: &[u32], literals: &[u32], line: u32) -> [u8; 16]
+    requires { ⌜ ((m : Model) × Plain m (now numbers) (now literals)) ⌝ }
+    ensures { λ r. ⌜ ((m : Model) → Plain m (now (numbers .entry)) (now (literals .entry)) → (object : ℕ) → Rests m r (step line object)) ⌝ }
+{
+    let n = numbers[0] as usize;
+    let k = clause_on(numbers, n, line);
+    if k >= n {
+        return [0u8; 16];
+    }
+    let c = replay_numbers::clause_at(numbers, k);
+    facts_rests::add([0u8; 16], literals, c.first, c.count)
+}
+
 // The first choice that has the fixed objects and for which a body holds in a database of n objects, or that there is none.
 pub fn decide(
     literals: &[u32],
@@ -80,7 +95,7 @@ pub fn decide(
     fixed: Choice,
 ) -> Found
     requires { ⌜ Consistent (now work) × (n ≤ length (now slots)) × (first ≤ length (now literals)) × GoodBody (drop first (now literals)) count variables × Supported (vars (bodyAt (now literals) first count)) (bodyAt (now literals) first count) ⌝ }
-    ensures { λ r. ⌜ ((m : Model) (v : View) (s : Session) → Ready m s v (now (work .entry)) → v .slots ≡ now (slots .entry) → s .objects ≡ n → Decides variables (Holding m s (bodyAt (now (literals .entry)) first count) variables fixed) r) ⌝ }
+    ensures { λ r. ⌜ ((m : Model) (v : View) (s : Session) (ready : Ready m s v (now (work .entry))) → Within (ready .relations) (bodyAt (now (literals .entry)) first count) → v .slots ≡ now (slots .entry) → s .objects ≡ n → Decides variables (Holding m s (bodyAt (now (literals .entry)) first count) variables fixed) r) ⌝ }
 {
     facts_find::find(
         work,
@@ -208,8 +223,8 @@ pub fn step_place(
     line: u32,
     object: u32,
 ) -> Outcome
-    requires { ⌜ ((m : Model) × (v : View) × Open m v (sessionIn (now states) at) (now numbers) (now literals) (now slots) (now work)) × (object < limit.objects) ⌝ }
-    ensures { λ r. ⌜ ((m : Model) (v : View) → Open m v (sessionIn (now (states .entry)) at) (now (numbers .entry)) (now (literals .entry)) (now (slots .entry)) (now (work .entry)) → TriedBy m (now (states .entry)) at (step line object) r) ⌝ }
+    requires { ⌜ ((m : Model) × (v : View) × Open m v (sessionIn (now states) at) (now numbers) (now literals) (now slots) (now work) (step line object)) × (object < limit.objects) ⌝ }
+    ensures { λ r. ⌜ ((m : Model) (v : View) → Open m v (sessionIn (now (states .entry)) at) (now (numbers .entry)) (now (literals .entry)) (now (slots .entry)) (now (work .entry)) (step line object) → TriedBy m (now (states .entry)) at (step line object) r) ⌝ }
     ensures { λ r. ⌜ Gives at r ⌝ }
 {
     let n = numbers[0] as usize;

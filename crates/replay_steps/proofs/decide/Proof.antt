@@ -40,12 +40,12 @@ returns c =
     let s = c .before .before .before .before .before .before in
     let a = s .args in
     let row = now (a .literals) in
-    λ m v t ready seats count.
+    λ m v t ready rests seats count.
     let db = take (t .objects) (t .states) in
     let same : slotsOf v (t .objects) ≡ take (a .n) (now (a .slots)) = cc in
     let d = c .find .ensures (rowOf v) db (ready .sees .known .states)
     (subst (λ (l : List ℕ). Placed (rowOf v) l db) same (placed db v (t .objects) (size m (ready .accepted) t (ready .long) (ready .fits)) (ready .fits .objects) (ready .sees .views))) in
-    decided m t v (now (a .work)) ready (bodyAt row (a .first) (a .count)) (a .variables) (a .fixed) (c .find .result)
+    decided m t v (now (a .work)) ready (bodyAt row (a .first) (a .count)) rests (a .variables) (a .fixed) (c .find .result)
     (subst (λ (l : List ℕ). Decides (a .variables) (Good (now (a .work)) l db (bodyAt row (a .first) (a .count)) (a .variables) (a .fixed)) (c .find .result)) (sym same) (rw (to-end row (a .first)) at d))
 
 pub decide-spec : {M : Type 1} → statement M

@@ -9,7 +9,7 @@ use Rattle.model.specs.declared.Clause.{Clause}
 use Rattle.model.specs.Records.{upFrom, clauseBody, programOf}
 use Rattle.replay_session.specs.Sessions.{sessionIn}
 use Rattle.replay_steps.specs.Tries.{TriedBy}
-use Rattle.replay_steps.proofs.Steps.{on-action, stepping, none-on, no-clause, no-step, left-as-before}
+use Rattle.replay_steps.proofs.Steps.{on-action, none-on, plainly, stepping, no-clause, no-step, left-as-before}
 use borrow.Author.Needs.{needs}
 use Rattle.replay_steps.proofs.step_place.Statement.{statement}
 use Rattle.replay_steps.proofs.step_place.Tie as tie
@@ -34,7 +34,7 @@ returns c =
       (λ m v l.
           left-as-before m (now (a .states)) (a .at) _ (c .disallow .result) (c .disallow .ensures .0) (l .ready .long)
           (no-clause m (sessionIn (now (a .states)) (a .at)) v (now (a .work)) (l .ready) (l .left) (a .line) (a .object)
-          (none-on m v (sessionIn (now (a .states)) (a .at)) (now (a .numbers)) (now (a .literals)) (now (a .slots)) (now (a .work)) l (a .line) (λ k h. f .ensures .2 k (omega (arith, h, c .before .if1 .taken)))))),
+          (none-on m (now (a .numbers)) (now (a .literals)) (plainly m v (sessionIn (now (a .states)) (a .at)) (now (a .numbers)) (now (a .literals)) (now (a .slots)) (now (a .work)) (a .line) (a .object) l) (a .line) (λ k h. f .ensures .2 k (omega (arith, h, c .before .if1 .taken)))))),
       c .disallow .ensures .1,
     )
 
@@ -58,7 +58,7 @@ create-requires c κs =
     let v = s .pre .0 .1 in
     let l = s .pre .0 .2 in
     let g = c .before .before .before .clause-at in
-    ((m, v, now (a .states), stepping m v (sessionIn (now (a .states)) (a .at)) (now (a .numbers)) (now (a .literals)) (now (a .slots)) (now (a .work)) l (c .before .before .before .before .before .clause-on .result) (c .before .before .before .before .if1 .left) (g .result) (g .ensures)), s .pre .1, c .before .action .given .1)
+    ((m, v, now (a .states), stepping m v (sessionIn (now (a .states)) (a .at)) (now (a .numbers)) (now (a .literals)) (now (a .slots)) (now (a .work)) (a .line) (a .object) l (c .before .before .before .before .before .clause-on .result) (c .before .before .before .before .if1 .left) (g .result) (g .ensures) (c .before .before .before .before .before .clause-on .ensures .1 (c .before .before .before .before .if1 .left))), s .pre .1, c .before .action .given .1)
 
 enum-known-action-2 : tie.Need-enum-known-action-2
 enum-known-action-2 c = search needs
@@ -71,7 +71,7 @@ change-requires c κs =
     let v = s .pre .0 .1 in
     let l = s .pre .0 .2 in
     let g = c .before .before .before .clause-at in
-    ((m, v, stepping m v (sessionIn (now (a .states)) (a .at)) (now (a .numbers)) (now (a .literals)) (now (a .slots)) (now (a .work)) l (c .before .before .before .before .before .clause-on .result) (c .before .before .before .before .if1 .left) (g .result) (g .ensures)), s .pre .1, c .before .action2 .given .1)
+    ((m, v, stepping m v (sessionIn (now (a .states)) (a .at)) (now (a .numbers)) (now (a .literals)) (now (a .slots)) (now (a .work)) (a .line) (a .object) l (c .before .before .before .before .before .clause-on .result) (c .before .before .before .before .if1 .left) (g .result) (g .ensures) (c .before .before .before .before .before .clause-on .ensures .1 (c .before .before .before .before .if1 .left))), s .pre .1, c .before .action2 .given .1)
 
 returns-2 : tie.Need-returns-2
 returns-2 c =
@@ -85,7 +85,7 @@ returns-2 c =
     let n = told .0 .1 .0 in
     let b = clauseBody (now (a .literals)) (g .result) in (
       (λ m v l.
-          let t = stepping m v (sessionIn (now (a .states)) (a .at)) (now (a .numbers)) (now (a .literals)) (now (a .slots)) (now (a .work)) l (f .result) h (g .result) (g .ensures) in
+          let t = stepping m v (sessionIn (now (a .states)) (a .at)) (now (a .numbers)) (now (a .literals)) (now (a .slots)) (now (a .work)) (a .line) (a .object) l (f .result) h (g .result) (g .ensures) (f .ensures .1 h) in
           let on = on-action m v (sessionIn (now (a .states)) (a .at)) (now (a .literals)) (now (a .slots)) (now (a .work)) (g .result) t (Rule r n) (told .1) in
           left-as-before m (now (a .states)) (a .at) _ (c .disallow2 .result) (c .disallow2 .ensures .0) (l .ready .long)
           (no-step m (sessionIn (now (a .states)) (a .at)) v (now (a .work)) (l .ready) (l .left) (a .line) (a .object) r (upFrom 0 n) b
@@ -102,7 +102,7 @@ returns-3 c =
     let h = c .before .before .before .before .before .if1 .left in (
       (λ m v l.
           subst (λ (ℓ : ℕ). TriedBy m (now (a .states)) (a .at) (step ℓ (a .object)) (c .create .result)) (ap (λ (x : Clause). x .line) (g .ensures) ∙ f .ensures .1 h)
-          (c .create .ensures .0 m v (now (a .states)) (stepping m v (sessionIn (now (a .states)) (a .at)) (now (a .numbers)) (now (a .literals)) (now (a .slots)) (now (a .work)) l (f .result) h (g .result) (g .ensures)))),
+          (c .create .ensures .0 m v (now (a .states)) (stepping m v (sessionIn (now (a .states)) (a .at)) (now (a .numbers)) (now (a .literals)) (now (a .slots)) (now (a .work)) (a .line) (a .object) l (f .result) h (g .result) (g .ensures) (f .ensures .1 h)))),
       c .create .ensures .1,
     )
 
@@ -115,7 +115,7 @@ returns-4 c =
     let h = c .before .before .before .before .before .if1 .left in (
       (λ m v l.
           subst (λ (ℓ : ℕ). TriedBy m (now (a .states)) (a .at) (step ℓ (a .object)) (c .change .result)) (ap (λ (x : Clause). x .line) (g .ensures) ∙ f .ensures .1 h)
-          (c .change .ensures .0 m v (stepping m v (sessionIn (now (a .states)) (a .at)) (now (a .numbers)) (now (a .literals)) (now (a .slots)) (now (a .work)) l (f .result) h (g .result) (g .ensures)))),
+          (c .change .ensures .0 m v (stepping m v (sessionIn (now (a .states)) (a .at)) (now (a .numbers)) (now (a .literals)) (now (a .slots)) (now (a .work)) (a .line) (a .object) l (f .result) h (g .result) (g .ensures) (f .ensures .1 h)))),
       c .change .ensures .1,
     )
 
