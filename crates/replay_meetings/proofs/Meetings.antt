@@ -31,7 +31,7 @@ use Rattle.replay_session.specs.Sessions.{sessionIn, met}
 use Rattle.replay_session.specs.Records.{sessionOf, carriedBy}
 use Rattle.replay_numbers.specs.Numbers.{stagePlace, stageFrom}
 use Rattle.replay_view.specs.declared.View.{View}
-use Rattle.replay_steps.specs.Tries.{Ready, Open, Holding, Tried}
+use Rattle.replay_steps.specs.Tries.{Plain, Ready, Open, Holding, Tried}
 use Rattle.replay_meetings.specs.Carried.{Named, Agrees, carriedOn}
 use Rattle.replay_meetings.proofs.Objects.{pick-place, choice, objects-chosen, chosen-small}
 
@@ -39,28 +39,28 @@ use Rattle.replay_meetings.proofs.Objects.{pick-place, choice, objects-
 pub named-small : (g : Stage) (v a b c r : ℕ) → a < 256 → b < 256 → c < 256 → Named g v (choice a b c) r → r < 256
 named-small g v a b c r ha hb hc = ⊎-elim (λ f. rw (f .3) (chosen-small a b c (f .0) ha hb hc)) (λ f. rw (f .1) (omega arith))
 
--- THE STAGE among the numbers lent
-module _ (m : Model) (v : View) (s : Session) (ns row slots w : List ℕ) (l : Open m v s ns row slots w) (g : Stage) (e : g ≡ stageFrom ns (stagePlace (s .met))) where
+-- STAGE i among the numbers of a model
+module _ (m : Model) (ns row : List ℕ) (plain : Plain m ns row) (i : ℕ) (here : i < m .stagecount) (g : Stage) (e : g ≡ stageFrom ns (stagePlace i)) where
   abbrev own : Stage
-  own = stageAt m (s .met)
+  own = stageAt m i
 
   same-stage : own ≡ g
-  same-stage = sym (e ∙ l .numbered .stage (s .met) (l .left))
+  same-stage = sym (e ∙ plain .numbered .stage i here)
 
   -- what holds of the record's literals and stage holds of those lent, and the other way round
-  lent : (P : List ℕ → Stage → Type 0) → P (m .literals) own → P row g
-  lent P h = subst (P row) same-stage (subst (λ (x : List ℕ). P x own) (l .literals) h)
+  pub lent : (P : List ℕ → Stage → Type 0) → P (m .literals) own → P row g
+  lent P h = subst (P row) same-stage (subst (λ (x : List ℕ). P x own) (plain .literals) h)
 
   pub of-record : (P : List ℕ → Stage → Type 0) → P row g → P (m .literals) own
-  of-record P h = subst (λ (x : List ℕ). P x own) (sym (l .literals)) (subst (P row) (sym same-stage) h)
+  of-record P h = subst (λ (x : List ℕ). P x own) (sym (plain .literals)) (subst (P row) (sym same-stage) h)
 
   -- its body can be handed to the evaluator
   pub part-within : g .first ≤ length row
   part-within = lent (λ x y. y .first ≤ length x)
-      (let wf = l .ready .accepted in let p = wf .stage (s .met) (l .left) .part .within in let q = wf .literalcount in let n = wf .literals in omega arith)
+      (let wf = plain .accepted in let p = wf .stage i here .part .within in let q = wf .literalcount in let n = wf .literals in omega arith)
 
   pub part-good : GoodBody (drop (g .first) row) (g .count) (g .variables)
-  part-good = lent (λ x y. GoodBody (drop (y .first) x) (y .count) (y .variables)) (stage-body m (l .ready .accepted) (s .met) (l .left))
+  part-good = lent (λ x y. GoodBody (drop (y .first) x) (y .count) (y .variables)) (stage-body m (plain .accepted) i here)
 
   pub part-supported : Supported (vars (stageBody row g)) (stageBody row g)
   part-supported = lent (λ x y. Supported (vars (stageBody x y)) (stageBody x y)) supports
@@ -69,16 +69,17 @@ module _ (m : Model) (v : View) (s : Session) (ns row slots w : List ℕ) (l : O
       supports x q =
           let f = numberIn own in
           let b = stageBody (m .literals) own in
-          let wf = l .ready .accepted in
-          let safe = subst (λ (body : Body). Supported (vars body) body) (stage-here m wf (s .met) (l .left)) (wf .safely (s .met)) (f x) (rw (vars-renamed f b) (elem-map f x (vars b) q)) in
+          let wf = plain .accepted in
+          let safe = subst (λ (body : Body). Supported (vars body) body) (stage-here m wf i here) (wf .safely i) (f x) (rw (vars-renamed f b) (elem-map f x (vars b) q)) in
           let y = elem-of-map f (f x) (supported b) (rw (supported-renamed f b) at safe) in
-          rw (stage-different m wf (s .met) (l .left) x (y .0) q (supported-vars (y .0) b (y .1)) (y .2)) (y .1)
+          rw (stage-different m wf i here x (y .0) q (supported-vars (y .0) b (y .1)) (y .2)) (y .1)
 
   pub few-variables : g .variables ≤ limit.variables
-  few-variables = lent (λ x y. y .variables ≤ limit.variables) (l .ready .accepted .stage (s .met) (l .left) .part .few)
+  few-variables = lent (λ x y. y .variables ≤ limit.variables) (plain .accepted .stage i here .part .few)
 
-  pub slots-enough : s .objects ≤ length slots
-  slots-enough = let q = l .ready .sees .views .good .slots in let f = l .ready .fits .objects in omega (arith, ap length (l .seats))
+-- the slots are those of the view
+pub slots-enough : (m : Model) (v : View) (s : Session) (ns row slots w : List ℕ) (p : runs.Place) → Open m v s ns row slots w p → s .objects ≤ length slots
+slots-enough m v s ns row slots w p l = let q = l .ready .sees .views .good .slots in let f = l .ready .fits .objects in omega (arith, ap length (l .seats))
 
 module _ (m : Model) (s : Session) (v : View) (w : List ℕ) (ready : Ready m s v w) (left : s .met < m .stagecount) (a b c : ℕ) where
   abbrev os : List ℕ

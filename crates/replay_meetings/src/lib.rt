@@ -15,7 +15,7 @@ ghost use Rattle.model.specs.declared.Model.{Model};
 ghost use Rattle.model.specs.Places.{objects};
 ghost use Rattle.replay_session.specs.Sessions.{Says, sessionIn};
 ghost use Rattle.replay_view.specs.declared.View.{View};
-ghost use Rattle.replay_steps.specs.Tries.{Open, Gives, TriedBy};
+ghost use Rattle.replay_steps.specs.Tries.{Rests, Plain, Open, Gives, TriedBy};
 ghost use Rattle.replay_meetings.specs.Carried.{Named, Agrees, carriedOn};
 
 // How many objects a meeting names.
@@ -73,6 +73,21 @@ fn carry(carried: u32, object: u32) -> u32
     if object == NONE { carried } else { object }
 }
 
+// The derived relations that a meeting of a stage rests on, as a row of bits.
+pub fn needs(numbers: &[u32], literals: &[u32], stage: u32) -> [u8; 16]
+    requires { ⌜ ((m : Model) × Plain m (now numbers) (now literals)) ⌝ }
+    ensures { λ r. ⌜ ((m : Model) → Plain m (now (numbers .entry)) (now (literals .entry)) → (os : List ℕ) → Rests m r (meet stage os)) ⌝ }
+{
+    if stage == 0 {
+        return [0u8; 16];
+    }
+    if stage > numbers[1] {
+        return [0u8; 16];
+    }
+    let g = replay_numbers::stage_at(numbers, stage as usize - 1);
+    facts_rests::add([0u8; 16], literals, g.first, g.count)
+}
+
 // The meeting of a stage with objects, the named ones first.
 pub fn meet_place(
     numbers: &[u32],
@@ -85,8 +100,8 @@ pub fn meet_place(
     second: u32,
     third: u32,
 ) -> Outcome
-    requires { ⌜ ((m : Model) × (v : View) × (states : List ℕ) × Open m v (sessionIn states at) (now numbers) (now literals) (now slots) (now work)) × (first < 256) × (second < 256) × (third < 256) ⌝ }
-    ensures { λ r. ⌜ ((m : Model) (v : View) (states : List ℕ) → Open m v (sessionIn states at) (now (numbers .entry)) (now (literals .entry)) (now (slots .entry)) (now (work .entry)) → TriedBy m states at (meet stage (objects (first ∷ second ∷ third ∷ []))) r) ⌝ }
+    requires { ⌜ ((m : Model) × (v : View) × (states : List ℕ) × Open m v (sessionIn states at) (now numbers) (now literals) (now slots) (now work) (meet stage (objects (first ∷ second ∷ third ∷ [])))) × (first < 256) × (second < 256) × (third < 256) ⌝ }
+    ensures { λ r. ⌜ ((m : Model) (v : View) (states : List ℕ) → Open m v (sessionIn states at) (now (numbers .entry)) (now (literals .entry)) (now (slots .entry)) (now (work .entry)) (meet stage (objects (first ∷ second ∷ third ∷ []))) → TriedBy m states at (meet stage (objects (first ∷ second ∷ third ∷ []))) r) ⌝ }
     ensures { λ r. ⌜ Gives at r ⌝ }
 {
     let i = at.met;

@@ -116,11 +116,12 @@ module _ (m : Model) (ns row : List ℕ) (plain : Plain m ns row) where
   pub none-on : (ℓ : ℕ) → ((k : ℕ) → k < getD ns 0 0 → clauseFrom ns (clausePlace k) .line ≢ ℓ) → line (programOf m) ℓ ≡ other
   none-on ℓ h = line-other m ℓ (λ k g e. h k (let q = plain .numbered .clauses in omega arith) (ap (λ (c : Clause). c .line) (plain .numbered .clause k g) ∙ e))
 
--- the same of what is lent to a step
-module _ (m : Model) (v : View) (s : Session) (ns row slots w : List ℕ) (ℓ o : ℕ) (l : Open m v s ns row slots w (step ℓ o)) where
-  pub plainly : Plain m ns row
-  plainly = record { accepted = l .ready .accepted; numbered = l .numbered; literals = l .literals }
+-- the numbers and the literals that are lent
+pub plainly : (m : Model) (v : View) (s : Session) (ns row slots w : List ℕ) (p : runs.Place) → Open m v s ns row slots w p → Plain m ns row
+plainly m v s ns row slots w p l = record { accepted = l .ready .accepted; numbered = l .numbered; literals = l .literals }
 
+-- a clause on the line of a step
+module _ (m : Model) (v : View) (s : Session) (ns row slots w : List ℕ) (ℓ o : ℕ) (l : Open m v s ns row slots w (step ℓ o)) where
   pub stepping : (k : ℕ) → k < getD ns 0 0 → (c : Clause) → c ≡ clauseFrom ns (clausePlace k) → clauseFrom ns (clausePlace k) .line ≡ ℓ → Stepping m v s row slots w c
   stepping k h c e on =
       let here : k < m .clausecount = let q = l .numbered .clauses in omega arith in
@@ -131,7 +132,7 @@ module _ (m : Model) (v : View) (s : Session) (ns row slots w : List ℕ) (ℓ o
         index = k;
         within = here;
         clause = sym (e ∙ l .numbered .clause k here);
-        rests = subst (Within (l .ready .relations)) (ap (λ (x : ℕ). lineBody (line (programOf m) x)) (sym same) ∙ own-body m ns row plainly k h c e) (l .rests);
+        rests = subst (Within (l .ready .relations)) (ap (λ (x : ℕ). lineBody (line (programOf m) x)) (sym same) ∙ own-body m ns row (plainly m v s ns row slots w (step ℓ o) l) k h c e) (l .rests);
         literals = l .literals;
         seats = l .seats;
       }

@@ -11,12 +11,13 @@ use Rattle.model.specs.Places.{objects}
 use Rattle.model.specs.Records.{stageBody}
 use Rattle.facts_find.specs.declared.Found.the-variants.{At, Nowhere}
 use Rattle.facts_find.specs.Bodies.{Decides}
+use Rattle.facts_rests.specs.Rests.{Within}
 use Rattle.replay_session.specs.Sessions.{Says, sessionIn}
 use Rattle.replay_steps.specs.Tries.{Holding}
-use Rattle.replay_steps.proofs.Steps.{left-as-before}
+use Rattle.replay_steps.proofs.Steps.{plainly, left-as-before}
 use Rattle.replay_meetings.specs.Carried.{Named, Agrees, carriedOn}
 use Rattle.replay_meetings.proofs.Objects.{choice}
-use Rattle.replay_meetings.proofs.Meetings.{named-small, of-record, part-within, part-good, part-supported, few-variables, slots-enough, other-stage, other-count, not-held, disagrees, meeting-kept, kept-states}
+use Rattle.replay_meetings.proofs.Meetings.{named-small, lent, of-record, part-within, part-good, part-supported, few-variables, slots-enough, other-stage, other-count, not-held, disagrees, meeting-kept, kept-states}
 use borrow.Author.Needs.{needs}
 use Rattle.replay_meetings.proofs.meet_place.Statement.{statement}
 use Rattle.replay_meetings.proofs.meet_place.Tie as tie
@@ -57,7 +58,7 @@ returns-2 c =
           let z = sessionIn states (a .at) in
           left-as-before m states (a .at) _ (c .disallow2 .result) (c .disallow2 .ensures .0) (l .ready .long)
           (other-count m z v (now (a .work)) (l .ready) (l .left) (a .first) (a .second) (a .third) (a .stage)
-          (of-record m v z (now (a .numbers)) (now (a .literals)) (now (a .slots)) (now (a .work)) l (g .result) (g .ensures) (λ x y. length (objects (a .first ∷ a .second ∷ a .third ∷ [])) ≢ y .variables) (λ e. n (c .before .before .before .count .ensures ∙ e))))),
+          (of-record m (now (a .numbers)) (now (a .literals)) (plainly m v z (now (a .numbers)) (now (a .literals)) (now (a .slots)) (now (a .work)) (meet (a .stage) (objects (a .first ∷ a .second ∷ a .third ∷ []))) l) (a .at .met) (l .left) (g .result) (g .ensures) (λ x y. length (objects (a .first ∷ a .second ∷ a .third ∷ [])) ≢ y .variables) (λ e. n (c .before .before .before .count .ensures ∙ e))))),
       c .disallow2 .ensures .1,
     )
 
@@ -73,7 +74,7 @@ named-requires c κs =
     let z = sessionIn (s .pre .0 .2) (a .at) in
     let l = s .pre .0 .3 in
     let g = c .before .before .before .before .stage-at in
-    few-variables m v z (now (a .numbers)) (now (a .literals)) (now (a .slots)) (now (a .work)) l (g .result) (g .ensures)
+    few-variables m (now (a .numbers)) (now (a .literals)) (plainly m v z (now (a .numbers)) (now (a .literals)) (now (a .slots)) (now (a .work)) (meet (a .stage) (objects (a .first ∷ a .second ∷ a .third ∷ []))) l) (a .at .met) (l .left) (g .result) (g .ensures)
 
 cast-object : tie.Need-cast-object
 cast-object c =
@@ -97,9 +98,9 @@ returns-3 c =
     let count = sym (c .before .before .before .before .before .before .before .count .ensures) ∙ c .before .before .before .before .before .if2 .left in (
       (λ m v states l.
           let z = sessionIn states (a .at) in
-          let many = of-record m v z (now (a .numbers)) (now (a .literals)) (now (a .slots)) (now (a .work)) l (g .result) (g .ensures) (λ x y. length (objects (a .first ∷ a .second ∷ a .third ∷ [])) ≡ y .variables) count in
+          let many = of-record m (now (a .numbers)) (now (a .literals)) (plainly m v z (now (a .numbers)) (now (a .literals)) (now (a .slots)) (now (a .work)) (meet (a .stage) (objects (a .first ∷ a .second ∷ a .third ∷ []))) l) (a .at .met) (l .left) (g .result) (g .ensures) (λ x y. length (objects (a .first ∷ a .second ∷ a .third ∷ [])) ≡ y .variables) count in
           let f = c .before .before .before .named in
-          let found = of-record m v z (now (a .numbers)) (now (a .literals)) (now (a .slots)) (now (a .work)) l (g .result) (g .ensures) (λ x y. Named y (m .carried) (choice (a .first) (a .second) (a .third)) (f .result)) (subst (λ (k : ℕ). Named (g .result) k (choice (a .first) (a .second) (a .third)) (f .result)) (l .numbered .carried) (f .ensures)) in
+          let found = of-record m (now (a .numbers)) (now (a .literals)) (plainly m v z (now (a .numbers)) (now (a .literals)) (now (a .slots)) (now (a .work)) (meet (a .stage) (objects (a .first ∷ a .second ∷ a .third ∷ []))) l) (a .at .met) (l .left) (g .result) (g .ensures) (λ x y. Named y (m .carried) (choice (a .first) (a .second) (a .third)) (f .result)) (subst (λ (k : ℕ). Named (g .result) k (choice (a .first) (a .second) (a .third)) (f .result)) (l .numbered .carried) (f .ensures)) in
           let n = subst (Says (Agrees (a .at .carried) (f .result))) (not-true (c .before .before .agrees .result) (c .before .if3 .taken)) (c .before .before .agrees .ensures) in
           left-as-before m states (a .at) _ (c .disallow3 .result) (c .disallow3 .ensures .0) (l .ready .long)
           (disagrees m z v (now (a .work)) (l .ready) (l .left) (a .first) (a .second) (a .third) (a .stage) next many (f .result) found n)),
@@ -115,7 +116,7 @@ decide-requires c κs =
     let z = sessionIn (s .pre .0 .2) (a .at) in
     let l = s .pre .0 .3 in
     let g = c .before .before .before .before .before .before .before .stage-at in
-    (l .ready .sees .known .agree, slots-enough m v z (now (a .numbers)) (now (a .literals)) (now (a .slots)) (now (a .work)) l (g .result) (g .ensures), part-within m v z (now (a .numbers)) (now (a .literals)) (now (a .slots)) (now (a .work)) l (g .result) (g .ensures), part-good m v z (now (a .numbers)) (now (a .literals)) (now (a .slots)) (now (a .work)) l (g .result) (g .ensures), part-supported m v z (now (a .numbers)) (now (a .literals)) (now (a .slots)) (now (a .work)) l (g .result) (g .ensures))
+    (l .ready .sees .known .agree, slots-enough m v z (now (a .numbers)) (now (a .literals)) (now (a .slots)) (now (a .work)) (meet (a .stage) (objects (a .first ∷ a .second ∷ a .third ∷ []))) l, part-within m (now (a .numbers)) (now (a .literals)) (plainly m v z (now (a .numbers)) (now (a .literals)) (now (a .slots)) (now (a .work)) (meet (a .stage) (objects (a .first ∷ a .second ∷ a .third ∷ []))) l) (a .at .met) (l .left) (g .result) (g .ensures), part-good m (now (a .numbers)) (now (a .literals)) (plainly m v z (now (a .numbers)) (now (a .literals)) (now (a .slots)) (now (a .work)) (meet (a .stage) (objects (a .first ∷ a .second ∷ a .third ∷ []))) l) (a .at .met) (l .left) (g .result) (g .ensures), part-supported m (now (a .numbers)) (now (a .literals)) (plainly m v z (now (a .numbers)) (now (a .literals)) (now (a .slots)) (now (a .work)) (meet (a .stage) (objects (a .first ∷ a .second ∷ a .third ∷ []))) l) (a .at .met) (l .left) (g .result) (g .ensures))
 
 enum-told : tie.Need-enum-told
 enum-told c = search needs
@@ -136,9 +137,9 @@ returns-4 c =
     let count = sym (c .before .before .before .before .before .before .before .before .before .before .count .ensures) ∙ c .before .before .before .before .before .before .before .before .if2 .left in (
       (λ m v states l.
           let z = sessionIn states (a .at) in
-          let many = of-record m v z (now (a .numbers)) (now (a .literals)) (now (a .slots)) (now (a .work)) l (g .result) (g .ensures) (λ x y. length (objects (a .first ∷ a .second ∷ a .third ∷ [])) ≡ y .variables) count in
-          let held = of-record m v z (now (a .numbers)) (now (a .literals)) (now (a .slots)) (now (a .work)) l (g .result) (g .ensures) (λ x y. Decides (y .variables) (Holding m z (stageBody x y) (y .variables) (choice (a .first) (a .second) (a .third))) Nowhere)
-          (subst (Decides (g .result .variables) _) (c .before .enum-told2 .given .1) (c .before .before .before .decide .ensures m v z (l .ready) (l .seats) refl)) in
+          let many = of-record m (now (a .numbers)) (now (a .literals)) (plainly m v z (now (a .numbers)) (now (a .literals)) (now (a .slots)) (now (a .work)) (meet (a .stage) (objects (a .first ∷ a .second ∷ a .third ∷ []))) l) (a .at .met) (l .left) (g .result) (g .ensures) (λ x y. length (objects (a .first ∷ a .second ∷ a .third ∷ [])) ≡ y .variables) count in
+          let held = of-record m (now (a .numbers)) (now (a .literals)) (plainly m v z (now (a .numbers)) (now (a .literals)) (now (a .slots)) (now (a .work)) (meet (a .stage) (objects (a .first ∷ a .second ∷ a .third ∷ []))) l) (a .at .met) (l .left) (g .result) (g .ensures) (λ x y. Decides (y .variables) (Holding m z (stageBody x y) (y .variables) (choice (a .first) (a .second) (a .third))) Nowhere)
+          (subst (Decides (g .result .variables) _) (c .before .enum-told2 .given .1) (c .before .before .before .decide .ensures m v z (l .ready) (lent m (now (a .numbers)) (now (a .literals)) (plainly m v z (now (a .numbers)) (now (a .literals)) (now (a .slots)) (now (a .work)) (meet (a .stage) (objects (a .first ∷ a .second ∷ a .third ∷ []))) l) (a .at .met) (l .left) (g .result) (g .ensures) (λ x y. Within (l .ready .relations) (stageBody x y)) (l .rests (a .at .met) (l .left) next)) (l .seats) refl)) in
           left-as-before m states (a .at) _ (c .disallow4 .result) (c .disallow4 .ensures .0) (l .ready .long)
           (not-held m z v (now (a .work)) (l .ready) (l .left) (a .first) (a .second) (a .third) (a .stage) next many held)),
       c .disallow4 .ensures .1,
@@ -166,12 +167,12 @@ returns-5 c =
     let count = sym (c .before .before .before .before .before .before .before .before .before .before .before .count .ensures) ∙ c .before .before .before .before .before .before .before .before .before .if2 .left in (
       (λ m v states l.
           let z = sessionIn states (a .at) in
-          let many = of-record m v z (now (a .numbers)) (now (a .literals)) (now (a .slots)) (now (a .work)) l (g .result) (g .ensures) (λ x y. length (objects (a .first ∷ a .second ∷ a .third ∷ [])) ≡ y .variables) count in
+          let many = of-record m (now (a .numbers)) (now (a .literals)) (plainly m v z (now (a .numbers)) (now (a .literals)) (now (a .slots)) (now (a .work)) (meet (a .stage) (objects (a .first ∷ a .second ∷ a .third ∷ []))) l) (a .at .met) (l .left) (g .result) (g .ensures) (λ x y. length (objects (a .first ∷ a .second ∷ a .third ∷ [])) ≡ y .variables) count in
           let f = c .before .before .before .before .before .before .before .named in
-          let found = of-record m v z (now (a .numbers)) (now (a .literals)) (now (a .slots)) (now (a .work)) l (g .result) (g .ensures) (λ x y. Named y (m .carried) (choice (a .first) (a .second) (a .third)) (f .result)) (subst (λ (k : ℕ). Named (g .result) k (choice (a .first) (a .second) (a .third)) (f .result)) (l .numbered .carried) (f .ensures)) in
+          let found = of-record m (now (a .numbers)) (now (a .literals)) (plainly m v z (now (a .numbers)) (now (a .literals)) (now (a .slots)) (now (a .work)) (meet (a .stage) (objects (a .first ∷ a .second ∷ a .third ∷ []))) l) (a .at .met) (l .left) (g .result) (g .ensures) (λ x y. Named y (m .carried) (choice (a .first) (a .second) (a .third)) (f .result)) (subst (λ (k : ℕ). Named (g .result) k (choice (a .first) (a .second) (a .third)) (f .result)) (l .numbered .carried) (f .ensures)) in
           let agree = subst (Says (Agrees (a .at .carried) (f .result))) (not-false (c .before .before .before .before .before .before .agrees .result) (c .before .before .before .before .before .if3 .left)) (c .before .before .before .before .before .before .agrees .ensures) in
-          let held = of-record m v z (now (a .numbers)) (now (a .literals)) (now (a .slots)) (now (a .work)) l (g .result) (g .ensures) (λ x y. Decides (y .variables) (Holding m z (stageBody x y) (y .variables) (choice (a .first) (a .second) (a .third))) (At (c .before .before .enum-told .given .0 .0)))
-          (subst (Decides (g .result .variables) _) (c .before .before .enum-told .given .1) (c .before .before .before .before .decide .ensures m v z (l .ready) (l .seats) refl)) in
+          let held = of-record m (now (a .numbers)) (now (a .literals)) (plainly m v z (now (a .numbers)) (now (a .literals)) (now (a .slots)) (now (a .work)) (meet (a .stage) (objects (a .first ∷ a .second ∷ a .third ∷ []))) l) (a .at .met) (l .left) (g .result) (g .ensures) (λ x y. Decides (y .variables) (Holding m z (stageBody x y) (y .variables) (choice (a .first) (a .second) (a .third))) (At (c .before .before .enum-told .given .0 .0)))
+          (subst (Decides (g .result .variables) _) (c .before .before .enum-told .given .1) (c .before .before .before .before .decide .ensures m v z (l .ready) (lent m (now (a .numbers)) (now (a .literals)) (plainly m v z (now (a .numbers)) (now (a .literals)) (now (a .slots)) (now (a .work)) (meet (a .stage) (objects (a .first ∷ a .second ∷ a .third ∷ []))) l) (a .at .met) (l .left) (g .result) (g .ensures) (λ x y. Within (l .ready .relations) (stageBody x y)) (l .rests (a .at .met) (l .left) next)) (l .seats) refl)) in
           rw (c .before .carry .ensures)
           (kept-states m states (a .at) (record { objects = a .at .objects; met = a .at .met + 1; carried = carriedOn (a .at .carried) (f .result); kept = a .at .kept + 1 }) (meet (a .stage) (objects (a .first ∷ a .second ∷ a .third ∷ []))) (l .ready .long)
           (meeting-kept m z v (now (a .work)) (l .ready) (l .left) (a .first) (a .second) (a .third) (a .stage) next many (f .result) found agree _ (held .good)))),

@@ -34,7 +34,7 @@ returns c =
       (λ m v l.
           left-as-before m (now (a .states)) (a .at) _ (c .disallow .result) (c .disallow .ensures .0) (l .ready .long)
           (no-clause m (sessionIn (now (a .states)) (a .at)) v (now (a .work)) (l .ready) (l .left) (a .line) (a .object)
-          (none-on m (now (a .numbers)) (now (a .literals)) (plainly m v (sessionIn (now (a .states)) (a .at)) (now (a .numbers)) (now (a .literals)) (now (a .slots)) (now (a .work)) (a .line) (a .object) l) (a .line) (λ k h. f .ensures .2 k (omega (arith, h, c .before .if1 .taken)))))),
+          (none-on m (now (a .numbers)) (now (a .literals)) (plainly m v (sessionIn (now (a .states)) (a .at)) (now (a .numbers)) (now (a .literals)) (now (a .slots)) (now (a .work)) (step (a .line) (a .object)) l) (a .line) (λ k h. f .ensures .2 k (omega (arith, h, c .before .if1 .taken)))))),
       c .disallow .ensures .1,
     )
 
