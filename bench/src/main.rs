@@ -6,6 +6,7 @@ mod datalog;
 mod method;
 mod model;
 mod product;
+mod runs;
 mod texts;
 
 use clock::timed;
@@ -123,6 +124,20 @@ fn main() {
             if own > slowest.0 {
                 slowest = (own, format!("{}: {}", text.name, name.trim()));
             }
+        }
+    }
+    for run in runs::all() {
+        let name = format!("changing states, {}", run.name);
+        if !parts.is_empty() && !parts.iter().any(|p| name.contains(p.as_str())) {
+            continue;
+        }
+        let bytes = run.bytes.as_bytes();
+        let (own, broken) = best(|| buffers.replay(bytes, &run.places));
+        let (plain, expected) = best(|| method::replay(&method::text::read(bytes), &run.places));
+        assert_eq!((broken, expected), (None, None), "{name}");
+        line(&name, own, [Some(plain), None], &mut worst);
+        if own > slowest.0 {
+            slowest = (own, name.clone());
         }
     }
     println!("worst ratio {:.3}: {}", worst.0, worst.1.trim());

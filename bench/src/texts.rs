@@ -9,12 +9,12 @@ pub struct Text {
 }
 
 /// The state relations of the large texts.
-const STATES: [&str; 7] = ["A", "B", "C", "D", "E", "F", "G"];
+pub const STATES: [&str; 7] = ["A", "B", "C", "D", "E", "F", "G"];
 /// Their pair relations.
-const PAIRS: [&str; 6] = ["P", "Q", "R", "S", "T", "U"];
+pub const PAIRS: [&str; 6] = ["P", "Q", "R", "S", "T", "U"];
 
 /// The lines that declare the seven state relations, single relations and pair relations.
-fn declared(singles: &[&str], pairs: &[&str]) -> String {
+pub fn declared(singles: &[&str], pairs: &[&str]) -> String {
     let mut t = String::new();
     for s in STATES {
         writeln!(t, "(state {s})").unwrap();
@@ -125,7 +125,7 @@ fn office_block() -> String {
 }
 
 /// A literal that says whether a state relation is set.
-fn bit(set: bool, relation: usize, v: &str) -> String {
+pub fn bit(set: bool, relation: usize, v: &str) -> String {
     if set {
         format!(" ({} {v})", STATES[relation])
     } else {
@@ -159,26 +159,36 @@ fn high_steps(t: &mut String) {
 fn hand_round() -> String {
     let mut t = declared(&["First", "Low", "Row", "Next"], &PAIRS);
     all_states(&mut t);
-    high_steps(&mut t);
-    writeln!(t, "(rule (First x) (A x){})", (1..7).map(|i| bit(false, i, "x")).collect::<String>()).unwrap();
+    hand_round_rules(&mut t, 127);
+    writeln!(t, "(ask ((R x x){}))", is(127, "x")).unwrap();
+    t
+}
+
+/// The literals that say that a variable stands for the state.
+fn is(state: u32, v: &str) -> String {
+    (0..7).map(|i| bit(state >> i & 1 == 1, i, v)).collect()
+}
+
+/// Rules that hand one fact round over all pairs of the states from 1 to the last.
+pub fn hand_round_rules(t: &mut String, last: u32) {
+    high_steps(t);
+    writeln!(t, "(rule (First x){})", is(1, "x")).unwrap();
     t.push_str("(rule (R x y) (S x y))\n(rule (S x y) (T x y))\n(rule (T x y) (U x y))\n");
     for body in low_steps("z", "y") {
         writeln!(t, "(rule (U x y) (R x z) (Q z y){body})").unwrap();
     }
     let carry: String = (0..3).map(|i| bit(true, i, "z") + &bit(false, i, "y")).collect();
     writeln!(t, "(rule (U x y) (R x z) (P z y){carry})").unwrap();
-    writeln!(t, "(rule (Row x) (R x y){})", (0..7).map(|i| bit(true, i, "y")).collect::<String>()).unwrap();
+    writeln!(t, "(rule (Row x) (R x y){})", is(last, "y")).unwrap();
     for body in low_steps("z", "x") {
         writeln!(t, "(rule (Next x) (Row z) (Q z x){body})").unwrap();
     }
     writeln!(t, "(rule (Next x) (Row z) (P z x){})", carry.replace('y', "x")).unwrap();
     t.push_str("(rule (U x y) (Next x) (First y))\n(rule (U x y) (First x) (First y))\n");
-    writeln!(t, "(ask ((R x x){}))", (0..7).map(|i| bit(true, i, "x")).collect::<String>()).unwrap();
-    t
 }
 
 /// Seven rules after which a single relation has every state.
-fn every(t: &mut String, relation: &str) {
+pub fn every(t: &mut String, relation: &str) {
     for s in STATES {
         writeln!(t, "(rule ({relation} x) ({s} x))").unwrap();
     }
@@ -200,7 +210,7 @@ fn six_full(find: impl Fn(&mut String)) -> String {
 }
 
 /// Lines that fill the six pair relations, and so many rules of eight literals over them.
-fn full_relations(t: &mut String, rules: usize) {
+pub fn full_relations(t: &mut String, rules: usize) {
     every(t, "O");
     for p in PAIRS {
         writeln!(t, "(rule ({p} x y) (O x) (O y))").unwrap();
@@ -211,7 +221,7 @@ fn full_relations(t: &mut String, rules: usize) {
 }
 
 /// Lines that make pair relations between states that are alike in one relation, or between those that are not.
-fn halves(t: &mut String, alike: &[&str], unlike: &[&str]) {
+pub fn halves(t: &mut String, alike: &[&str], unlike: &[&str]) {
     for p in alike {
         writeln!(t, "(rule ({p} x y) (O x) (O y) (A x) (A y))").unwrap();
         writeln!(t, "(rule ({p} x y) (O x) (O y) (not (A x)) (not (A y)))").unwrap();
@@ -223,7 +233,7 @@ fn halves(t: &mut String, alike: &[&str], unlike: &[&str]) {
 }
 
 /// Bodies of eight literals that hold for each two of three variables and never for all three.
-fn no_triangle(i: usize) -> String {
+pub fn no_triangle(i: usize) -> String {
     let alike = ["Q", "R", "S"];
     let (a, b, c) = (alike[i % 3], alike[(i + 1) % 3], alike[(i + 2) % 3]);
     let bodies = [
@@ -351,15 +361,14 @@ fn chained_never() -> String {
 /// The counter, and a line that begins it anew.
 fn cycle(t: &mut String, guarded: bool) {
     counter(t, guarded);
-    writeln!(t, "(next x (A) (B C D E F G){})", (0..7).map(|i| bit(true, i, "x")).collect::<String>()).unwrap();
+    writeln!(t, "(next x (A) (B C D E F G){})", is(127, "x")).unwrap();
 }
 
 /// A question of four stages, each a whole round of the counter after the one before.
 fn last_states(t: &mut String) {
     t.push_str("(ask");
     for n in [127, 126, 125, 124] {
-        let body: String = (0..7).map(|i| bit(n >> i & 1 == 1, i, "x")).collect();
-        write!(t, " ({})", body.trim_start()).unwrap();
+        write!(t, " ({})", is(n, "x").trim_start()).unwrap();
     }
     t.push_str(")\n");
 }

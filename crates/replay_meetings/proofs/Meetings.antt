@@ -8,26 +8,30 @@ use Prim.Native.Nat.{ℕ, suc, _≤_, _<_}
 use native.Mathlib.Omega.{arith}
 use borrow.Author.Tests.{eqb-true, eq-eqb, ne-eqb}
 use lib.Dec.{eqb}
-use lib.ListN.{length, take, getD}
+use lib.ListN.{length, take, drop, set, getD}
+use lib.Seq.{set-out}
 use Rattle.limits.specs.Limits as limit
 use Rattle.semantics.specs.Models.{elem, Body, vars, supported, names, Supported}
 use Rattle.semantics.specs.Facts.{Derived, Meets}
+use Rattle.semantics.specs.Runs as runs
 use Rattle.semantics.specs.Runs.{meet, pick, named, Allowed}
 use Rattle.semantics.proofs.Tools.{either, same?, clash}
 use Rattle.semantics.proofs.Bodies.{holds-agree, supported-vars}
 use Rattle.model.specs.declared.Model.{Model}
 use Rattle.model.specs.declared.Stage.{Stage}
+use Rattle.model.specs.Literals.{GoodBody}
 use Rattle.model.specs.Records.{programOf, questionOf, stageBody, stageOf, numberIn, stageAt}
 use Rattle.model.specs.Places.{objects}
-use Rattle.model.specs.WellFormed.{WellFormed}
 use Rattle.model.proofs.Renaming.{elem-map, elem-of-map, vars-renamed, supported-renamed, meets-renamed, named-renamed}
-use Rattle.model.proofs.Accepted.{stages, stage-here, stage-vars, stage-different, stage-count}
+use Rattle.model.proofs.Accepted.{stages, stage-here, stage-vars, stage-body, stage-different, stage-count}
 use Rattle.facts_candidates.specs.Choices.{chosen}
+use Rattle.replay_session.specs.declared.Position.{Position}
 use Rattle.replay_session.specs.declared.Session.{Session}
-use Rattle.replay_session.specs.Sessions.{met}
+use Rattle.replay_session.specs.Sessions.{sessionIn, met}
 use Rattle.replay_session.specs.Records.{sessionOf, carriedBy}
+use Rattle.replay_numbers.specs.Numbers.{stagePlace, stageFrom}
 use Rattle.replay_view.specs.declared.View.{View}
-use Rattle.replay_steps.specs.Tries.{Ready, Holding, Tried}
+use Rattle.replay_steps.specs.Tries.{Plain, Ready, Open, Holding, Tried}
 use Rattle.replay_meetings.specs.Carried.{Named, Agrees, carriedOn}
 use Rattle.replay_meetings.proofs.Objects.{pick-place, choice, objects-chosen, chosen-small}
 
@@ -35,18 +39,47 @@ use Rattle.replay_meetings.proofs.Objects.{pick-place, choice, objects-
 pub named-small : (g : Stage) (v a b c r : ℕ) → a < 256 → b < 256 → c < 256 → Named g v (choice a b c) r → r < 256
 named-small g v a b c r ha hb hc = ⊎-elim (λ f. rw (f .3) (chosen-small a b c (f .0) ha hb hc)) (λ f. rw (f .1) (omega arith))
 
--- a stage's body can be handed to the evaluator
-module _ (m : Model) (w : WellFormed m) (i : ℕ) (h : i < m .stagecount) where
-  pub part-within : stageAt m i .first ≤ limit.literals
-  part-within = let p = w .stage i h .part .within in let l = w .literalcount in omega arith
+-- STAGE i among the numbers of a model
+module _ (m : Model) (ns row : List ℕ) (plain : Plain m ns row) (i : ℕ) (here : i < m .stagecount) (g : Stage) (e : g ≡ stageFrom ns (stagePlace i)) where
+  abbrev own : Stage
+  own = stageAt m i
 
-  pub part-supported : Supported (vars (stageBody (m .literals) (stageAt m i))) (stageBody (m .literals) (stageAt m i))
-  part-supported x e =
-      let f = numberIn (stageAt m i) in
-      let b = stageBody (m .literals) (stageAt m i) in
-      let safe = subst (λ (body : Body). Supported (vars body) body) (stage-here m w i h) (w .safely i) (f x) (rw (vars-renamed f b) (elem-map f x (vars b) e)) in
-      let y = elem-of-map f (f x) (supported b) (rw (supported-renamed f b) at safe) in
-      rw (stage-different m w i h x (y .0) e (supported-vars (y .0) b (y .1)) (y .2)) (y .1)
+  same-stage : own ≡ g
+  same-stage = sym (e ∙ plain .numbered .stage i here)
+
+  -- what holds of the record's literals and stage holds of those lent, and the other way round
+  pub lent : (P : List ℕ → Stage → Type 0) → P (m .literals) own → P row g
+  lent P h = subst (P row) same-stage (subst (λ (x : List ℕ). P x own) (plain .literals) h)
+
+  pub of-record : (P : List ℕ → Stage → Type 0) → P row g → P (m .literals) own
+  of-record P h = subst (λ (x : List ℕ). P x own) (sym (plain .literals)) (subst (P row) (sym same-stage) h)
+
+  -- its body can be handed to the evaluator
+  pub part-within : g .first ≤ length row
+  part-within = lent (λ x y. y .first ≤ length x)
+      (let wf = plain .accepted in let p = wf .stage i here .part .within in let q = wf .literalcount in let n = wf .literals in omega arith)
+
+  pub part-good : GoodBody (drop (g .first) row) (g .count) (g .variables)
+  part-good = lent (λ x y. GoodBody (drop (y .first) x) (y .count) (y .variables)) (stage-body m (plain .accepted) i here)
+
+  pub part-supported : Supported (vars (stageBody row g)) (stageBody row g)
+  part-supported = lent (λ x y. Supported (vars (stageBody x y)) (stageBody x y)) supports
+    where
+      supports : Supported (vars (stageBody (m .literals) own)) (stageBody (m .literals) own)
+      supports x q =
+          let f = numberIn own in
+          let b = stageBody (m .literals) own in
+          let wf = plain .accepted in
+          let safe = subst (λ (body : Body). Supported (vars body) body) (stage-here m wf i here) (wf .safely i) (f x) (rw (vars-renamed f b) (elem-map f x (vars b) q)) in
+          let y = elem-of-map f (f x) (supported b) (rw (supported-renamed f b) at safe) in
+          rw (stage-different m wf i here x (y .0) q (supported-vars (y .0) b (y .1)) (y .2)) (y .1)
+
+  pub few-variables : g .variables ≤ limit.variables
+  few-variables = lent (λ x y. y .variables ≤ limit.variables) (plain .accepted .stage i here .part .few)
+
+-- the slots are those of the view
+pub slots-enough : (m : Model) (v : View) (s : Session) (ns row slots w : List ℕ) (p : runs.Place) → Open m v s ns row slots w p → s .objects ≤ length slots
+slots-enough m v s ns row slots w p l = let q = l .ready .sees .views .good .slots in let f = l .ready .fits .objects in omega (arith, ap length (l .seats))
 
 module _ (m : Model) (s : Session) (v : View) (w : List ℕ) (ready : Ready m s v w) (left : s .met < m .stagecount) (a b c : ℕ) where
   abbrev os : List ℕ
@@ -177,3 +210,8 @@ module _ (m : Model) (s : Session) (v : View) (w : List ℕ) (ready : Ready m s 
         ap (met s) (carried-after ∙ ap (λ (y : Body). carriedBy m s y os) (sym here)),
         refl,
       )
+
+-- a kept meeting gives no object a state
+pub kept-states : (m : Model) (states : List ℕ) (at after : Position) (p : runs.Place) → length states ≡ limit.objects → Tried m (sessionIn states at) p true (sessionIn states after) 0
+    → Tried m (sessionIn states at) p true (sessionIn (set states limit.none 0) after) 0
+kept-states m states at after p long h = subst (λ (l : List ℕ). Tried m (sessionIn states at) p true (sessionIn l after) 0) (sym (set-out states limit.none 0 (omega arith))) h

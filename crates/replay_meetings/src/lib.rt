@@ -2,20 +2,20 @@
 use facts_candidates::Choice;
 use facts_find::Found;
 use limits::NONE;
-use model::Model;
 use model::Stage;
-use replay_session::Session;
+use replay_session::Position;
 use replay_steps::Outcome;
-use replay_view::View;
 ghost use mathlib.Core.Path.{_≡_};
-ghost use mathlib.Core.List.{[], _∷_};
-ghost use Prim.Native.Nat.{_≤_, _<_};
+ghost use mathlib.Core.List.{List, [], _∷_};
+ghost use Prim.Native.Nat.{ℕ, _≤_, _<_};
 ghost use lib.ListN.{length};
 ghost use Rattle.limits.specs.Limits as limit;
 ghost use Rattle.semantics.specs.Runs.{meet};
+ghost use Rattle.model.specs.declared.Model.{Model};
 ghost use Rattle.model.specs.Places.{objects};
-ghost use Rattle.replay_session.specs.Sessions.{Says};
-ghost use Rattle.replay_steps.specs.Tries.{Ready, Tried};
+ghost use Rattle.replay_session.specs.Sessions.{Says, sessionIn};
+ghost use Rattle.replay_view.specs.declared.View.{View};
+ghost use Rattle.replay_steps.specs.Tries.{Rests, Plain, Open, Gives, TriedBy};
 ghost use Rattle.replay_meetings.specs.Carried.{Named, Agrees, carriedOn};
 
 // How many objects a meeting names.
@@ -73,47 +73,73 @@ fn carry(carried: u32, object: u32) -> u32
     if object == NONE { carried } else { object }
 }
 
+// The derived relations that a meeting of a stage rests on, as a row of bits.
+pub fn needs(numbers: &[u32], literals: &[u32], stage: u32) -> [u8; 16]
+    requires { ⌜ ((m : Model) × Plain m (now numbers) (now literals)) ⌝ }
+    ensures { λ r. ⌜ ((m : Model) → Plain m (now (numbers .entry)) (now (literals .entry)) → (os : List ℕ) → Rests m r (meet stage os)) ⌝ }
+{
+    if stage == 0 {
+        return [0u8; 16];
+    }
+    if stage > numbers[1] {
+        return [0u8; 16];
+    }
+    let g = replay_numbers::stage_at(numbers, stage as usize - 1);
+    facts_rests::add([0u8; 16], literals, g.first, g.count)
+}
+
 // The meeting of a stage with objects, the named ones first.
 pub fn meet_place(
-    m: Model,
-    s: Session,
-    v: View,
+    numbers: &[u32],
+    literals: &[u32],
+    slots: &[u8],
     work: &[u8],
+    at: Position,
     stage: u32,
     first: u32,
     second: u32,
     third: u32,
 ) -> Outcome
-    requires { ⌜ Ready m s v (now work) × (s .met < m .stagecount) × (first < 256) × (second < 256) × (third < 256) ⌝ }
-    ensures { λ r. ⌜ Tried m s (meet stage (objects (first ∷ second ∷ third ∷ []))) (r .allowed) (r .session) (r .stood) ⌝ }
+    requires { ⌜ ((m : Model) × (v : View) × (states : List ℕ) × Open m v (sessionIn states at) (now numbers) (now literals) (now slots) (now work) (meet stage (objects (first ∷ second ∷ third ∷ [])))) × (first < 256) × (second < 256) × (third < 256) ⌝ }
+    ensures { λ r. ⌜ ((m : Model) (v : View) (states : List ℕ) → Open m v (sessionIn states at) (now (numbers .entry)) (now (literals .entry)) (now (slots .entry)) (now (work .entry)) (meet stage (objects (first ∷ second ∷ third ∷ []))) → TriedBy m states at (meet stage (objects (first ∷ second ∷ third ∷ []))) r) ⌝ }
+    ensures { λ r. ⌜ Gives at r ⌝ }
 {
-    let i = s.met;
+    let i = at.met;
     if stage as usize != i + 1 {
-        return replay_steps::disallow(s);
+        return replay_steps::disallow(at);
     }
-    let g = m.stages[i];
+    let g = replay_numbers::stage_at(numbers, i);
     let part = g.first;
     let size = g.count;
     if count(first, second, third) != g.variables {
-        return replay_steps::disallow(s);
+        return replay_steps::disallow(at);
     }
     let fixed = Choice {
         first: first as usize,
         second: second as usize,
         third: third as usize,
     };
-    let object = named(g, m.carried, fixed) as u32;
-    if !agrees(s.carried, object) {
-        return replay_steps::disallow(s);
+    let object = named(g, numbers[2], fixed) as u32;
+    if !agrees(at.carried, object) {
+        return replay_steps::disallow(at);
     }
-    let found = replay_steps::decide(m, s, v, work, part, size, g.variables, fixed);
+    let n = at.objects;
+    let found = replay_steps::decide(literals, slots, work, n, part, size, g.variables, fixed);
     let Found::At(_) = found else {
-        return replay_steps::disallow(s);
+        return replay_steps::disallow(at);
     };
-    let after = replay_session::meet(s, carry(s.carried, object));
+    let carried = carry(at.carried, object);
+    let after = Position {
+        objects: n,
+        met: i + 1,
+        carried,
+        kept: at.kept + 1,
+    };
     Outcome {
         allowed: true,
-        session: after,
+        object: NONE as usize,
+        state: 0,
+        at: after,
         stood: 0,
     }
 }

@@ -12,6 +12,7 @@ use Rattle.semantics.specs.Labels.{has, relabel}
 use Rattle.semantics.specs.Models.{elem, Body, Line, rule, new, next, other, Program, Question, line, vars}
 use Rattle.semantics.specs.Runs as runs
 use Rattle.semantics.specs.Runs.{step, meet, named}
+use Rattle.replay_session.specs.declared.Position.{Position}
 use Rattle.replay_session.specs.declared.Session.{Session}
 
 -- the test says whether the fact holds
@@ -30,6 +31,10 @@ sessionOf c s = record { db = take (s .objects) (s .states); met = s .met; carri
 -- the state of an object
 abbrev pub stateIn : Session → ℕ → ℕ
 stateIn s o = getD (s .states) o 0
+
+-- the state with these states of the objects, in the position
+abbrev pub sessionIn : List ℕ → Position → Session
+sessionIn states p = record { states = states; objects = p .objects; met = p .met; carried = p .carried; kept = p .kept }
 
 -- THE STATE FITS THE TEXT, which declares so many state relations and asks Q: not "over 255 objects, an undeclared relation, too many stages, a carried object not created, or over 8,640 places"
 pub record Fits (declared : ℕ) (Q : Question) (s : Session) : Type 0 where

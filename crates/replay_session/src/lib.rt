@@ -1,4 +1,4 @@
-// The replay's state by value, whether it fits a text, and what a place makes of it.
+// The replay's state by value, and whether it fits a text.
 use limits::NONE;
 use limits::OBJECTS;
 use limits::RUN;
@@ -7,11 +7,11 @@ use model::Relations;
 ghost use mathlib.Core.Path.{_≡_};
 ghost use mathlib.Core.Bool.{true};
 ghost use Prim.Native.Nat.{ℕ, _≤_, _<_};
-ghost use lib.ListN.{take};
+ghost use lib.ListN.{take, set};
 ghost use Rattle.limits.specs.Limits as limit;
 ghost use Rattle.semantics.specs.Labels.{has};
 ghost use Rattle.model.specs.WellFormed.{inClass, WellFormed};
-ghost use Rattle.replay_session.specs.Sessions.{Says, stateIn, created, relabeled, met as stageMet};
+ghost use Rattle.replay_session.specs.Sessions.{Says, stateIn, sessionIn};
 ghost use Rattle.replay_session.specs.Records.{Fits};
 
 // The replay's answer to a run: kept, broken at a place, or a refusal with its number and line.
@@ -37,39 +37,27 @@ pub struct Session {
     pub kept: usize,
 }
 
-// An object is created with the set of relations.
-pub fn create(s: Session, set: u32) -> Session
-    requires { ⌜ (s .objects < limit.objects) × (s .kept < limit.run) ⌝ }
-    ensures { λ r. ⌜ r ≡ created s set ⌝ }
-{
-    let mut t = s;
-    let o = t.objects;
-    t.states[o] = set;
-    t.objects = o + 1;
-    t.kept = t.kept + 1;
-    t
+// The replay's state but for the states of the objects.
+pub struct Position {
+    pub objects: usize,
+    pub met: usize,
+    pub carried: u32,
+    pub kept: usize,
 }
 
-// An object is relabeled.
-pub fn relabel(s: Session, object: usize, plus: u32, minus: u32) -> Session
-    requires { ⌜ (object < limit.objects) × (s .kept < limit.run) ⌝ }
-    ensures { λ r. ⌜ r ≡ relabeled s object plus minus ⌝ }
+// The state after a place that gave an object, or none for NONE, a state.
+pub fn proceed(s: Session, at: Position, object: usize, state: u32) -> Session
+    ensures { λ r. ⌜ r ≡ sessionIn (set (s .states) object state) at ⌝ }
 {
     let mut t = s;
-    t.states[object] = labels::relabel(t.states[object], plus, minus);
-    t.kept = t.kept + 1;
-    t
-}
-
-// A stage is met, and the carried object is set.
-pub fn meet(s: Session, carried: u32) -> Session
-    requires { ⌜ (s .met < limit.stages) × (s .kept < limit.run) ⌝ }
-    ensures { λ r. ⌜ r ≡ stageMet s carried ⌝ }
-{
-    let mut t = s;
-    t.met = t.met + 1;
-    t.carried = carried;
-    t.kept = t.kept + 1;
+    t.objects = at.objects;
+    t.met = at.met;
+    t.carried = at.carried;
+    t.kept = at.kept;
+    if object < OBJECTS {
+        t.states[object] = state;
+        return t;
+    }
     t
 }
 

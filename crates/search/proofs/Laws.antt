@@ -44,7 +44,7 @@ module _ (rows last : List ℕ) (k : ℕ) (kept : Kept (replicate 16 255) rows k
 
 module _ (m : Model) (wf : WellFormed m) (w : List ℕ) (s : States) (reaches : Reaches m w s) where
   pub exactly : Exactly m w s
-  exactly = record { proper = reaches .proper; agree = reaches .agree; shown = reaches .exact .states; facts = reaches .exact .facts }
+  exactly = record { proper = reaches .proper; agree = reaches .agree; shown = reaches .exact .states; facts = reaches .exact .facts; marks = reaches .marks }
 
   -- NO LINE ADDS A STATE
   pub no-more : Whole (programOf m) (row s)

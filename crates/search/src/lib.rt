@@ -37,12 +37,11 @@ pub struct Found {
 
 // The moves over the found states.
 fn tables(work: &[u8], m: Model, s: States) -> Moves
-    requires { ⌜ WellFormed m × Exactly m (now work) s × Whole (programOf m) (row s) ⌝ }
+    requires { ⌜ WellFormed m × (room ≤ length (now work)) × Exactly m (now work) s × Whole (programOf m) (row s) ⌝ }
     ensures { λ r. ⌜ Moving m s r ⌝ }
 {
-    let slots = facts_candidates::slots();
     let mut table = [0u8; TABLE];
-    search_ways::takes(work, &slots, m, s, &mut table);
+    search_ways::takes(work, m, &mut table);
     let mut steps = [0u8; MATRIX];
     search_ways::steps(m, s, &table, &mut steps);
     let mut ways = steps;

@@ -1,4 +1,3 @@
 pub mod Laws
 pub mod Clauses
 pub mod Marks
-pub mod WellFormed

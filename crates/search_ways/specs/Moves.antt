@@ -5,12 +5,17 @@ use mathlib.Core.Logic.{_⊎_, _↔_}
 use mathlib.Core.Bool.{true}
 use mathlib.Core.List.{List}
 use Prim.Native.Nat.{ℕ, _<_}
+use Rattle.limits.specs.Limits as limit
 use Rattle.semantics.specs.Models.{Body, Line, rule, new, next, other}
 use Rattle.semantics.specs.Facts.{Database, Holds, In, Derived}
+use Rattle.model.specs.declared.Action.{Action}
+use Rattle.model.specs.declared.Action.the-variants.{Rule, New, Next}
 use Rattle.model.specs.declared.Model.{Model}
 use Rattle.model.specs.Records.{clauseLine, programOf, clauseAt}
 use Rattle.facts_bits.specs.Bits.{inRow}
 use Rattle.facts_table.specs.Table.{tableOf, Consistent, Rows}
+use Rattle.facts_heads.specs.Heads.{guard}
+use Rattle.facts_plans.specs.Plans.{Allowed}
 use Rattle.search_states.specs.declared.States.{States}
 use Rattle.search_states.specs.States.{row, Proper}
 
@@ -41,12 +46,19 @@ Starts S F e other = ⊥
 abbrev pub InRow : ℕ → ℕ → (ℕ → Type 0) → ℕ → ℕ → Type 0
 InRow i n D k e = (k ≡ i) × (e < n) × D e
 
--- the found states are in order, and the work area shows them with exactly the facts that are derived over them
+-- a `next` clause i has a mark for slot e in the work area
+abbrev pub Noted : Action → List ℕ → ℕ → ℕ → Type 0
+Noted (Rule r n) w i e = ⊥
+Noted (New t) w i e = ⊥
+Noted (Next plus minus) w i e = inRow w (guard i) e ≡ true
+
+-- the found states are in order, and the work area shows them with exactly the facts that are derived over them and the marks of the guards that hold
 pub record Exactly (m : Model) (w : List ℕ) (s : States) : Type 0 where
   pub proper : Proper s
   pub agree : Consistent w
   pub shown : Rows (row s) w
   pub facts : (r : ℕ) (os : List ℕ) → In (tableOf w) r os ↔ Derived (programOf m) (row s) r os
+  pub marks : (i e : ℕ) → i < limit.clauses → e < 128 → inRow w (guard i) e ≡ true ↔ Allowed m (row s) i e
 
 -- THE TABLE OF MOVES: clause i can be taken from slot e
 abbrev pub CanTake : Model → States → ℕ → ℕ → Type 0

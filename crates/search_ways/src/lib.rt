@@ -1,26 +1,22 @@
 // The table of moves over the found states, who can come from which state to which, and a shortest way.
-use facts_holds::Part;
 use model::Action;
 use model::Clause;
 use model::Model;
 use search_states::States;
 ghost use mathlib.Core.Path.{_≡_};
-ghost use mathlib.Core.List.{List};
 ghost use Prim.Native.Nat.{ℕ, _+_, _*_, _≤_, _<_};
 ghost use lib.ListN.{length, take};
+ghost use Rattle.limits.specs.Limits as limit;
 ghost use Rattle.semantics.specs.Labels.{relabel};
 ghost use Rattle.semantics.specs.Models.{Distinct, line};
-ghost use Rattle.semantics.specs.Facts.{In, state};
+ghost use Rattle.semantics.specs.Facts.{state};
 ghost use Rattle.semantics.specs.Walkers.{Whole, Takes, Comes};
 ghost use Rattle.model.specs.declared.Action.the-variants as action;
-ghost use Rattle.model.specs.Records.{bodyAt, clauseLine, programOf};
+ghost use Rattle.model.specs.Records.{programOf};
 ghost use Rattle.model.specs.WellFormed.{WellFormed};
-ghost use Rattle.facts_table.specs.Table.{tableOf, Consistent, Rows};
-ghost use Rattle.facts_candidates.specs.Choices.{Own};
-ghost use Rattle.facts_holds.specs.Shows.{Evaluable};
+ghost use Rattle.facts_heads.specs.Heads.{room};
 ghost use Rattle.search_states.specs.States.{row, Proper};
-ghost use Rattle.search_clauses.specs.Reach.{Takable};
-ghost use Rattle.search_ways.specs.Moves.{Marks, None, With, HoldsAt, Starts, InRow, Exactly, CanTake};
+ghost use Rattle.search_ways.specs.Moves.{Marks, None, With, InRow, Noted, Exactly, CanTake};
 ghost use Rattle.search_ways.specs.Steps.{Between, Turns, Led, OneStep};
 ghost use Rattle.search_ways.specs.Chains.{Inside, Linked, Through};
 ghost use Rattle.search_ways.specs.Shortest.{Says, Near, Joins, Joined, Nearest, Shortest};
@@ -42,46 +38,11 @@ fn clear(rows: &mut [u8])
     }
 }
 
-// Marks in row i the slots from which a `next` clause with this body can be taken.
-fn mark_next(
-    work: &[u8],
-    slots: &[u8],
-    n: usize,
-    literals: &[u32],
-    part: Part,
-    i: usize,
-    table: &mut [u8],
-)
-    requires { ⌜ Consistent (now work) × Own 128 (now slots) × (n ≤ 128) × Evaluable (now literals) part × (0 < part .variables) × (i * 16 + 16 ≤ length (now table)) × (i < 64) ⌝ }
-    ensures { λ _. ⌜ ((S : List ℕ) → Rows S (now (work .entry)) → length S ≡ n → Marks (now (table .exit)) (With (now (table .entry)) (InRow i n (λ e. HoldsAt S (In (tableOf (now (work .entry)))) 0 e (bodyAt (now (literals .entry)) (part .first) (part .count)))))) ⌝ }
+// Copies to row i of the table the marks of clause i, if it is a `next` clause.
+fn copy(work: &[u8], c: Clause, i: usize, table: &mut [u8])
+    requires { ⌜ (room ≤ length (now work)) × (i * 16 + 16 ≤ length (now table)) × (i < limit.clauses) ⌝ }
+    ensures { λ _. ⌜ Marks (now (table .exit)) (With (now (table .entry)) (InRow i 128 (Noted (c .action) (now (work .entry)) i))) ⌝ }
 {
-    let mut e: usize = 0;
-    while e < n {
-        if facts_holds::at(work, slots, n, literals, part, 0, e) {
-            facts_bits::put(table, i * SLOTS + e);
-        }
-        e += 1;
-    }
-}
-
-// Marks in row i the slots from which a clause can be taken, if it is a `next` clause.
-fn mark_clause(
-    work: &[u8],
-    slots: &[u8],
-    n: usize,
-    literals: &[u32],
-    c: Clause,
-    i: usize,
-    table: &mut [u8],
-)
-    requires { ⌜ Consistent (now work) × Own 128 (now slots) × (n ≤ 128) × Takable (now literals) c × (i * 16 + 16 ≤ length (now table)) × (i < 64) ⌝ }
-    ensures { λ _. ⌜ ((S : List ℕ) → Rows S (now (work .entry)) → length S ≡ n → Marks (now (table .exit)) (With (now (table .entry)) (InRow i n (λ e. Starts S (In (tableOf (now (work .entry)))) e (clauseLine (now (literals .entry)) c))))) ⌝ }
-{
-    let part = Part {
-        first: c.first,
-        count: c.count,
-        variables: c.variables as usize,
-    };
     let action = c.action;
     match action {
         Action::Rule {
@@ -90,22 +51,22 @@ fn mark_clause(
         } => {}
         Action::New { set: _ } => {}
         Action::Next { plus: _, minus: _ } => {
-            mark_next(work, slots, n, literals, part, i, table);
+            let row = facts_bits::row(work, facts_heads::guard_row(i));
+            facts_bits::join(table, i, row);
         }
     }
 }
 
 // The table of moves: row i has the slots from which clause i can be taken, if it is a `next` clause.
-pub fn takes(work: &[u8], slots: &[u8], m: Model, s: States, table: &mut [u8])
-    requires { ⌜ WellFormed m × Exactly m (now work) s × Own 128 (now slots) × (length (now table) ≡ 1024) ⌝ }
-    ensures { λ _. ⌜ Marks (now (table .exit)) (CanTake m s) ⌝ }
+pub fn takes(work: &[u8], m: Model, table: &mut [u8])
+    requires { ⌜ WellFormed m × (room ≤ length (now work)) × (length (now table) ≡ 1024) ⌝ }
+    ensures { λ _. ⌜ ((s : States) → Exactly m (now (work .entry)) s → Marks (now (table .exit)) (CanTake m s)) ⌝ }
 {
     clear(table);
-    let n = s.count;
     let mut i: usize = 0;
     while i < m.clausecount {
         let c = m.clauses[i];
-        mark_clause(work, slots, n, &m.literals, c, i, table);
+        copy(work, c, i, table);
         i += 1;
     }
 }

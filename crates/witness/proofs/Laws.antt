@@ -18,7 +18,7 @@ use Rattle.semantics.specs.Building.{session, Leads, build}
 use Rattle.semantics.proofs.Tools.{either}
 use Rattle.semantics.proofs.Leads.{leads-plays, steps-lead, kept-length}
 use Rattle.semantics.proofs.Playing.{playing-on}
-use Rattle.semantics.proofs.Build.{built, length-build}
+use Rattle.semantics.proofs.WalkersBuild.{built, length-build}
 use Rattle.model.specs.declared.Model.{Model}
 use Rattle.model.specs.Records.{programOf, questionOf}
 use Rattle.model.specs.WellFormed.{WellFormed}

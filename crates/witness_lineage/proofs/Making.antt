@@ -1,6 +1,6 @@
 -- Writing a lineage from its last line back, and the lineages of all states.
 use mathlib.Core.Path.{_≡_, sym, ap, _∙_}
-use mathlib.Core.Logic.{⊎-elim}
+use mathlib.Core.Logic.{⊎-elim, _≢_}
 use mathlib.Core.Bool.{true, false}
 use mathlib.Core.List.{List, [], _∷_, _++_, append-assoc, append-nil, map-append}
 use Prim.Native.Nat.{ℕ, zero, suc, _+_, _≤_, _<_}
@@ -23,7 +23,7 @@ use Rattle.search_states.specs.States.{row, by, from, Proper, Discovered}
 use Rattle.search_states.proofs.Laws.{length-row}
 use Rattle.witness_table.specs.Runs.{AllNumerable, backwards}
 use Rattle.witness_table.proofs.Laws.{backwards-none, backwards-on, backwards-more, numerable-append}
-use Rattle.witness_lineage.specs.Lineage.{isNew, linesTo, making, building}
+use Rattle.witness_lineage.specs.Lineage.{isNew, linesTo, making, building, Ancestry, Makes}
 use Rattle.witness_lineage.proofs.Laws.{earlier, lineage-new, lineage-next, small-line}
 
 pub length-steps : (ts : List Pair) → length (places ts) ≡ length ts
@@ -93,6 +93,32 @@ module _ (m : Model) (wf : WellFormed m) (s : States) (proper : Proper s) (found
           (λ (e : isNew (line (programOf m) (by s i)) ≡ false). let a = made-more e .1 in
           omega (arith, a .index, ap length (a .rest), length-append (linesTo m s (from s i)) (a .lines)))
           (either (isNew (line (programOf m) (by s i))))
+
+-- the same, read from the rows
+module _ (m : Model) (s : States) (ls ps bs : List ℕ) (a : Ancestry m s ls ps bs) where
+  pub trace-inside : (i : ℕ) → i < s .count → (i < length ls) × (i < length ps) × (i < length bs)
+  trace-inside i h = let p = a .proper in (
+    omega (arith, p .count, p .lines, ap length (a .lines)),
+    omega (arith, p .count, p .origins, ap length (a .origins)),
+    omega (arith, p .count, a .born .long),
+  )
+
+  -- there is room for the first line
+  pub first-room : (state k : ℕ) (run : List ℕ) → Makes m s state k run → k < length run
+  first-room state k run h =
+      made-room m (a .model) s (a .proper) (a .found) state 0 k run run state k (made-none m (a .model) s (a .proper) (a .found) state 0 k run (h .0)) (h .1)
+
+  module _ (state o k : ℕ) (run₀ run : List ℕ) (i at : ℕ) (small : o < 255) (h : Made m s state o k run₀ run i at) where
+    number : numeral (Step (getD ls i 0) o) ≡ numberOf (step (by s i) o)
+    number = rw (a .lines) (step-number m (a .model) s (a .proper) (a .found) i o (h .inside) small)
+
+    pub trace-all : getD bs i 0 ≡ 1 → (at + 1 ≡ k + length (making m s o state)) × (set run at (numeral (Step (getD ls i 0) o)) ≡ backwards run₀ k (making m s o state))
+    trace-all e = rw number (made-all m (a .model) s (a .proper) (a .found) state o k run₀ run i at h (a .born .made i (h .inside) .0 e))
+
+    pub trace-more : getD bs i 0 ≢ 1 → (getD ps i 0 < i) × Made m s state o k run₀ (set run at (numeral (Step (getD ls i 0) o))) (getD ps i 0) (at + 1)
+    trace-more e = rw (number, a .origins)
+        (made-more m (a .model) s (a .proper) (a .found) state o k run₀ run i at h
+        (⊎-elim (λ (q : isNew (line (programOf m) (by s i)) ≡ true). absurd (e (a .born .made i (h .inside) .1 q))) (λ (q : isNew (line (programOf m) (by s i)) ≡ false). q) (either (isNew (line (programOf m) (by s i))))))
 
 -- from index k on the table has the steps behind those that make the first n states, and index `at` is the next
 pub record Built (m : Model) (s : States) (k : ℕ) (run₀ run : List ℕ) (n at : ℕ) : Type 0 where

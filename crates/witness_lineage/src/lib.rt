@@ -1,4 +1,5 @@
 // The lines that make the found states, read back from each state to the one that it came from.
+use limits::ATOMIC;
 use model::Action;
 use model::Model;
 use model::Place;
@@ -7,12 +8,11 @@ ghost use mathlib.Core.Path.{_≡_};
 ghost use Prim.Native.Nat.{_+_, _≤_, _<_};
 ghost use lib.ListN.{length};
 ghost use Rattle.limits.specs.Limits as limit;
-ghost use Rattle.semantics.specs.Models.{line};
 ghost use Rattle.model.specs.Records.{programOf, lineOf};
 ghost use Rattle.model.specs.WellFormed.{WellFormed};
 ghost use Rattle.search_states.specs.States.{Proper, Discovered};
 ghost use Rattle.witness_table.specs.Runs.{backwards};
-ghost use Rattle.witness_lineage.specs.Lineage.{isNew, linesTo, making, building};
+ghost use Rattle.witness_lineage.specs.Lineage.{isNew, linesTo, making, building, Notes, Born, Ancestry, Makes};
 
 // Does the clause create an object?
 fn creating(a: Action) -> bool
@@ -28,21 +28,63 @@ fn creating(a: Action) -> bool
     }
 }
 
-// Does a `new` line stand there?
-fn creates(m: Model, number: u32) -> bool
-    requires { ⌜ WellFormed m ⌝ }
-    ensures { λ r. ⌜ r ≡ isNew (line (programOf m) number) ⌝ }
+// Notes by a 1 which of the first n lines are this one.
+fn note(lines: &[u32], n: usize, line: u32, born: &mut [u8])
+    requires { ⌜ (n ≤ length (now lines)) × (n ≤ length (now born)) ⌝ }
+    ensures { λ _. ⌜ Notes (now (lines .entry)) n line (now (born .entry)) (now (born .exit)) ⌝ }
 {
     let mut i: usize = 0;
-    while i < m.clausecount {
-        let c = m.clauses[i];
-        if c.line == number {
-            let action = c.action;
-            return creating(action);
+    while i < n {
+        if lines[i] == line {
+            born[i] = 1;
         }
         i += 1;
     }
-    false
+}
+
+// Which of the found states a `new` line made: they have a 1.
+fn firsts(m: Model, s: States) -> [u8; ATOMIC]
+    requires { ⌜ WellFormed m × Proper s ⌝ }
+    ensures { λ r. ⌜ Born m s r ⌝ }
+{
+    let n = s.count;
+    let mut born = [0u8; ATOMIC];
+    let mut i: usize = 0;
+    while i < m.clausecount {
+        let c = m.clauses[i];
+        let action = c.action;
+        if creating(action) {
+            note(&s.lines, n, c.line, &mut born);
+        }
+        i += 1;
+    }
+    born
+}
+
+// Writes the places by which the object is made with the state, the last first, from index k on. Returns the index behind them.
+fn trace<'a>(
+    run: &mut [u32],
+    lines: &'a [u32],
+    origins: &'a [u32],
+    born: &[u8],
+    state: usize,
+    object: u32,
+    k: usize,
+) -> usize
+    requires { ⌜ ((m : Model) × (s : States) × Ancestry m s (now lines) (now origins) (now born) × Makes m s state k (now run)) × (object < limit.objects) ⌝ }
+    ensures { λ r. ⌜ ((m : Model) (s : States) → Ancestry m s (now (lines .entry)) (now (origins .entry)) (now (born .entry)) → Makes m s state k (now (run .entry)) → (r ≡ k + length (making m s object state)) × (now (run .exit) ≡ backwards (now (run .entry)) k (making m s object state))) ⌝ }
+{
+    let mut i = state;
+    let mut at = k;
+    loop {
+        let line = lines[i];
+        run[at] = model::number_of(Place::Step { line, object });
+        at += 1;
+        if born[i] == 1 {
+            return at;
+        }
+        i = origins[i] as usize;
+    }
 }
 
 // Writes the places by which the object is made with the state, the last first, from index k on. Returns the index behind them.
@@ -50,17 +92,8 @@ pub fn make(run: &mut [u32], m: Model, s: States, state: usize, object: u32, k: 
     requires { ⌜ WellFormed m × Proper s × Discovered (programOf m) s × (state < s .count) × (object < limit.objects) × (k + length (linesTo m s state) ≤ length (now run)) ⌝ }
     ensures { λ r. ⌜ (r ≡ k + length (making m s object state)) × (now (run .exit) ≡ backwards (now (run .entry)) k (making m s object state)) ⌝ }
 {
-    let mut i = state;
-    let mut at = k;
-    loop {
-        let line = s.lines[i];
-        run[at] = model::number_of(Place::Step { line, object });
-        at += 1;
-        if creates(m, line) {
-            return at;
-        }
-        i = s.origins[i] as usize;
-    }
+    let born = firsts(m, s);
+    trace(run, &s.lines, &s.origins, &born, state, object, k)
 }
 
 // Writes the places that make one object of each state, the last first, from index k on. Returns the index behind them.
@@ -68,11 +101,12 @@ pub fn build(run: &mut [u32], m: Model, s: States, k: usize) -> usize
     requires { ⌜ WellFormed m × Proper s × Discovered (programOf m) s × (k + length (building m s (s .count)) ≤ length (now run)) ⌝ }
     ensures { λ r. ⌜ (r ≡ k + length (building m s (s .count))) × (now (run .exit) ≡ backwards (now (run .entry)) k (building m s (s .count))) ⌝ }
 {
+    let born = firsts(m, s);
     let mut n = s.count;
     let mut at = k;
     while 0 < n {
         n -= 1;
-        at = make(run, m, s, n, n as u32, at);
+        at = trace(run, &s.lines, &s.origins, &born, n, n as u32, at);
     }
     at
 }

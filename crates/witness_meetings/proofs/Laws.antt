@@ -18,7 +18,7 @@ use Rattle.semantics.specs.Tables.{Shows, seat, Hands}
 use Rattle.semantics.specs.Building.{Leads, places, lineage, at}
 use Rattle.semantics.proofs.Tools.{either, same?, clash, elem-here, or-right, named-own}
 use Rattle.semantics.proofs.Bodies.{holds-agree, more-facts, supported-vars}
-use Rattle.semantics.proofs.Build.{length-lineage}
+use Rattle.semantics.proofs.WalkersBuild.{length-lineage}
 use Rattle.semantics.proofs.Legs.{behind, handing, hand-leads}
 use Rattle.model.specs.declared.Model.{Model}
 use Rattle.model.specs.declared.Stage.{Stage}

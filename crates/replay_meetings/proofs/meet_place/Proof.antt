@@ -1,14 +1,23 @@
-use mathlib.Core.Path.{_≡_, sym, _∙_, subst}
-use Prim.Native.Nat.{suc}
+use mathlib.Core.Path.{_≡_, refl, sym, _∙_, subst}
+use mathlib.Core.Logic.{inl, _≢_}
+use mathlib.Core.List.{[], _∷_}
+use Prim.Native.Nat.{ℕ, suc, _+_}
 use native.Mathlib.Omega.{arith}
 use borrow.Author.Tests.{not-true, not-false}
 use denote.Ref.{now}
-use Rattle.model.specs.Records.{stageAt}
-use Rattle.model.proofs.Accepted.{stage-body}
+use lib.ListN.{length}
+use Rattle.semantics.specs.Runs.{meet}
+use Rattle.model.specs.Places.{objects}
+use Rattle.model.specs.Records.{stageBody}
+use Rattle.facts_find.specs.declared.Found.the-variants.{At, Nowhere}
 use Rattle.facts_find.specs.Bodies.{Decides}
-use Rattle.replay_session.specs.Sessions.{Says}
-use Rattle.replay_meetings.specs.Carried.{Agrees}
-use Rattle.replay_meetings.proofs.Meetings.{named-small, part-within, part-supported, other-stage, other-count, not-held, disagrees, meeting-kept}
+use Rattle.facts_rests.specs.Rests.{Within}
+use Rattle.replay_session.specs.Sessions.{Says, sessionIn}
+use Rattle.replay_steps.specs.Tries.{Holding}
+use Rattle.replay_steps.proofs.Steps.{plainly, left-as-before}
+use Rattle.replay_meetings.specs.Carried.{Named, Agrees, carriedOn}
+use Rattle.replay_meetings.proofs.Objects.{choice}
+use Rattle.replay_meetings.proofs.Meetings.{named-small, lent, of-record, part-within, part-good, part-supported, few-variables, slots-enough, other-stage, other-count, not-held, disagrees, meeting-kept, kept-states}
 use borrow.Author.Needs.{needs}
 use Rattle.replay_meetings.proofs.meet_place.Statement.{statement}
 use Rattle.replay_meetings.proofs.meet_place.Tie as tie
@@ -21,16 +30,17 @@ disallow-requires c κs = search needs
 
 returns : tie.Need-returns
 returns c =
-    let s = c .before .before .before in
+    let s = c .before .before .before .before .before .before in
     let a = s .args in
-    let n = c .before .if1 .taken in
-    rw (c .disallow .ensures .0, c .disallow .ensures .1) (other-stage (a .t1) (a .s) (a .v) (now (a .work)) (s .pre .0) (s .pre .1) (a .first) (a .second) (a .third) (a .stage) (λ e. n (omega arith)))
+    let n = c .before .if1 .taken in (
+      (λ m v states l.
+          left-as-before m states (a .at) _ (c .disallow .result) (c .disallow .ensures .0) (l .ready .long)
+          (other-stage m (sessionIn states (a .at)) v (now (a .work)) (l .ready) (l .left) (a .first) (a .second) (a .third) (a .stage) (λ e. n (omega arith)))),
+      c .disallow .ensures .1,
+    )
 
-mul-g : tie.Need-mul-g
-mul-g c = search needs
-
-element-copy-out-g : tie.Need-element-copy-out-g
-element-copy-out-g c = search needs
+stage-at-requires : tie.Need-stage-at-requires
+stage-at-requires c κs = search needs
 
 count-requires : tie.Need-count-requires
 count-requires c κs = search needs
@@ -40,19 +50,37 @@ disallow-requires-2 c κs = search needs
 
 returns-2 : tie.Need-returns-2
 returns-2 c =
-    let s = c .before .before .before .before .before .before .before in
+    let s = c .before .before .before .before .before .before .before .before .before .before in
     let a = s .args in
-    let n = c .before .if2 .taken in
-    rw (c .disallow2 .ensures .0, c .disallow2 .ensures .1) (other-count (a .t1) (a .s) (a .v) (now (a .work)) (s .pre .0) (s .pre .1) (a .first) (a .second) (a .third) (a .stage) (λ e. n (c .before .before .before .count .ensures ∙ e)))
+    let g = c .before .before .before .before .stage-at in
+    let n = c .before .if2 .taken in (
+      (λ m v states l.
+          let z = sessionIn states (a .at) in
+          left-as-before m states (a .at) _ (c .disallow2 .result) (c .disallow2 .ensures .0) (l .ready .long)
+          (other-count m z v (now (a .work)) (l .ready) (l .left) (a .first) (a .second) (a .third) (a .stage)
+          (of-record m (now (a .numbers)) (now (a .literals)) (plainly m v z (now (a .numbers)) (now (a .literals)) (now (a .slots)) (now (a .work)) (meet (a .stage) (objects (a .first ∷ a .second ∷ a .third ∷ []))) l) (a .at .met) (l .left) (g .result) (g .ensures) (λ x y. length (objects (a .first ∷ a .second ∷ a .third ∷ [])) ≢ y .variables) (λ e. n (c .before .before .before .count .ensures ∙ e))))),
+      c .disallow2 .ensures .1,
+    )
+
+shared-slice-read-named : tie.Need-shared-slice-read-named
+shared-slice-read-named c = search needs
 
 named-requires : tie.Need-named-requires
-named-requires c κs = let s = c .before .before .before .before .before .before in s .pre .0 .accepted .stage (s .args .s .met) (s .pre .1) .part .few
+named-requires c κs =
+    let s = c .before .before .before .before .before .before .before .before .before .before in
+    let a = s .args in
+    let m = s .pre .0 .0 in
+    let v = s .pre .0 .1 in
+    let z = sessionIn (s .pre .0 .2) (a .at) in
+    let l = s .pre .0 .3 in
+    let g = c .before .before .before .before .stage-at in
+    few-variables m (now (a .numbers)) (now (a .literals)) (plainly m v z (now (a .numbers)) (now (a .literals)) (now (a .slots)) (now (a .work)) (meet (a .stage) (objects (a .first ∷ a .second ∷ a .third ∷ []))) l) (a .at .met) (l .left) (g .result) (g .ensures)
 
 cast-object : tie.Need-cast-object
 cast-object c =
-    let s = c .before .before .before .before .before .before .before in
+    let s = c .before .before .before .before .before .before .before .before .before .before .before in
     let a = s .args in
-    record { fits = omega (arith, named-small (stageAt (a .t1) (a .s .met)) (a .t1 .carried) (a .first) (a .second) (a .third) (c .named .result) (s .pre .2) (s .pre .3) (s .pre .4) (c .named .ensures)) }
+    record { fits = omega (arith, named-small (c .before .before .before .before .before .stage-at .result) _ (a .first) (a .second) (a .third) (c .named .result) (s .pre .1) (s .pre .2) (s .pre .3) (c .named .ensures)) }
 
 agrees-requires : tie.Need-agrees-requires
 agrees-requires c κs = search needs
@@ -62,21 +90,33 @@ disallow-requires-3 c κs = search needs
 
 returns-3 : tie.Need-returns-3
 returns-3 c =
-    let s = c .before .before .before .before .before .before .before .before .before .before in
+    let s = c .before .before .before .before .before .before .before .before .before .before .before .before .before .before in
     let a = s .args in
-    let e1 = c .before .before .before .before .before .before .before .before .if1 .left in
-    let next : a .stage ≡ suc (a .s .met) = omega arith in
-    let count = sym (c .before .before .before .before .before .before .count .ensures) ∙ c .before .before .before .before .if2 .left in
-    let f = c .before .before .before .named in
-    let n = subst (Says (Agrees (a .s .carried) (f .result))) (not-true (c .before .before .agrees .result) (c .before .if3 .taken)) (c .before .before .agrees .ensures) in
-    rw (c .disallow3 .ensures .0, c .disallow3 .ensures .1) (disagrees (a .t1) (a .s) (a .v) (now (a .work)) (s .pre .0) (s .pre .1) (a .first) (a .second) (a .third) (a .stage) next count (f .result) (f .ensures) n)
+    let g = c .before .before .before .before .before .before .before .before .stage-at in
+    let e1 = c .before .before .before .before .before .before .before .before .before .if1 .left in
+    let next : a .stage ≡ suc (a .at .met) = omega arith in
+    let count = sym (c .before .before .before .before .before .before .before .count .ensures) ∙ c .before .before .before .before .before .if2 .left in (
+      (λ m v states l.
+          let z = sessionIn states (a .at) in
+          let many = of-record m (now (a .numbers)) (now (a .literals)) (plainly m v z (now (a .numbers)) (now (a .literals)) (now (a .slots)) (now (a .work)) (meet (a .stage) (objects (a .first ∷ a .second ∷ a .third ∷ []))) l) (a .at .met) (l .left) (g .result) (g .ensures) (λ x y. length (objects (a .first ∷ a .second ∷ a .third ∷ [])) ≡ y .variables) count in
+          let f = c .before .before .before .named in
+          let found = of-record m (now (a .numbers)) (now (a .literals)) (plainly m v z (now (a .numbers)) (now (a .literals)) (now (a .slots)) (now (a .work)) (meet (a .stage) (objects (a .first ∷ a .second ∷ a .third ∷ []))) l) (a .at .met) (l .left) (g .result) (g .ensures) (λ x y. Named y (m .carried) (choice (a .first) (a .second) (a .third)) (f .result)) (subst (λ (k : ℕ). Named (g .result) k (choice (a .first) (a .second) (a .third)) (f .result)) (l .numbered .carried) (f .ensures)) in
+          let n = subst (Says (Agrees (a .at .carried) (f .result))) (not-true (c .before .before .agrees .result) (c .before .if3 .taken)) (c .before .before .agrees .ensures) in
+          left-as-before m states (a .at) _ (c .disallow3 .result) (c .disallow3 .ensures .0) (l .ready .long)
+          (disagrees m z v (now (a .work)) (l .ready) (l .left) (a .first) (a .second) (a .third) (a .stage) next many (f .result) found n)),
+      c .disallow3 .ensures .1,
+    )
 
 decide-requires : tie.Need-decide-requires
 decide-requires c κs =
-    let s = c .before .before .before .before .before .before .before .before .before in
+    let s = c .before .before .before .before .before .before .before .before .before .before .before .before .before in
     let a = s .args in
-    let w = s .pre .0 .accepted in
-    (s .pre .0, part-within (a .t1) w (a .s .met) (s .pre .1), stage-body (a .t1) w (a .s .met) (s .pre .1), part-supported (a .t1) w (a .s .met) (s .pre .1))
+    let m = s .pre .0 .0 in
+    let v = s .pre .0 .1 in
+    let z = sessionIn (s .pre .0 .2) (a .at) in
+    let l = s .pre .0 .3 in
+    let g = c .before .before .before .before .before .before .before .stage-at in
+    (l .ready .sees .known .agree, slots-enough m v z (now (a .numbers)) (now (a .literals)) (now (a .slots)) (now (a .work)) (meet (a .stage) (objects (a .first ∷ a .second ∷ a .third ∷ []))) l, part-within m (now (a .numbers)) (now (a .literals)) (plainly m v z (now (a .numbers)) (now (a .literals)) (now (a .slots)) (now (a .work)) (meet (a .stage) (objects (a .first ∷ a .second ∷ a .third ∷ []))) l) (a .at .met) (l .left) (g .result) (g .ensures), part-good m (now (a .numbers)) (now (a .literals)) (plainly m v z (now (a .numbers)) (now (a .literals)) (now (a .slots)) (now (a .work)) (meet (a .stage) (objects (a .first ∷ a .second ∷ a .third ∷ []))) l) (a .at .met) (l .left) (g .result) (g .ensures), part-supported m (now (a .numbers)) (now (a .literals)) (plainly m v z (now (a .numbers)) (now (a .literals)) (now (a .slots)) (now (a .work)) (meet (a .stage) (objects (a .first ∷ a .second ∷ a .third ∷ []))) l) (a .at .met) (l .left) (g .result) (g .ensures))
 
 enum-told : tie.Need-enum-told
 enum-told c = search needs
@@ -89,31 +129,55 @@ disallow-requires-4 c κs = search needs
 
 returns-4 : tie.Need-returns-4
 returns-4 c =
-    let s = c .before .before .before .before .before .before .before .before .before .before .before .before .before in
+    let s = c .before .before .before .before .before .before .before .before .before .before .before .before .before .before .before .before .before in
     let a = s .args in
-    let e1 = c .before .before .before .before .before .before .before .before .before .before .before .if1 .left in
-    let next : a .stage ≡ suc (a .s .met) = omega arith in
-    let count = sym (c .before .before .before .before .before .before .before .before .before .count .ensures) ∙ c .before .before .before .before .before .before .before .if2 .left in
-    let held = subst (Decides (stageAt (a .t1) (a .s .met) .variables) _) (c .before .enum-told2 .given .1) (c .before .before .before .decide .ensures) in
-    rw (c .disallow4 .ensures .0, c .disallow4 .ensures .1) (not-held (a .t1) (a .s) (a .v) (now (a .work)) (s .pre .0) (s .pre .1) (a .first) (a .second) (a .third) (a .stage) next count held)
+    let g = c .before .before .before .before .before .before .before .before .before .before .before .stage-at in
+    let e1 = c .before .before .before .before .before .before .before .before .before .before .before .before .if1 .left in
+    let next : a .stage ≡ suc (a .at .met) = omega arith in
+    let count = sym (c .before .before .before .before .before .before .before .before .before .before .count .ensures) ∙ c .before .before .before .before .before .before .before .before .if2 .left in (
+      (λ m v states l.
+          let z = sessionIn states (a .at) in
+          let many = of-record m (now (a .numbers)) (now (a .literals)) (plainly m v z (now (a .numbers)) (now (a .literals)) (now (a .slots)) (now (a .work)) (meet (a .stage) (objects (a .first ∷ a .second ∷ a .third ∷ []))) l) (a .at .met) (l .left) (g .result) (g .ensures) (λ x y. length (objects (a .first ∷ a .second ∷ a .third ∷ [])) ≡ y .variables) count in
+          let held = of-record m (now (a .numbers)) (now (a .literals)) (plainly m v z (now (a .numbers)) (now (a .literals)) (now (a .slots)) (now (a .work)) (meet (a .stage) (objects (a .first ∷ a .second ∷ a .third ∷ []))) l) (a .at .met) (l .left) (g .result) (g .ensures) (λ x y. Decides (y .variables) (Holding m z (stageBody x y) (y .variables) (choice (a .first) (a .second) (a .third))) Nowhere)
+          (subst (Decides (g .result .variables) _) (c .before .enum-told2 .given .1) (c .before .before .before .decide .ensures m v z (l .ready) (lent m (now (a .numbers)) (now (a .literals)) (plainly m v z (now (a .numbers)) (now (a .literals)) (now (a .slots)) (now (a .work)) (meet (a .stage) (objects (a .first ∷ a .second ∷ a .third ∷ []))) l) (a .at .met) (l .left) (g .result) (g .ensures) (λ x y. Within (l .ready .relations) (stageBody x y)) (l .rests (a .at .met) (l .left) next)) (l .seats) refl)) in
+          left-as-before m states (a .at) _ (c .disallow4 .result) (c .disallow4 .ensures .0) (l .ready .long)
+          (not-held m z v (now (a .work)) (l .ready) (l .left) (a .first) (a .second) (a .third) (a .stage) next many held)),
+      c .disallow4 .ensures .1,
+    )
 
 carry-requires : tie.Need-carry-requires
 carry-requires c κs = search needs
 
-meet-requires : tie.Need-meet-requires
-meet-requires c κs = search needs
+add-t21 : tie.Need-add-t21
+add-t21 c = search needs
+
+add-t24 : tie.Need-add-t24
+add-t24 c = record { fits = omega (arith, c .before .before .before .before .before .before .before .before .before .before .before .before .before .before .before .before .before .before .pre .0 .3 .ready .room) }
+
+cast-t20 : tie.Need-cast-t20
+cast-t20 c = search needs
 
 returns-5 : tie.Need-returns-5
 returns-5 c =
-    let s = c .before .before .before .before .before .before .before .before .before .before .before .before .before .before in
+    let s = c .before .before .before .before .before .before .before .before .before .before .before .before .before .before .before .before .before .before in
     let a = s .args in
-    let e1 = c .before .before .before .before .before .before .before .before .before .before .before .before .if1 .left in
-    let next : a .stage ≡ suc (a .s .met) = omega arith in
-    let count = sym (c .before .before .before .before .before .before .before .before .before .before .count .ensures) ∙ c .before .before .before .before .before .before .before .before .if2 .left in
-    let f = c .before .before .before .before .before .before .before .named in
-    let agree = subst (Says (Agrees (a .s .carried) (f .result))) (not-false (c .before .before .before .before .before .before .agrees .result) (c .before .before .before .before .before .if3 .left)) (c .before .before .before .before .before .before .agrees .ensures) in
-    let held = subst (Decides (stageAt (a .t1) (a .s .met) .variables) _) (c .before .before .enum-told .given .1) (c .before .before .before .before .decide .ensures) in
-    rw (c .meet .ensures, c .before .carry .ensures) (meeting-kept (a .t1) (a .s) (a .v) (now (a .work)) (s .pre .0) (s .pre .1) (a .first) (a .second) (a .third) (a .stage) next count (f .result) (f .ensures) agree _ (held .good))
+    let g = c .before .before .before .before .before .before .before .before .before .before .before .before .stage-at in
+    let e1 = c .before .before .before .before .before .before .before .before .before .before .before .before .before .if1 .left in
+    let next : a .stage ≡ suc (a .at .met) = omega arith in
+    let count = sym (c .before .before .before .before .before .before .before .before .before .before .before .count .ensures) ∙ c .before .before .before .before .before .before .before .before .before .if2 .left in (
+      (λ m v states l.
+          let z = sessionIn states (a .at) in
+          let many = of-record m (now (a .numbers)) (now (a .literals)) (plainly m v z (now (a .numbers)) (now (a .literals)) (now (a .slots)) (now (a .work)) (meet (a .stage) (objects (a .first ∷ a .second ∷ a .third ∷ []))) l) (a .at .met) (l .left) (g .result) (g .ensures) (λ x y. length (objects (a .first ∷ a .second ∷ a .third ∷ [])) ≡ y .variables) count in
+          let f = c .before .before .before .before .before .before .before .named in
+          let found = of-record m (now (a .numbers)) (now (a .literals)) (plainly m v z (now (a .numbers)) (now (a .literals)) (now (a .slots)) (now (a .work)) (meet (a .stage) (objects (a .first ∷ a .second ∷ a .third ∷ []))) l) (a .at .met) (l .left) (g .result) (g .ensures) (λ x y. Named y (m .carried) (choice (a .first) (a .second) (a .third)) (f .result)) (subst (λ (k : ℕ). Named (g .result) k (choice (a .first) (a .second) (a .third)) (f .result)) (l .numbered .carried) (f .ensures)) in
+          let agree = subst (Says (Agrees (a .at .carried) (f .result))) (not-false (c .before .before .before .before .before .before .agrees .result) (c .before .before .before .before .before .if3 .left)) (c .before .before .before .before .before .before .agrees .ensures) in
+          let held = of-record m (now (a .numbers)) (now (a .literals)) (plainly m v z (now (a .numbers)) (now (a .literals)) (now (a .slots)) (now (a .work)) (meet (a .stage) (objects (a .first ∷ a .second ∷ a .third ∷ []))) l) (a .at .met) (l .left) (g .result) (g .ensures) (λ x y. Decides (y .variables) (Holding m z (stageBody x y) (y .variables) (choice (a .first) (a .second) (a .third))) (At (c .before .before .enum-told .given .0 .0)))
+          (subst (Decides (g .result .variables) _) (c .before .before .enum-told .given .1) (c .before .before .before .before .decide .ensures m v z (l .ready) (lent m (now (a .numbers)) (now (a .literals)) (plainly m v z (now (a .numbers)) (now (a .literals)) (now (a .slots)) (now (a .work)) (meet (a .stage) (objects (a .first ∷ a .second ∷ a .third ∷ []))) l) (a .at .met) (l .left) (g .result) (g .ensures) (λ x y. Within (l .ready .relations) (stageBody x y)) (l .rests (a .at .met) (l .left) next)) (l .seats) refl)) in
+          rw (c .before .carry .ensures)
+          (kept-states m states (a .at) (record { objects = a .at .objects; met = a .at .met + 1; carried = carriedOn (a .at .carried) (f .result); kept = a .at .kept + 1 }) (meet (a .stage) (objects (a .first ∷ a .second ∷ a .third ∷ []))) (l .ready .long)
+          (meeting-kept m z v (now (a .work)) (l .ready) (l .left) (a .first) (a .second) (a .third) (a .stage) next many (f .result) found agree _ (held .good)))),
+      inl (refl, refl),
+    )
 
 pub meet-place-spec : {M : Type 1} → statement M
 meet-place-spec =
@@ -122,11 +186,11 @@ meet-place-spec =
     add-if1
     disallow-requires
     returns
-    mul-g
-    element-copy-out-g
+    stage-at-requires
     count-requires
     disallow-requires-2
     returns-2
+    shared-slice-read-named
     named-requires
     cast-object
     agrees-requires
@@ -138,5 +202,7 @@ meet-place-spec =
     disallow-requires-4
     returns-4
     carry-requires
-    meet-requires
+    add-t21
+    add-t24
+    cast-t20
     returns-5)

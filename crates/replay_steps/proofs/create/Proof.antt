@@ -1,10 +1,12 @@
-use mathlib.Core.Path.{subst}
+use mathlib.Core.Path.{refl, subst}
+use mathlib.Core.Logic.{inr}
+use native.Mathlib.Omega.{arith}
 use denote.Ref.{now}
 use Rattle.model.specs.declared.Action.the-variants.{New}
-use Rattle.model.specs.Records.{clauseBody, clauseAt}
-use Rattle.model.proofs.Accepted.{clause-vars, clause-body}
+use Rattle.model.specs.Records.{clauseBody}
 use Rattle.facts_find.specs.Bodies.{Decides}
-use Rattle.replay_steps.proofs.Steps.{on-action, part-within, part-supported, line-variables, only, objects-below, new-kept, new-other, new-fails}
+use Rattle.replay_session.specs.Sessions.{sessionIn}
+use Rattle.replay_steps.proofs.Steps.{on-action, part-within, part-good, part-supported, part-vars, line-variables, slots-enough, only, objects-below, new-kept, new-other, new-fails, left-as-before}
 use borrow.Author.Needs.{needs}
 use Rattle.replay_steps.proofs.create.Statement.{statement}
 use Rattle.replay_steps.proofs.create.Tie as tie
@@ -14,25 +16,22 @@ disallow-requires c κs = search needs
 
 returns : tie.Need-returns
 returns c =
-    let s = c .before .before .before .before in
-    let a = s .args in
-    let r = s .pre .0 in
-    let w = r .accepted in
-    let on = on-action (a .t1) w (a .k) (s .pre .3) (New (a .set)) (s .pre .4) in
-    rw (c .disallow .ensures .0, c .disallow .ensures .1) (new-other (a .t1) (a .s) (a .v) (now (a .work)) r (s .pre .1) (clauseAt (a .t1) (a .k) .line) (a .object) (a .set) (clauseBody (a .t1 .literals) (clauseAt (a .t1) (a .k))) (clauseAt (a .t1) (a .k) .variables) on (c .before .if1 .taken))
-
-mul-c : tie.Need-mul-c
-mul-c c = search needs
-
-element-copy-out-c : tie.Need-element-copy-out-c
-element-copy-out-c c = search needs
+    let s = c .before .before .before .before .before in
+    let a = s .args in (
+      (λ m v states t.
+          left-as-before m states (a .at) _ (c .disallow .result) (c .disallow .ensures .0) (t .ready .long)
+          (new-other m (sessionIn states (a .at)) v (now (a .work)) (t .ready) (t .left) (a .c .line) (a .object) (a .set) (clauseBody (now (a .literals)) (a .c)) (a .c .variables)
+          (on-action m v (sessionIn states (a .at)) (now (a .literals)) (now (a .slots)) (now (a .work)) (a .c) t (New (a .set)) (s .pre .2)) (c .before .if1 .taken))),
+      c .disallow .ensures .1,
+    )
 
 decide-requires : tie.Need-decide-requires
 decide-requires c κs =
     let s = c .before .before .before .before in
     let a = s .args in
-    let w = s .pre .0 .accepted in
-    (s .pre .0, part-within (a .t1) w (a .k) (s .pre .3), clause-body (a .t1) w (a .k) (s .pre .3), part-supported (a .t1) w (a .k) (s .pre .3))
+    let m = s .pre .0 .0 in let v = s .pre .0 .1 in let t = s .pre .0 .3 in
+    let z = sessionIn (s .pre .0 .2) (a .at) in
+    (t .ready .sees .known .agree, slots-enough m v z (now (a .literals)) (now (a .slots)) (now (a .work)) (a .c) t, part-within m v z (now (a .literals)) (now (a .slots)) (now (a .work)) (a .c) t, part-good m v z (now (a .literals)) (now (a .slots)) (now (a .work)) (a .c) t, part-supported m v z (now (a .literals)) (now (a .slots)) (now (a .work)) (a .c) t)
 
 enum-known-found : tie.Need-enum-known-found
 enum-known-found c = search needs
@@ -46,40 +45,44 @@ disallow-requires-2 c κs = search needs
 returns-2 : tie.Need-returns-2
 returns-2 c =
     let s = c .before .before .before .before .before .before .before .before in
-    let a = s .args in
-    let r = s .pre .0 in
-    let w = r .accepted in
-    let on = on-action (a .t1) w (a .k) (s .pre .3) (New (a .set)) (s .pre .4) in
-    rw (c .disallow2 .ensures .0, c .disallow2 .ensures .1)
-    (new-fails (a .t1) (a .s) (a .v) (now (a .work)) r (s .pre .1) (clauseAt (a .t1) (a .k) .line) (a .object) (a .set) (clauseBody (a .t1 .literals) (clauseAt (a .t1) (a .k))) (clauseAt (a .t1) (a .k) .variables) on
-    (subst (Decides (clauseAt (a .t1) (a .k) .variables) _) (c .before .enum-told .given .1) (c .before .before .before .decide .ensures)))
-
-create-requires : tie.Need-create-requires
-create-requires c κs = search needs
+    let a = s .args in (
+      (λ m v states t.
+          left-as-before m states (a .at) _ (c .disallow2 .result) (c .disallow2 .ensures .0) (t .ready .long)
+          (new-fails m (sessionIn states (a .at)) v (now (a .work)) (t .ready) (t .left) (a .c .line) (a .object) (a .set) (clauseBody (now (a .literals)) (a .c)) (a .c .variables)
+          (on-action m v (sessionIn states (a .at)) (now (a .literals)) (now (a .slots)) (now (a .work)) (a .c) t (New (a .set)) (s .pre .2))
+          (subst (Decides (a .c .variables) _) (c .before .enum-told .given .1) (c .before .before .before .decide .ensures m v (sessionIn states (a .at)) (t .ready) (t .rests) (t .seats) refl)))),
+      c .disallow2 .ensures .1,
+    )
 
 cast-number : tie.Need-cast-number
 cast-number c = search needs
 
 number-requires : tie.Need-number-requires
 number-requires c κs =
-    let s = c .before .before .before .before .before .before .before .before .before .before in
+    let s = c .before .before .before .before .before .before .before .before .before in
     let a = s .args in
-    let r = s .pre .0 in
-    let first = subst (Decides (clauseAt (a .t1) (a .k) .variables) _) (c .before .before .before .found .given .1) (c .before .before .before .before .before .decide .ensures) in
-    objects-below (a .t1) (a .s) (a .v) (now (a .work)) r (s .pre .1) (clauseAt (a .t1) (a .k) .line) (a .object) (clauseBody (a .t1 .literals) (clauseAt (a .t1) (a .k))) (clauseAt (a .t1) (a .k) .variables) (only 255) _
-    (clause-vars (a .t1) (r .accepted) (a .k) (s .pre .3)) (first .good)
+    let m = s .pre .0 .0 in let v = s .pre .0 .1 in let t = s .pre .0 .3 in
+    let z = sessionIn (s .pre .0 .2) (a .at) in
+    let first = subst (Decides (a .c .variables) _) (c .before .before .found .given .1) (c .before .before .before .before .decide .ensures m v z (t .ready) (t .rests) (t .seats) refl) in
+    objects-below m z v (now (a .work)) (t .ready) (t .left) (a .c .line) (a .object) (clauseBody (now (a .literals)) (a .c)) (a .c .variables) (only 255) _ (part-vars m v z (now (a .literals)) (now (a .slots)) (now (a .work)) (a .c) t) (first .good)
+
+add-t16 : tie.Need-add-t16
+add-t16 c = search needs
+
+add-t18 : tie.Need-add-t18
+add-t18 c = search needs
 
 returns-3 : tie.Need-returns-3
 returns-3 c =
     let s = c .before .before .before .before .before .before .before .before .before .before .before in
-    let a = s .args in
-    let r = s .pre .0 in
-    let w = r .accepted in
-    let on = on-action (a .t1) w (a .k) (s .pre .3) (New (a .set)) (s .pre .4) in
-    let first = subst (Decides (clauseAt (a .t1) (a .k) .variables) _) (c .before .before .before .before .found .given .1) (c .before .before .before .before .before .before .decide .ensures) in
-    rw (c .before .before .create .ensures)
-    (new-kept (a .t1) (a .s) (a .v) (now (a .work)) r (s .pre .1) (clauseAt (a .t1) (a .k) .line) (a .object) (a .set) (clauseBody (a .t1 .literals) (clauseAt (a .t1) (a .k))) (clauseAt (a .t1) (a .k) .variables) on
-    (line-variables (a .t1) w (a .k) (s .pre .3) (New (a .set)) (s .pre .4)) (c .before .before .before .before .before .before .before .before .if1 .left) _ (c .number .result) first (c .number .ensures))
+    let a = s .args in (
+      (λ m v states t.
+          let first = subst (Decides (a .c .variables) _) (c .before .before .before .before .found .given .1) (c .before .before .before .before .before .before .decide .ensures m v (sessionIn states (a .at)) (t .ready) (t .rests) (t .seats) refl) in
+          new-kept m (sessionIn states (a .at)) v (now (a .work)) (t .ready) (t .left) (a .c .line) (a .object) (a .set) (clauseBody (now (a .literals)) (a .c)) (a .c .variables)
+          (on-action m v (sessionIn states (a .at)) (now (a .literals)) (now (a .slots)) (now (a .work)) (a .c) t (New (a .set)) (s .pre .2))
+          (line-variables m v (sessionIn states (a .at)) (now (a .literals)) (now (a .slots)) (now (a .work)) (a .c) t (New (a .set)) (s .pre .2)) (c .before .before .before .before .before .before .before .if1 .left) _ (c .before .number .result) first (c .before .number .ensures)),
+      inr (record { here = omega arith; grows = omega arith; few = omega (arith, s .pre .1, c .before .before .before .before .before .before .before .if1 .left); rest = λ p l n. omega arith }),
+    )
 
 pub create-spec : {M : Type 1} → statement M
 create-spec =
@@ -87,14 +90,13 @@ create-spec =
     (tie.spec
     disallow-requires
     returns
-    mul-c
-    element-copy-out-c
     decide-requires
     enum-known-found
     enum-told
     disallow-requires-2
     returns-2
-    create-requires
     cast-number
     number-requires
+    add-t16
+    add-t18
     returns-3)

@@ -19,7 +19,7 @@ tables-requires : tie.Need-tables-requires
 tables-requires c κs =
     let s = c .before .before .before .before .before .before .before in
     let q = c .before .before .before .before .reachable in
-    (s .pre .0, exactly (s .args .m) (s .pre .0) (q .last .0) (q .result) (q .ensures .0), no-more (s .args .m) (s .pre .0) (q .last .0) (q .result) (q .ensures .0))
+    (s .pre .0, search needs, exactly (s .args .m) (s .pre .0) (q .last .0) (q .result) (q .ensures .0), no-more (s .args .m) (s .pre .0) (q .last .0) (q .result) (q .ensures .0))
 
 fill-requires : tie.Need-fill-requires
 fill-requires c κs = search needs

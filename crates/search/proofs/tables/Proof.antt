@@ -8,14 +8,8 @@ use borrow.Author.Needs.{needs}
 use Rattle.search.proofs.tables.Statement.{statement}
 use Rattle.search.proofs.tables.Tie as tie
 
-slots-requires : tie.Need-slots-requires
-slots-requires c κs = search needs
-
 slice-aggregate-takes : tie.Need-slice-aggregate-takes
 slice-aggregate-takes c = search needs
-
-slice-aggregate-takes-2 : tie.Need-slice-aggregate-takes-2
-slice-aggregate-takes-2 c = search needs
 
 takes-requires : tie.Need-takes-requires
 takes-requires c κs = search needs
@@ -27,22 +21,24 @@ slice-aggregate-steps-2 : tie.Need-slice-aggregate-steps-2
 slice-aggregate-steps-2 c = search needs
 
 steps-requires : tie.Need-steps-requires
-steps-requires c κs = search needs
+steps-requires c κs =
+    let s = c .before .before .before .before .before .before in
+    (s .pre .0, s .pre .2 .proper, search needs, c .before .before .before .takes .ensures (s .args .s) (s .pre .2), search needs)
 
 slice-aggregate-close : tie.Need-slice-aggregate-close
 slice-aggregate-close c = search needs
 
 close-requires : tie.Need-close-requires
 close-requires c κs =
-    let s = c .before .before .before .before .before .before .before .before .before .before .before in
+    let s = c .before .before .before .before .before .before .before .before .before in
     let a = s .args in
     let k = c .before .before .steps2 in
-    let few : a .s .count ≤ 128 = omega (arith, s .pre .1 .proper .count) in
+    let few : a .s .count ≤ 128 = omega (arith, s .pre .2 .proper .count) in
     (few, search needs, between-inside (a .s .count) (k .last .1 .1 .1 .0) (OneStep (programOf (a .m)) (row (a .s))) (k .ensures))
 
 returns : tie.Need-returns
 returns c =
-    let s = c .before .before .before .before .before .before .before .before .before .before .before .before .before in
+    let s = c .before .before .before .before .before .before .before .before .before .before .before in
     let a = s .args in
     let k = c .before .before .before .before .steps2 in
     let w = c .before .close in
@@ -50,18 +46,16 @@ returns c =
       tabled = search needs;
       stepped = search needs;
       closed = search needs;
-      table = search needs;
+      table = c .before .before .before .before .before .before .before .before .takes .ensures (a .s) (s .pre .2);
       steps = k .ensures;
-      ways = closed-law (a .m) (s .pre .0) (a .s) (s .pre .1 .proper) (k .last .1 .1 .1 .0) (k .ensures) (s .pre .2) (w .last .0) (w .ensures);
+      ways = closed-law (a .m) (s .pre .0) (a .s) (s .pre .2 .proper) (k .last .1 .1 .1 .0) (k .ensures) (s .pre .3) (w .last .0) (w .ensures);
     }
 
 pub tables-spec : {M : Type 1} → statement M
 tables-spec =
     tie.close
     (tie.spec
-    slots-requires
     slice-aggregate-takes
-    slice-aggregate-takes-2
     takes-requires
     slice-aggregate-steps
     slice-aggregate-steps-2
