@@ -23,6 +23,8 @@
  * After a refusal the lent buffers are as they were, but for `out`. After every other answer the first EON_WORK bytes of the work area are zero,
  * and the rest is as it was.
  *
+ * A call needs under 192 KB of stack, and no memory but the stack and what is lent.
+ *
  * A place of a run is a number of 32 bits. A step is line * 256 + object. A meeting is
  * 2,147,483,648 + stage * 16,777,216 + o1 * 65,536 + o2 * 256 + o3, with 255 where there is no object.
  *

@@ -84,9 +84,9 @@ fn wander() -> impl FnMut(u32) -> usize {
     }
 }
 
-/// The meeting that ends the run, by object 0.
-fn meet(places: &mut Vec<u32>) {
-    places.push(0x8100_ffff);
+/// The meeting that ends the run, by an object.
+fn meet(places: &mut Vec<u32>, object: u32) {
+    places.push(0x8100_ffff | object << 16);
 }
 
 /// The hole wanders over a text with these rules.
@@ -100,7 +100,7 @@ fn wandering(name: &'static str, rules: impl Fn(&mut String)) -> Run {
     let hole = 64;
     let owner = make(&mut places, &lines, hole);
     fill(&mut places, &lines, hole, owner, wander());
-    meet(&mut places);
+    meet(&mut places, 0);
     Run { name, bytes: t, places }
 }
 
@@ -126,7 +126,7 @@ fn handed_round() -> Run {
     let mut places = Vec::new();
     let owner = make(&mut places, &lines, 127);
     fill(&mut places, &lines, 127, owner, |_| 0);
-    meet(&mut places);
+    meet(&mut places, owner[2]);
     Run {
         name: "one fact handed round",
         bytes: t,
