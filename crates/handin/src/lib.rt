@@ -1,0 +1,1 @@
+// Hand-ins: what a learner's text says.
