@@ -1,2 +1,4 @@
 pub mod Examples
 pub mod Laws
+pub mod Runs
+pub mod Printing
