@@ -1,7 +1,5 @@
 -- A HAND-IN HAS ONE MARK.
-use mathlib.Core.Path.{_≡_, refl, sym, ap, ap₂, _∙_, subst}
-use mathlib.Core.Logic.{_≢_}
-use mathlib.Core.Bool.{Bool}
+use mathlib.Core.Path.{_≡_, refl, sym, ap, ap₂, _∙_}
 use mathlib.Core.List.{List, [], _∷_}
 use Prim.Native.Nat.{ℕ, zero, suc, _+_}
 use native.Mathlib.Omega.{arith}
@@ -11,7 +9,7 @@ use Rattle.semantics.proofs.Paper.{same-as-paper}
 use Rattle.handin.specs.Handins.{Handin, says-no, says-yes, unreadable}
 use Rattle.marker_worth.specs.declared.Mark.{Mark}
 use Rattle.marker_worth.specs.declared.Mark.the-variants.{Refused, Unreadable, Right, Other, Breaks}
-use Rattle.marker_worth.specs.Worth.{Stuck, BreaksAt, Worth}
+use Rattle.marker_worth.specs.Worth.{BreaksAt, Worth}
 
 module _ (P : Program) (Q : Question) where
   -- a run that is played to its end breaks nowhere
