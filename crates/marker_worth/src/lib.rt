@@ -41,10 +41,10 @@ pub fn mark_no(m: Model, work: &mut [u8]) -> Mark
     requires { ⌜ WellFormed m × (limit.work ≤ length (now work)) ⌝ }
     ensures { λ r. ⌜ Worth (programOf m) (questionOf m) says-no r × (now (work .exit) ≡ wiped (now (work .entry))) ⌝ }
 {
-    if reached(m, work) {
-        return Mark::Other { reached: true };
+    if !reached(m, work) {
+        return Mark::Right;
     }
-    Mark::Right
+    Mark::Other { reached: true }
 }
 
 // The mark of a run that breaks at a place.
@@ -52,11 +52,9 @@ fn mark_broken(m: Model, first: u32, place: usize, work: &mut [u8]) -> Mark
     requires { ⌜ WellFormed m × (first + place < 4294967296) × (limit.work ≤ length (now work)) ⌝ }
     ensures { λ r. ⌜ ((ps : List Place) → BreaksAt (programOf m) (questionOf m) (start []) ps place → Worth (programOf m) (questionOf m) (says-yes first ps) r) × (now (work .exit) ≡ wiped (now (work .entry))) ⌝ }
 {
+    let line = first + place as u32;
     if reached(m, work) {
-        return Mark::Breaks {
-            place,
-            line: first + place as u32,
-        };
+        return Mark::Breaks { place, line };
     }
     Mark::Other { reached: false }
 }

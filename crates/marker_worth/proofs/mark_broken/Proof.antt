@@ -5,14 +5,14 @@ use Rattle.model.specs.Records.{programOf, questionOf}
 use Rattle.marker_worth.proofs.mark_broken.Statement.{statement}
 use Rattle.marker_worth.proofs.mark_broken.Tie as tie
 
+cast-line : tie.Need-cast-line
+cast-line c = search needs
+
+add-line : tie.Need-add-line
+add-line c = search needs
+
 reached-requires : tie.Need-reached-requires
 reached-requires c κs = search needs
-
-cast-t8 : tie.Need-cast-t8
-cast-t8 c = search needs
-
-add-t9 : tie.Need-add-t9
-add-t9 c = search needs
 
 same-length : tie.Need-same-length
 same-length c = search needs
@@ -35,4 +35,4 @@ returns-2 c =
 pub mark-broken-spec : {M : Type 1} → statement M
 mark-broken-spec =
     tie.close
-    (tie.spec reached-requires cast-t8 add-t9 same-length returns same-length-2 returns-2)
+    (tie.spec cast-line add-line reached-requires same-length returns same-length-2 returns-2)
