@@ -3,8 +3,15 @@ ghost use Prim.Native.Nat.{_≤_};
 ghost use lib.ListN.{length};
 ghost use Rattle.grammar.specs.Shapes.{name, rest, atom, literal, list, stage};
 ghost use Rattle.display_shapes.specs.Ends.{Ends};
+ghost use Rattle.display_shapes.specs.Rows.{Picked};
 use limits::BODY;
 use limits::LIST;
+
+// The bytes from `from` up to, not including, `to`.
+pub struct Span {
+    pub from: usize,
+    pub to: usize,
+}
 
 // The names of a list behind its first.
 const NAMES: usize = LIST - 1;
@@ -160,4 +167,52 @@ pub fn stages_end(text: &[u8], at: usize, n: usize) -> usize
         return i + 1;
     }
     0
+}
+
+// Literal k of the row of them that is next.
+pub fn literal_at(text: &[u8], at: usize, k: usize) -> Span
+    requires { ⌜ at ≤ length (now text) ⌝ }
+    ensures { λ r. ⌜ Picked literal (now (text .entry)) at k r ⌝ }
+{
+    let mut i = at;
+    let mut n = k;
+    while i < text.len() {
+        if text_scan::at_byte(text, i, 41) {
+            return Span { from: 0, to: 0 };
+        }
+        let e = literal_end(text, i + 1);
+        if e == 0 {
+            return Span { from: 0, to: 0 };
+        }
+        if n == 0 {
+            return Span { from: i + 1, to: e };
+        }
+        i = e;
+        n -= 1;
+    }
+    Span { from: 0, to: 0 }
+}
+
+// Stage k of the row of them that is next.
+pub fn stage_at(text: &[u8], at: usize, k: usize) -> Span
+    requires { ⌜ at ≤ length (now text) ⌝ }
+    ensures { λ r. ⌜ Picked stage (now (text .entry)) at k r ⌝ }
+{
+    let mut i = at;
+    let mut n = k;
+    while i < text.len() {
+        if text_scan::at_byte(text, i, 41) {
+            return Span { from: 0, to: 0 };
+        }
+        let e = stage_end(text, i + 1);
+        if e == 0 {
+            return Span { from: 0, to: 0 };
+        }
+        if n == 0 {
+            return Span { from: i + 1, to: e };
+        }
+        i = e;
+        n -= 1;
+    }
+    Span { from: 0, to: 0 }
 }
