@@ -18,12 +18,12 @@ use Rattle.text.specs.declared.Acceptance.the-variants.{Accepted, Refused}
 use Rattle.text.specs.declared.Reading.{Reading}
 use Rattle.text.specs.Reading.{Reads}
 use Rattle.text.proofs.Laws.{is-accepted, is-refused, read-represents, read-names, read-well-formed}
-use Rattle.display_shapes.specs.Rows.{pick, Stands, Picked}
+use Rattle.display_shapes.specs.Rows.{pick, Stands, Picked, Shows}
 use Rattle.display_shapes.specs.declared.Span.{Span}
 use Rattle.display_parts.specs.Parts as parts
 use Rattle.display_parts.specs.Placed.{Gives}
 use Rattle.display_parts.specs.declared.Part.{Part}
-use Rattle.display.specs.Shown.{relationAt, ShowsRelation, Shows}
+use Rattle.display.specs.Shown.{relationAt, ShowsRelation}
 use Rattle.display.specs.declared.Declaration.{Declaration}
 use Rattle.display.proofs.Printed.{literal-printed}
 

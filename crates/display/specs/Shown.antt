@@ -2,7 +2,7 @@
 use mathlib.Core.Path.{_≡_}
 use mathlib.Core.List.{List, [], _++_}
 use mathlib.Core.Option.{Option, none, some}
-use Prim.Native.Nat.{ℕ, _+_, _≤_, _<_}
+use Prim.Native.Nat.{ℕ, _+_, _≤_}
 use lib.ListN.{length}
 use lib.Seq.{slice}
 use Rattle.grammar.specs.Bytes.{Word}
@@ -11,7 +11,6 @@ use Rattle.grammar.specs.Shapes.{_>>=_}
 use Rattle.grammar.specs.Declarations.{extend, variables}
 use Rattle.grammar.specs.Texts.{Outcome, accepted, refused}
 use Rattle.display_shapes.specs.Rows.{pick}
-use Rattle.display_shapes.specs.declared.Span.{Span}
 use Rattle.display_parts.specs.Parts.{partOf}
 use Rattle.display.specs.declared.Declaration.{Declaration}
 
@@ -24,11 +23,6 @@ relationAt (refused n l) i = none
 abbrev pub ShowsRelation : List ℕ → Option (Word × ℕ) → Declaration → Type 0
 ShowsRelation text none r = (r .from ≡ 0) × (r .size ≡ 0) × (r .code ≡ 0)
 ShowsRelation text (some d) r = (r .from + r .size ≤ length text) × (slice (r .from) (r .from + r .size) text ≡ d .0) × (r .code ≡ d .1)
-
--- the bytes w stand in the line; 0 and 0 where there is nothing to show
-abbrev pub Shows : List ℕ → Option (List ℕ) → Span → Type 0
-Shows line none r = (r .from ≡ 0) × (r .to ≡ 0)
-Shows line (some w) r = (r .from < r .to) × (r .to ≤ length line) × (slice (r .from) (r .to) line ≡ w)
 
 -- literal k of part n of a line, from 0, as it is printed
 abbrev pub literalAt : List ℕ → ℕ → ℕ → Option (List ℕ)

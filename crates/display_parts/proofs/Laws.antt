@@ -45,7 +45,7 @@ gives-some s o p e z h = subst (λ (q : Option parts.Part). Gives s q p) (sym e)
 clause-placed : (s : List ℕ) (a b e n : ℕ) {t : List ℕ} (hs : List Word) (q : List Literal) → a ≤ e → b ≤ length s → e ≤ length s → rest literal n (drop b s) ≡ some (q, t)
     → words (drop a s) ≡ (hs ++ variables q) ++ words (drop e s) → Placed s (record { head = 0; headend = 0; from = a; body = b; end = e }) hs q
 clause-placed s a b e n hs q h k l r w = record {
-  head = omega arith;
+  head = λ z. absurd (z refl);
   headend = omega arith;
   from = h;
   body = k;
@@ -57,7 +57,7 @@ clause-placed s a b e n hs q h k l r w = record {
 next-placed : (s : List ℕ) (x b e n : ℕ) (q : List Literal) → 6 < x → x ≤ length s → b < e → e ≤ length s → rest literal n (drop b s) ≡ some (q, drop e s)
     → Placed s (record { head = 6; headend = x; from = b; body = b; end = e }) (slice 6 x s ∷ []) q
 next-placed s x b e n q h k l m r = record {
-  head = omega arith;
+  head = λ z. h;
   headend = k;
   from = omega arith;
   body = omega arith;
@@ -275,7 +275,7 @@ stage-gives s none r h = h .1
 stage-gives s (some q) r (a, b, c) = (
   λ z. absurd (omega arith),
   record {
-    head = omega arith;
+    head = λ z. absurd (z refl);
     headend = omega arith;
     from = omega arith;
     body = omega arith;

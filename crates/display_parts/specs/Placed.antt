@@ -3,7 +3,7 @@ use mathlib.Core.Path.{_≡_}
 use mathlib.Core.Bool.{cond}
 use mathlib.Core.List.{List, [], _∷_, _++_}
 use mathlib.Core.Option.{Option, none, some}
-use Prim.Native.Nat.{ℕ, zero, suc, _-_, _≤_}
+use Prim.Native.Nat.{ℕ, zero, suc, _-_, _≤_, _<_}
 use lib.Dec.{eqb}
 use lib.ListN.{length, drop}
 use lib.Seq.{slice}
@@ -36,7 +36,7 @@ leading line p = cond (eqb (p .headend) 0) [] (slice (p .head) (p .headend) line
 
 -- the record gives the part with the variables hs before its body b
 pub record Placed (line : List ℕ) (p : Part) (hs : List Word) (b : List Literal) : Type 0 where
-  pub head : p .head ≤ p .headend
+  pub head : (p .headend ≡ 0 → ⊥) → p .head < p .headend
   pub headend : p .headend ≤ length line
   pub from : p .from ≤ p .end
   pub body : p .body ≤ length line

@@ -4,6 +4,7 @@ use mathlib.Core.List.{List, [], _∷_}
 use mathlib.Core.Option.{Option, none, some}
 use Prim.Native.Nat.{ℕ, zero, suc, _≤_, _<_}
 use lib.ListN.{length, drop}
+use lib.Seq.{slice}
 use Rattle.grammar.specs.Bytes.{bytes}
 use Rattle.grammar.specs.Shapes.{Read, after}
 use Rattle.display_shapes.specs.declared.Span.{Span}
@@ -27,3 +28,8 @@ Stands read text (some x) r = (r .from < r .to) × (r .to ≤ length text) × (r
 -- item k of the row that is next
 abbrev pub Picked : {A : Type 0} → (List ℕ → Read A) → List ℕ → ℕ → ℕ → Span → Type 0
 Picked {A} read text at k r = (xs : List A) → Row read (drop at text) xs → Stands read text (pick xs k) r
+
+-- the bytes w stand in the line; 0 and 0 where there is nothing to show
+abbrev pub Shows : List ℕ → Option (List ℕ) → Span → Type 0
+Shows line none r = (r .from ≡ 0) × (r .to ≡ 0)
+Shows line (some w) r = (r .from < r .to) × (r .to ≤ length line) × (slice (r .from) (r .to) line ≡ w)
