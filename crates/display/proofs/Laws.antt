@@ -10,7 +10,7 @@ use Rattle.limits.specs.Limits as limit
 use Rattle.grammar.specs.Bytes.{Word}
 use Rattle.grammar.specs.Forms.{Literal, printLiteral}
 use Rattle.grammar.specs.Shapes.{_>>=_, literal}
-use Rattle.grammar.specs.Declarations.{Declared}
+use Rattle.grammar.specs.Declarations.{Declared, extend, variables}
 use Rattle.grammar.specs.Texts.{outcome}
 use Rattle.acceptance.specs.Represents.{codesOf}
 use Rattle.text_scan.proofs.Laws.{slice-part}
@@ -23,6 +23,7 @@ use Rattle.display_shapes.specs.declared.Span.{Span}
 use Rattle.display_parts.specs.Parts as parts
 use Rattle.display_parts.specs.Placed.{Gives}
 use Rattle.display_parts.specs.declared.Part.{Part}
+use Rattle.display_variables.specs.Order.{before, Within}
 use Rattle.display.specs.Shown.{relationAt, ShowsRelation}
 use Rattle.display.specs.declared.Declaration.{Declaration}
 use Rattle.display.proofs.Printed.{literal-printed}
@@ -100,3 +101,18 @@ module _ (line : List ℕ) (o : Option parts.Part) (p : Part) (g : Gives line o 
         go : (q : Option parts.Part) → Gives line q p → Shows line (q >>= λ q. pick (q .1) k >>= λ l. some (printLiteral l)) r
         go none w = absurd (z w)
         go (some q) w = literal-shows line (pick (q .1) k) r (h (q .1) (w .1 .row))
+
+    pub part-within : Within line p
+    part-within = go o g
+      where
+        go : (q : Option parts.Part) → Gives line q p → Within line p
+        go none h = absurd (z h)
+        go (some q) h = record { head = h .1 .head; headend = h .1 .headend; from = h .1 .from; end = h .1 .end }
+
+    pub variable-found : (j : ℕ) (r : Span) → Shows line (pick (extend [] (before line p (p .end))) j) r → Shows line (o >>= λ q. pick (extend [] (q .0 ++ variables (q .1))) j) r
+    unfolding before
+    variable-found j r h = go o g
+      where
+        go : (q : Option parts.Part) → Gives line q p → Shows line (q >>= λ q. pick (extend [] (q .0 ++ variables (q .1))) j) r
+        go none w = absurd (z w)
+        go (some q) w = subst (λ (ws : List Word). Shows line (pick (extend [] ws) j) r) (w .1 .words) h

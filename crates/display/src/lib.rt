@@ -5,7 +5,7 @@ ghost use lib.ListN.{getD};
 ghost use Rattle.limits.specs.Limits as limit;
 ghost use Rattle.grammar.specs.Texts.{outcome};
 ghost use Rattle.display_shapes.specs.Rows.{Shows};
-ghost use Rattle.display.specs.Shown.{relationAt, ShowsRelation, literalAt};
+ghost use Rattle.display.specs.Shown.{relationAt, ShowsRelation, literalAt, variableAt};
 use display_shapes::Span;
 use model::Model;
 use text::Acceptance;
@@ -65,4 +65,15 @@ pub fn literal(line: &[u8], n: usize, k: usize) -> Span
     }
     let b = p.body;
     display_shapes::literal_at(line, b, k)
+}
+
+// Variable j, from 0, of that part in order of first appearance, those of a clause's head first; 0 and 0 where there is none.
+pub fn variable(line: &[u8], n: usize, j: usize) -> Span
+    ensures { λ r. ⌜ Shows (now (line .entry)) (variableAt (now (line .entry)) n j) r ⌝ }
+{
+    let p = display_parts::locate(line, n);
+    if p.end == 0 {
+        return Span { from: 0, to: 0 };
+    }
+    display_variables::variable_of(line, p, j)
 }
