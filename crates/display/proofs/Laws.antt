@@ -1,6 +1,6 @@
 -- Laws of what is shown.
 use mathlib.Core.Path.{_≡_, refl, sym, ap, _∙_, subst}
-use mathlib.Core.List.{List, [], _∷_, _++_, map}
+use mathlib.Core.List.{List, [], _∷_, _++_}
 use mathlib.Core.Option.{Option, none, some}
 use Prim.Native.Nat.{ℕ, zero, suc, _+_, _-_, _≤_, _<_}
 use native.Mathlib.Omega.{arith}
@@ -19,6 +19,7 @@ use Rattle.text.specs.declared.Reading.{Reading}
 use Rattle.text.specs.Reading.{Reads}
 use Rattle.text.proofs.Laws.{is-accepted, is-refused, read-represents, read-names, read-well-formed}
 use Rattle.display_shapes.specs.Rows.{pick, Stands, Picked, Shows}
+use Rattle.display_shapes.proofs.Rows.{pick-in, pick-out}
 use Rattle.display_shapes.specs.declared.Span.{Span}
 use Rattle.display_parts.specs.Parts as parts
 use Rattle.display_parts.specs.Placed.{Gives}
@@ -28,17 +29,7 @@ use Rattle.display.specs.Shown.{relationAt, ShowsRelation}
 use Rattle.display.specs.declared.Declaration.{Declaration}
 use Rattle.display.proofs.Printed.{literal-printed}
 
--- PLACES IN A LIST
-pub pick-in : {A : Type 0} (xs : List A) (i : ℕ) (d : A) → i < length xs → pick xs i ≡ some (getD xs i d)
-pick-in [] i d h = absurd (omega arith)
-pick-in (x ∷ xs) zero d h = refl
-pick-in (x ∷ xs) (suc i) d h = pick-in xs i d (omega arith)
-
-pub pick-out : {A : Type 0} (xs : List A) (i : ℕ) → length xs ≤ i → pick xs i ≡ none
-pick-out [] i h = refl
-pick-out (x ∷ xs) zero h = absurd (omega arith)
-pick-out (x ∷ xs) (suc i) h = pick-out xs i (omega arith)
-
+-- the code of a declared relation
 code-in : (D : Declared) (i : ℕ) → i < length D → getD (codesOf D) i 0 ≡ getD D i ([], 0) .1
 code-in [] i h = absurd (omega arith)
 code-in (d ∷ D) zero h = refl

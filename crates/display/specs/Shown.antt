@@ -6,7 +6,7 @@ use Prim.Native.Nat.{ℕ, _+_, _≤_}
 use lib.ListN.{length}
 use lib.Seq.{slice}
 use Rattle.grammar.specs.Bytes.{Word}
-use Rattle.grammar.specs.Forms.{Literal, printLiteral}
+use Rattle.grammar.specs.Forms.{printLiteral}
 use Rattle.grammar.specs.Shapes.{_>>=_}
 use Rattle.grammar.specs.Declarations.{extend, variables}
 use Rattle.grammar.specs.Texts.{Outcome, accepted, refused}

@@ -1,5 +1,5 @@
 -- WHAT WAS READ, taken apart.
-use mathlib.Core.Path.{_≡_, refl, sym, ap, _∙_, subst}
+use mathlib.Core.Path.{_≡_, refl, sym, ap, _∙_}
 use mathlib.Core.Logic.{_⊎_, inl, inr, ⊎-elim}
 use mathlib.Core.Bool.{true, false}
 use mathlib.Core.List.{List, [], _∷_, _++_}
@@ -13,10 +13,8 @@ use Rattle.grammar.specs.Bytes.{bytes, alphanumeric, isName}
 use Rattle.grammar.specs.Forms.{Atom, Literal, plain, negated}
 use Rattle.grammar.specs.Shapes.{Read, _>>=_, after, word, afterWord, name, rest, bracket, atom, literal}
 use Rattle.grammar.proofs.Tests.{either}
+use Rattle.display_shapes.proofs.Rows.{some-none, same-read}
 use Rattle.grammar.proofs.Reading.{onto, rest-closes, rest-full, rest-ends, rest-fails, rest-item}
-
-pub some-none : {A B : Type 0} {o : Option A} {x : A} → o ≡ some x → o ≡ none → B
-some-none p q = absurd (let z : _≡_ {A = ℕ} 0 1 = cc in omega arith)
 
 -- there is something or nothing
 pub found : {A : Type 0} (o : Option A) → (o ≡ none) ⊎ ((x : A) × (o ≡ some x))
@@ -27,10 +25,6 @@ found (some x) = inr (x, refl)
 pub bind-inverse : {A B : Type 0} (o : Option A) (f : A → Option B) {y : B} → (o >>= f) ≡ some y → (x : A) × (o ≡ some x) × (f x ≡ some y)
 bind-inverse none f e = some-none e refl
 bind-inverse (some x) f e = (x, refl, e)
-
--- the item and the bytes left
-pub same-read : {A : Type 0} {x y : A} {s t : List ℕ} → _≡_ {A = Read A} (some (x, s)) (some (y, t)) → (x ≡ y) × (s ≡ t)
-same-read {A} {x} {y} {s} {t} e = (ap (λ (o : Read A). Option·getD o (x, s) .0) e, ap (λ (o : Read A). Option·getD o (x, s) .1) e)
 
 pub after-inverse : (w s : List ℕ) {t : List ℕ} → after w s ≡ some t → s ≡ w ++ t
 after-inverse [] s {t} e = ap (λ (o : Option (List ℕ)). Option·getD o s) e

@@ -11,8 +11,8 @@ use lib.ListN.{length, drop, drop-of-length-le}
 use lib.Seq.{slice}
 use borrow.Author.Tests.{eqb-true, eqb-false, ne-eqb}
 use Rattle.grammar.specs.Bytes.{bytes, Word}
-use Rattle.grammar.specs.Forms.{Atom, Literal, Form, stateForm, relForm, ruleForm, newForm, nextForm, askForm}
-use Rattle.grammar.specs.Shapes.{Read, _>>=_, after, whether, name, rest, bracket, atom, literal, list, body, stage, arity, stateRest, relRest, ruleRest, newRest, nextRest, askRest, line, whole, formOf}
+use Rattle.grammar.specs.Forms.{Literal, Form, stateForm, relForm, ruleForm, newForm, nextForm, askForm}
+use Rattle.grammar.specs.Shapes.{Read, _>>=_, after, whether, name, rest, atom, literal, list, body, stage, arity, stateRest, relRest, ruleRest, newRest, nextRest, askRest, line, whole, formOf}
 use Rattle.grammar.specs.Declarations.{variables}
 use Rattle.grammar.proofs.Tests.{either}
 use Rattle.text_scan.specs.Found.{NameEnd}
@@ -21,8 +21,8 @@ use Rattle.display_shapes.specs.Ends.{Ends}
 use Rattle.display_shapes.specs.Rows.{pick, Row, Stands}
 use Rattle.display_shapes.specs.declared.Span.{Span}
 use Rattle.display_parts.specs.Parts as parts
-use Rattle.display_parts.specs.Parts.{stageOf, partIn, partOf}
-use Rattle.display_parts.specs.Placed.{leading, spaced, Placed, Gives, spacedList}
+use Rattle.display_parts.specs.Parts.{partIn, partOf}
+use Rattle.display_parts.specs.Placed.{Placed, Gives, spacedList}
 use Rattle.display_parts.specs.declared.Part.{Part}
 use Rattle.display_parts.proofs.Inverse.{found, after-inverse}
 use Rattle.display_parts.proofs.Words.{words, words-between, atom-words, body-words, stage-words, rest-row, bracket-row}

@@ -11,7 +11,7 @@ use lib.ListN.{length, drop}
 use lib.Seq.{drop-drop}
 use borrow.Author.Tests.{ne-eqb}
 use Rattle.grammar.specs.Bytes.{bytes, alphanumeric, Word, isName}
-use Rattle.grammar.specs.Forms.{Atom, Literal, plain, negated}
+use Rattle.grammar.specs.Forms.{Atom, Literal}
 use Rattle.grammar.specs.Shapes.{Read, after, afterWord, name, rest, bracket, atom, literal}
 use Rattle.grammar.specs.Declarations.{variablesOf, variables}
 use Rattle.grammar.proofs.Tests.{either, clash}

@@ -51,17 +51,17 @@ fn rule_part(line: &[u8]) -> Part
     requires { ⌜ (6 ≤ length (now line)) × (after (bytes "(rule ") (now line) ≡ some (drop 6 (now line))) ⌝ }
     ensures { λ r. ⌜ Gives (now (line .entry)) (partOf (now (line .entry)) 0) r ⌝ }
 {
-    let b = display_shapes::atom_end(line, 6);
-    if b == 0 {
+    let h = display_shapes::atom_end(line, 6);
+    if h == 0 {
         return nothing();
     }
-    let e = display_shapes::literals_end(line, b, BODY);
+    let e = display_shapes::literals_end(line, h, BODY);
     if e == line.len() {
         return Part {
             head: 0,
             headend: 0,
             from: 6,
-            body: b,
+            body: h,
             end: e,
         };
     }
@@ -73,17 +73,17 @@ fn new_part(line: &[u8]) -> Part
     requires { ⌜ (5 ≤ length (now line)) × (after (bytes "(new ") (now line) ≡ some (drop 5 (now line))) ⌝ }
     ensures { λ r. ⌜ Gives (now (line .entry)) (partOf (now (line .entry)) 0) r ⌝ }
 {
-    let b = display_shapes::list_end(line, 5);
-    if b == 0 {
+    let l = display_shapes::list_end(line, 5);
+    if l == 0 {
         return nothing();
     }
-    let e = display_shapes::literals_end(line, b, BODY);
+    let e = display_shapes::literals_end(line, l, BODY);
     if e == line.len() {
         return Part {
             head: 0,
             headend: 0,
-            from: b,
-            body: b,
+            from: l,
+            body: l,
             end: e,
         };
     }

@@ -4,18 +4,28 @@ use mathlib.Core.List.{List, [], _∷_}
 use mathlib.Core.Option.{Option, none, some, Option·getD}
 use Prim.Native.Nat.{ℕ, zero, suc, _+_, _-_, _≤_, _<_}
 use native.Mathlib.Omega.{arith}
-use lib.ListN.{length, drop}
+use lib.ListN.{length, drop, getD}
 use Rattle.grammar.specs.Bytes.{bytes}
 use Rattle.grammar.specs.Shapes.{Read, after}
 use Rattle.text_scan.proofs.Laws.{next, nothing}
 use Rattle.display_shapes.specs.Ends.{Ends}
 use Rattle.display_shapes.specs.Rows.{pick, Row, Stands, Picked}
-use Rattle.display_shapes.specs.declared.Span.{Span}
 
-some-none : {A B : Type 0} {o : Option A} {x : A} → o ≡ some x → o ≡ none → B
+pub some-none : {A B : Type 0} {o : Option A} {x : A} → o ≡ some x → o ≡ none → B
 some-none p q = absurd (let z : _≡_ {A = ℕ} 0 1 = cc in omega arith)
 
--- the items xs are left at i, and item k of all is item n of them
+-- PLACES IN A LIST
+pub pick-in : {A : Type 0} (xs : List A) (i : ℕ) (d : A) → i < length xs → pick xs i ≡ some (getD xs i d)
+pick-in [] i d h = absurd (omega arith)
+pick-in (x ∷ xs) zero d h = refl
+pick-in (x ∷ xs) (suc i) d h = pick-in xs i d (omega arith)
+
+pub pick-out : {A : Type 0} (xs : List A) (i : ℕ) → length xs ≤ i → pick xs i ≡ none
+pick-out [] i h = refl
+pick-out (x ∷ xs) zero h = absurd (omega arith)
+pick-out (x ∷ xs) (suc i) h = pick-out xs i (omega arith)
+
+-- WALKING ALONG A ROW: the items xs are left at i, and item k of all is item n of them
 pub record Walking {A : Type 0} (read : List ℕ → Read A) (text : List ℕ) (at k i n : ℕ) : Type 0 where
   pub ends : i ≤ length text
   pub left : (xs : List A) → Row read (drop at text) xs → (ys : List A) × Row read (drop i text) ys × (pick xs k ≡ pick ys n)
@@ -24,7 +34,7 @@ pub walking-start : {A : Type 0} {read : List ℕ → Read A} {text : List ℕ} 
 walking-start h = record { ends = h; left = λ xs r. (xs, r, refl) }
 
 -- the item and the bytes left
-same-read : {A : Type 0} {x y : A} {s t : List ℕ} → _≡_ {A = Read A} (some (x, s)) (some (y, t)) → (x ≡ y) × (s ≡ t)
+pub same-read : {A : Type 0} {x y : A} {s t : List ℕ} → _≡_ {A = Read A} (some (x, s)) (some (y, t)) → (x ≡ y) × (s ≡ t)
 same-read {A} {x} {y} {s} {t} e = (ap (λ (o : Read A). Option·getD o (x, s) .0) e, ap (λ (o : Read A). Option·getD o (x, s) .1) e)
 
 module _ {A : Type 0} (read : List ℕ → Read A) where

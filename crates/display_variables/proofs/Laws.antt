@@ -1,7 +1,7 @@
 -- Laws of variables in order of first appearance.
 use mathlib.Core.Path.{_≡_, refl, sym, ap, _∙_, subst}
 use mathlib.Core.Logic.{⊎-elim}
-use mathlib.Core.Bool.{Bool, true, false, cond, _||_, or-assoc, or-false}
+use mathlib.Core.Bool.{Bool, true, false, _||_, or-assoc, or-false}
 use mathlib.Core.List.{List, [], _∷_, _++_, append-assoc, append-nil}
 use mathlib.Core.Option.{none, some}
 use Prim.Native.Nat.{ℕ, zero, suc, _+_, _-_, _≤_, _<_}
@@ -11,16 +11,16 @@ use lib.ListN.{length, take, drop, getD, length-append}
 use lib.Seq.{slice, drop-drop}
 use borrow.Author.Tests.{eqb-true, eq-eqb, ne-eqb}
 use Rattle.grammar.specs.Bytes.{bytes, Word, same}
-use Rattle.grammar.specs.Shapes.{after, name}
+use Rattle.grammar.specs.Shapes.{after}
 use Rattle.grammar.specs.Declarations.{member, extend}
-use Rattle.grammar.proofs.Tests.{either, clash, eqb-same}
-use Rattle.grammar.proofs.Words.{same-eq, member-append, extend-append, extend-longer}
+use Rattle.grammar.proofs.Tests.{either}
+use Rattle.grammar.proofs.Words.{same-eq, member-append, extend-append}
 use Rattle.text_scan.specs.Found.{NameEnd}
 use Rattle.text_scan.proofs.Laws.{next, slice-part}
 use Rattle.display_shapes.specs.Rows.{pick, Shows}
-use Rattle.display_parts.specs.Placed.{named, behind, spaced, leading}
+use Rattle.display_parts.specs.Placed.{behind, spaced, leading}
 use Rattle.display_parts.specs.declared.Part.{Part}
-use Rattle.display_parts.proofs.Inverse.{some-none}
+use Rattle.display_shapes.proofs.Rows.{some-none, pick-out}
 use Rattle.display_variables.specs.Order.{behindAt, before, Within, BehindEnd, FreshEnd}
 
 -- THE NAME BEHIND A BYTE
@@ -104,7 +104,7 @@ module _ (line : List ℕ) (p : Part) where
       headed =
           let g = w .head h in
           let z : same (slice a e line) (slice (p .head) (p .headend) line) ≡ same (take (e - a) (drop a line)) (take (p .headend - p .head) (drop (p .head) line))
-              = rw (slice-part line a e k, slice-part line (p .head) (p .headend) (omega arith)) in
+          = rw (slice-part line a e k, slice-part line (p .head) (p .headend) (omega arith)) in
           rw (ne-eqb (p .headend) 0 h) (ap (λ (t : Bool). t || member (slice a e line) (spaced (i - p .from) (drop (p .from) line))) z)
 
       pub before-true : same (take (e - a) (drop a line)) (take (p .headend - p .head) (drop (p .head) line)) ≡ true → true ≡ member (slice a e line) (before line p i)
@@ -168,11 +168,6 @@ pick-last : (vs : List Word) (x : Word) → pick (vs ++ (x ∷ [])) (length vs) 
 pick-last [] x = refl
 pick-last (v ∷ vs) x = pick-last vs x
 
-pick-none : (vs : List Word) (j : ℕ) → length vs ≤ j → pick vs j ≡ none
-pick-none [] j h = refl
-pick-none (v ∷ vs) zero h = absurd (omega arith)
-pick-none (v ∷ vs) (suc j) h = pick-none vs j (omega arith)
-
 -- c variables stand before byte i
 pub record Counted (line : List ℕ) (p : Part) (j i c : ℕ) : Type 0 where
   pub begins : p .from ≤ i
@@ -193,7 +188,7 @@ module _ {line : List ℕ} {p : Part} {j i c : ℕ} (so : Counted line p j i c) 
   pub counted-end : p .end ≤ i → Shows line (pick (extend [] (before line p (p .end))) j) (record { from = 0; to = 0 })
   counted-end h =
       let z : i ≡ p .end = omega (arith, so .ends) in
-      rw (pick-none (extend [] (before line p (p .end))) j (omega (arith, so .few, subst (λ (k : ℕ). length (extend [] (before line p k)) ≡ c) z (so .count)))) (refl, refl)
+      rw (pick-out (extend [] (before line p (p .end))) j (omega (arith, so .few, subst (λ (k : ℕ). length (extend [] (before line p k)) ≡ c) z (so .count)))) (refl, refl)
 
   module _ (l : i < p .end) where
     inside : i < length line
@@ -231,10 +226,10 @@ module _ {line : List ℕ} {p : Part} {j i c : ℕ} (so : Counted line p j i c) 
           let x = slice (i + 1) e line in
           let tail = spaced (p .end - (i + 1)) (drop (i + 1) line) in
           let whole : extend [] (before line p (p .end)) ≡ extend (vs ++ (x ∷ [])) tail
-              = ap (extend []) (before-split line p (i + 1) (p .end) (omega (arith, so .begins)) (omega arith)) ∙ (extend-append [] (before line p (i + 1)) tail ∙ ap (λ (us : List Word). extend us tail) fresh) in
+          = ap (extend []) (before-split line p (i + 1) (p .end) (omega (arith, so .begins)) (omega arith)) ∙ (extend-append [] (before line p (i + 1)) tail ∙ ap (λ (us : List Word). extend us tail) fresh) in
           let n : length vs ≡ j = so .count ∙ h in
           let found : pick (extend [] (before line p (p .end))) j ≡ some x
-              = ap (λ (us : List Word). pick us j) whole ∙ (pick-extend j (vs ++ (x ∷ [])) tail (omega (arith, length-append vs (x ∷ []))) ∙ subst (λ (k : ℕ). pick (vs ++ (x ∷ [])) k ≡ some x) n (pick-last vs x)) in
+          = ap (λ (us : List Word). pick us j) whole ∙ (pick-extend j (vs ++ (x ∷ [])) tail (omega (arith, length-append vs (x ∷ []))) ∙ subst (λ (k : ℕ). pick (vs ++ (x ∷ [])) k ≡ some x) n (pick-last vs x)) in
           rw found (a, b, refl)
 
 -- THE HEAD
