@@ -3,14 +3,14 @@ use mathlib.Core.Path.{_≡_, refl, sym, _∙_, subst, fun-ext}
 use mathlib.Core.Logic.{inl, inr, _≢_}
 use mathlib.Core.Bool.{Bool, true, false, cond}
 use mathlib.Core.List.{List, []}
-use mathlib.Core.Option.{Option, none}
+use mathlib.Core.Option.{Option, none, some}
 use Prim.Native.Nat.{ℕ, suc, _+_, _≤_, _<_}
 use native.Mathlib.Omega.{arith}
 use native.Mathlib.Numerals.{add-one}
 use native.Mathlib.Nat.{not-suc-le-zero}
 use lib.Dec.{eqb}
 use lib.ListN.{length, take, drop, getD, length-set, length-replicate, drop-of-length-le}
-use lib.Seq.{drop-cons}
+use lib.Seq.{drop-cons, length-take-le}
 use Rattle.limits.specs.Limits as limit
 use Rattle.semantics.specs.Models.{Line, rule, new, next, other, line}
 use Rattle.semantics.specs.Facts.{Database}
@@ -19,10 +19,14 @@ use Rattle.semantics.specs.Runs as runs
 use Rattle.semantics.specs.Runs.{step, meet, start, nobody, Allowed}
 use Rattle.model.specs.declared.Model.{Model}
 use Rattle.model.specs.Records.{programOf, questionOf}
-use Rattle.model.specs.Places.{Numerable}
+use Rattle.model.specs.Places.{placeOf, Numerable}
 use Rattle.model.specs.WellFormed.{WellFormed}
 use Rattle.model.proofs.Places.{number-of-place}
 use Rattle.model.proofs.Accepted.{stages}
+use Rattle.facts_table.specs.Table.{Consistent}
+use Rattle.facts_derived.specs.declared.Stock.{Stock}
+use Rattle.facts_derived.specs.Stocks.{ExactFor, Stocked, Enough, Supplied}
+use Rattle.facts_derived.proofs.Users.{there, supplied}
 use Rattle.replay_session.specs.declared.Answer.{Answer}
 use Rattle.replay_session.specs.declared.Answer.the-variants.{Kept, Broken}
 use Rattle.replay_session.specs.declared.Session.{Session}
@@ -32,7 +36,8 @@ use Rattle.replay_session.specs.Replays.{Replays}
 use Rattle.replay_session.proofs.Effects.{taken-after, taken-fits}
 use Rattle.replay_numbers.specs.Numbers.{Numbered}
 use Rattle.replay_view.specs.declared.View.{View}
-use Rattle.replay_steps.specs.Tries.{Sees, Lent, TriedAt}
+use Rattle.replay_view.specs.Views.{rowOf, Views, Arranged, Known}
+use Rattle.replay_steps.specs.Tries.{Rests, Sees, Lent, TriedAt}
 use Rattle.replay_places.proofs.Looking.{fits-small}
 use Rattle.replay_runs.specs.Replies.{fresh}
 
@@ -125,12 +130,45 @@ module _ (m : Model) (w : WellFormed m) (run : List ℕ) (i : ℕ) (s : Session)
     pub running-early : s .met ≢ m .stagecount → Replays (programOf m) (questionOf m) (start []) run 0 (Broken i)
     running-early e = r .rest (Broken i) (rw nothing ((λ q. e (q ∙ stages m w)), refl))
 
--- WHAT IS LENT to the next place of a run
-pub running-lent : (m : Model) → WellFormed m → (run : List ℕ) (i : ℕ) (s : Session) → Running m run i s → i < limit.run → (ns row slots w : List ℕ) (v : View) → Sees m (take (s .objects) (s .states)) v w → Numbered m ns → m .literals ≡ row → v .slots ≡ slots
-    → Lent m v s ns row slots w
-running-lent m wf run i s r l ns row slots w v sees numbered e q =
+-- WHAT THE RUN SEES of its database: a view, a work area that shows its row, and a stock of facts over it
+pub record Seen (m : Model) (plans : List ℕ) (db : Database) (v : View) (s : Stock) (units w d : List ℕ) : Type 0 where
+  pub views : Views db v
+  pub shown : Arranged (rowOf v) w
+  pub stocked : Stocked m (v .count) plans s units w d
+
+pub row-length : (db : Database) (v : View) → Views db v → length (rowOf v) ≡ v .count
+row-length db v h = let g = h .good in length-take-le (v .count) (v .row) (let a = g .few in let b = g .row in omega arith)
+
+-- the facts that are needed are known
+pub exact-known : (m : Model) (R S w : List ℕ) → Consistent w → ExactFor m R S w → Known (programOf m) R S w
+exact-known m R S w c e = record { agree = c; states = e .states; facts = e .facts }
+
+module _ (m : Model) (plans need : List ℕ) (db : Database) (v : View) (s : Stock) (units w d : List ℕ) (seen : Seen m plans db v s units w d) where
+  pub seen-enough : Enough s need true → Sees m need db v w
+  seen-enough h =
+      record {
+        views = seen .views;
+        known = exact-known m need (rowOf v) w (seen .stocked .agree) (there m (v .count) plans s need units w d true (seen .stocked) h refl (rowOf v) (row-length db v (seen .views)) (seen .shown .states));
+      }
+
+  module _ (s′ : Stock) (units′ w′ d′ : List ℕ) (h : Supplied m (v .count) plans need s′ units w d units′ w′ d′) where
+    pub seen-supplied : Sees m need db v w′
+    seen-supplied =
+        record {
+          views = seen .views;
+          known = exact-known m need (rowOf v) w′ (h .stock .agree) (supplied m (v .count) plans need s′ units w d units′ w′ d′ h (rowOf v) (row-length db v (seen .views)) (seen .shown .states));
+        }
+
+    pub seen-still : Seen m plans db v s′ units′ w′ d′
+    seen-still = record { views = seen .views; shown = record { agree = h .stock .agree; states = h .stays .rows (rowOf v) (seen .shown .states) }; stocked = h .stock }
+
+-- WHAT IS LENT to the next place of a run, which rests on what is needed
+pub running-lent : (m : Model) → WellFormed m → (run : List ℕ) (i : ℕ) (s : Session) → Running m run i s → i < limit.run → (ns row slots w : List ℕ) (v : View) (need : List ℕ) (n : ℕ) → Sees m need (take (s .objects) (s .states)) v w
+    → ((p : runs.Place) → placeOf n ≡ some p → Rests m need p) → Numbered m ns → m .literals ≡ row → v .slots ≡ slots → Lent m v s ns row slots w n
+running-lent m wf run i s r l ns row slots w v need n sees rests numbered e q =
     record {
-      ready = record { accepted = wf; fits = r .fits; room = let k = r .kept in omega arith; sees = sees; long = r .long };
+      ready = record { accepted = wf; fits = r .fits; room = let k = r .kept in omega arith; relations = need; sees = sees; long = r .long };
+      rests = rests;
       numbered = numbered;
       literals = e;
       seats = q;

@@ -22,6 +22,7 @@ use Rattle.model.specs.declared.Clause.{Clause}
 use Rattle.model.specs.declared.Model.{Model}
 use Rattle.model.specs.Literals.{GoodBody}
 use Rattle.model.specs.Records.{upFrom, headOf, lineOf, clauseBody, clauseLine, programOf, clauseAt}
+use Rattle.model.specs.WellFormed.{WellFormed}
 use Rattle.model.proofs.Lines.{line-other}
 use Rattle.model.proofs.Accepted.{on-line, clause-safe, clause-vars, clause-body, stages}
 use Rattle.facts_candidates.specs.declared.Choice.{Choice}
@@ -44,6 +45,10 @@ body-supported (Rule r n) b h = h .2
 body-supported (New t) b h = h
 body-supported (Next plus minus) b h = h .1
 
+-- its body begins within the literal row
+clause-within : (m : Model) → WellFormed m → (k : ℕ) → k < m .clausecount → clauseAt m k .first ≤ length (m .literals)
+clause-within m wf k h = let p = wf .clause k h .part .within in let l = wf .literalcount in let n = wf .literals in omega arith
+
 module _ (m : Model) (v : View) (s : Session) (row slots w : List ℕ) (c : Clause) (t : Stepping m v s row slots w c) where
   abbrev body : Body
   body = clauseBody row c
@@ -57,8 +62,7 @@ module _ (m : Model) (v : View) (s : Session) (row slots w : List ℕ) (c : Clau
 
   -- its body can be handed to the evaluator
   pub part-within : c .first ≤ length row
-  part-within = lent (λ l x. x .first ≤ length l)
-      (let wf = t .ready .accepted in let p = wf .clause (t .index) (t .within) .part .within in let l = wf .literalcount in let n = wf .literals in omega arith)
+  part-within = lent (λ l x. x .first ≤ length l) (clause-within m (t .ready .accepted) (t .index) (t .within))
 
   pub part-good : GoodBody (drop (c .first) row) (c .count) (c .variables)
   part-good = lent (λ l x. GoodBody (drop (x .first) l) (x .count) (x .variables)) (clause-body m (t .ready .accepted) (t .index) (t .within))
@@ -96,7 +100,7 @@ module _ (m : Model) (ns row : List ℕ) (plain : Plain m ns row) where
   counted k h = let q = plain .numbered .clauses in omega arith
 
   -- what holds of the record's literals and clause holds of those lent
-  pub numbered : (k : ℕ) → k < getD ns 0 0 → (c : Clause) → c ≡ clauseFrom ns (clausePlace k) → (P : List ℕ → Clause → Type 0) → P (m .literals) (clauseAt m k) → P row c
+  numbered : (k : ℕ) → k < getD ns 0 0 → (c : Clause) → c ≡ clauseFrom ns (clausePlace k) → (P : List ℕ → Clause → Type 0) → P (m .literals) (clauseAt m k) → P row c
   numbered k h c e P q = subst (P row) (sym (e ∙ plain .numbered .clause k (counted k h))) (subst (λ (l : List ℕ). P l (clauseAt m k)) (plain .literals) q)
 
   -- the body on its line
@@ -106,8 +110,7 @@ module _ (m : Model) (ns row : List ℕ) (plain : Plain m ns row) where
 
   -- its literals are good
   pub own-within : (k : ℕ) → k < getD ns 0 0 → (c : Clause) → c ≡ clauseFrom ns (clausePlace k) → c .first ≤ length row
-  own-within k h c e = numbered k h c e (λ l x. x .first ≤ length l)
-      (let wf = plain .accepted in let p = wf .clause k (counted k h) .part .within in let l = wf .literalcount in let n = wf .literals in omega arith)
+  own-within k h c e = numbered k h c e (λ l x. x .first ≤ length l) (clause-within m (plain .accepted) k (counted k h))
 
   pub own-good : (k : ℕ) → k < getD ns 0 0 → (c : Clause) → c ≡ clauseFrom ns (clausePlace k) → GoodBody (drop (c .first) row) (c .count) (c .variables)
   own-good k h c e = numbered k h c e (λ l x. GoodBody (drop (x .first) l) (x .count) (x .variables)) (clause-body m (plain .accepted) k (counted k h))
