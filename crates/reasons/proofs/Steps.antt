@@ -82,7 +82,7 @@ module _ (m : Model) (s : Session) (v : View) (w : List ℕ) (ready : Ready m s 
       subst (StepLiteral P db o k) (sym on) (
         e ∙ sym sized,
         refit P db b (Fixed n (only 255)) (λ (σ : ℕ → ℕ). Unit {0}) k (λ σ f. tt) (λ σ f. fixed-free n σ)
-        (blames (λ σ q. h (stage-left, subst (Enabled P db o) (sym on) (e ∙ sym sized, (σ, q .0))))),
+            (blames (λ σ q. h (stage-left, subst (Enabled P db o) (sym on) (e ∙ sym sized, (σ, q .0))))),
       ),
     )
 
@@ -97,7 +97,7 @@ module _ (m : Model) (s : Session) (v : View) (w : List ℕ) (ready : Ready m s 
       subst (StepLiteral P db o k) (sym on) (
         below,
         refit P db b (Fixed n (only o)) (λ (σ : ℕ → ℕ). σ 0 ≡ o) k zeroth (λ σ f. fixed-only n o σ f)
-        (blames (λ σ q. h (stage-left, subst (Enabled P db o) (sym on) (below, (σ, zeroth σ (q .1), q .0))))),
+            (blames (λ σ q. h (stage-left, subst (Enabled P db o) (sym on) (below, (σ, zeroth σ (q .1), q .0))))),
       ),
     )
       where

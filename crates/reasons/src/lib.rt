@@ -61,8 +61,7 @@ fn why_new(
         second: FREE,
         third: FREE,
     };
-    let index =
-        reasons_bodies::blame(literals, slots, work, n, first, count, c.variables, fixed);
+    let index = reasons_bodies::blame(literals, slots, work, n, first, count, c.variables, fixed);
     Reason::Literal { index }
 }
 
@@ -90,8 +89,7 @@ fn why_next(
         second: FREE,
         third: FREE,
     };
-    let index =
-        reasons_bodies::blame(literals, slots, work, n, first, count, c.variables, fixed);
+    let index = reasons_bodies::blame(literals, slots, work, n, first, count, c.variables, fixed);
     Reason::Literal { index }
 }
 
@@ -274,5 +272,15 @@ pub fn why_place(
     else {
         return Reason::NoLine;
     };
-    why_meeting(numbers, literals, slots, work, at, stage, first, second, third)
+    why_meeting(
+        numbers,
+        literals,
+        slots,
+        work,
+        at,
+        stage,
+        first,
+        second,
+        third,
+    )
 }
