@@ -13,7 +13,6 @@ use Rattle.model.specs.declared.Model.{Model}
 use Rattle.model.specs.Records.{programOf, questionOf}
 use Rattle.model.specs.Places.{placeOf}
 use Rattle.grammar.specs.Texts.{outcome}
-use Rattle.acceptance.specs.Represents.{Represents}
 use Rattle.calls.specs.Wiping.{wiped}
 use Rattle.text.specs.declared.Acceptance.the-variants.{Accepted}
 use Rattle.text.specs.declared.Reading.{Reading}
@@ -30,7 +29,7 @@ use Rattle.reasons.specs.declared.Reason.{Reason}
 use Rattle.reasons.specs.declared.Reason.the-variants.{Ends}
 use Rattle.reasons.specs.Reasons.{Explains}
 use Rattle.explain.specs.declared.Explanation.{Explanation}
-use Rattle.explain.specs.Explains.{Reasoned, Tells, Told, Explained}
+use Rattle.explain.specs.Explains.{Reasoned, Told, Explained}
 
 module _ (P : Program) (Q : Question) where
   broken-late : (s : runs.Session) (ns : List ℕ) (i j : ℕ) → Replays P Q s ns i (Broken j) → i ≤ j

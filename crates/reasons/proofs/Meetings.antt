@@ -9,8 +9,7 @@ use native.Mathlib.Omega.{arith}
 use borrow.Author.Tests.{eqb-true, eq-eqb, ne-eqb}
 use lib.Dec.{eqb}
 use lib.ListN.{length, take, getD}
-use Rattle.limits.specs.Limits as limit
-use Rattle.semantics.specs.Models.{elem, Body, Program, Question, vars, names}
+use Rattle.semantics.specs.Models.{elem, Body, Program, vars, names}
 use Rattle.semantics.specs.Facts.{Derived, Meets}
 use Rattle.semantics.specs.Runs.{meet, pick, named, Allowed}
 use Rattle.semantics.proofs.Tools.{either, same?, elem-here, or-right}

@@ -7,27 +7,25 @@ use native.Mathlib.Omega.{arith}
 use borrow.Author.Tests.{eq-eqb, ne-eqb}
 use lib.ListN.{length, take}
 use Rattle.limits.specs.Limits as limit
-use Rattle.semantics.specs.Models.{Body, Line, rule, new, next, other, Program, line}
+use Rattle.semantics.specs.Models.{Body, rule, new, next, other, Program, line}
 use Rattle.semantics.specs.Facts.{Database}
 use Rattle.semantics.specs.Steps.{Enabled}
-use Rattle.semantics.specs.Runs.{step, Allowed}
+use Rattle.semantics.specs.Runs.{step}
 use Rattle.semantics.proofs.Tools.{same?}
-use Rattle.model.specs.declared.Action.the-variants.{Rule, New, Next}
 use Rattle.model.specs.declared.Clause.{Clause}
 use Rattle.model.specs.declared.Model.{Model}
-use Rattle.model.specs.Records.{clauseBody, clauseAt, programOf, questionOf}
+use Rattle.model.specs.Records.{programOf, questionOf}
 use Rattle.model.proofs.Accepted.{stages}
 use Rattle.facts_candidates.specs.Choices.{chosen}
 use Rattle.facts_find.specs.Bodies.{Fixed}
 use Rattle.replay_session.specs.declared.Session.{Session}
-use Rattle.replay_session.specs.Records.{sessionOf}
 use Rattle.replay_session.proofs.Effects.{size}
 use Rattle.replay_view.specs.declared.View.{View}
 use Rattle.replay_steps.specs.Tries.{Ready, Stepping, Holding}
-use Rattle.replay_steps.proofs.Steps.{on-action, next-variable, only}
+use Rattle.replay_steps.proofs.Steps.{only}
 use Rattle.reasons_bodies.specs.Blames.{Blames}
 use Rattle.reasons.specs.declared.Reason.the-variants.{NoLine, NotNext, NoObject, Literal}
-use Rattle.reasons.specs.Reasons.{StepNoLine, StepNotNext, StepNoObject, StepLiteral, Because, Explains}
+use Rattle.reasons.specs.Reasons.{StepNoLine, StepNotNext, StepNoObject, StepLiteral, Explains}
 
 -- choices that fit alike
 pub refit : (P : Program) (db : Database) (b : Body) (Fit Fit′ : (ℕ → ℕ) → Type 0) (k : ℕ) → ((σ : ℕ → ℕ) → Fit σ → Fit′ σ) → ((σ : ℕ → ℕ) → Fit′ σ → Fit σ) → Blames P db b Fit k → Blames P db b Fit′ k
