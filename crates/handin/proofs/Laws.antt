@@ -2,9 +2,9 @@
 use mathlib.Core.Path.{_≡_, refl, sym, ap, _∙_}
 use mathlib.Core.Logic.{⊎-elim}
 use mathlib.Core.Bool.{Bool, true, false, cond}
-use mathlib.Core.List.{List, [], _∷_, _++_, map, map-append, append-assoc}
+use mathlib.Core.List.{List, [], _∷_, _++_, map, map-append}
 use mathlib.Core.Option.{Option, none, some}
-use Prim.Native.Nat.{ℕ, zero, suc, _+_, _-_, _≤_, _<_}
+use Prim.Native.Nat.{ℕ, suc, _+_, _-_, _≤_, _<_}
 use native.Mathlib.Numerals.{add-one}
 use native.Mathlib.Omega.{arith}
 use lib.Dec.{eqb, ltb}
@@ -14,7 +14,7 @@ use borrow.Author.Tests.{eq-eqb, ne-eqb, lt-ltb, le-ltb, ltb-true, ltb-false}
 use Rattle.limits.specs.Limits as limit
 use Rattle.semantics.specs.Runs.{Place}
 use Rattle.model.specs.Places.{numberOf}
-use Rattle.grammar.specs.Bytes.{Line, ended, unended, inFront, lines}
+use Rattle.grammar.specs.Bytes.{Line, ended, unended, lines}
 use Rattle.grammar.proofs.Tests.{either}
 use Rattle.text_scan.proofs.Laws.{next, nothing as no-bytes}
 use Rattle.handin_lines.specs.Lines as lines-of

@@ -1,2 +1,5 @@
-pub mod Examples
 pub mod Laws
+pub mod Runs
+pub mod Printing
+pub mod Sizes
+pub mod Examples

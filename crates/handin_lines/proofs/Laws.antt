@@ -39,7 +39,7 @@ module _ (b : ℕ) where
   unfolding alphanumeric
   alphanumeric-none h = rw (lt-leb b 57 (omega arith), lt-leb b 90 (omega arith), lt-leb b 122 h, le-leb 48 b (omega arith), le-leb 65 b (omega arith), le-leb 97 b (omega arith))
 
-  digit-yes : 48 ≤ b → b ≤ 57 → digit b ≡ true
+  pub digit-yes : 48 ≤ b → b ≤ 57 → digit b ≡ true
   digit-yes h k = rw (le-leb 48 b h, le-leb b 57 k)
 
   digit-low : b < 48 → digit b ≡ false
