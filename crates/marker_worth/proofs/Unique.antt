@@ -1,7 +1,7 @@
 -- A HAND-IN HAS ONE MARK.
 use mathlib.Core.Path.{_≡_, refl, sym, ap, ap₂, _∙_}
 use mathlib.Core.List.{List, [], _∷_}
-use Prim.Native.Nat.{ℕ, zero, suc, _+_}
+use Prim.Native.Nat.{ℕ, zero, suc}
 use native.Mathlib.Omega.{arith}
 use Rattle.semantics.specs.Models.{Program, Question}
 use Rattle.semantics.specs.Runs.{Place, Session, start, after, Plays}
@@ -54,7 +54,7 @@ module _ (P : Program) (Q : Question) where
   one-worth (says-yes first run) (Breaks k l) (Other r) g h = absurd (h .1 (g .0))
   one-worth (says-yes first run) (Breaks k l) (Breaks j i) g h =
       let e = one-break (start []) run k j (g .1) (h .1) in
-      ap₂ {C = Mark} Breaks e (g .2 ∙ ap (λ (x : ℕ). first + x) e ∙ sym (h .2))
+      ap₂ {C = Mark} Breaks e (omega (arith, e, g .2, h .2))
   one-worth (says-yes first run) Right (Unreadable l) g h = absurd h
   one-worth (says-yes first run) Right (Refused n l) g h = absurd h
   one-worth (says-yes first run) (Other r) (Unreadable l) g h = absurd h

@@ -12,7 +12,7 @@ use Rattle.marker.proofs.mark_yes.Statement.{statement}
 use Rattle.marker.proofs.mark_yes.Tie as tie
 
 write-requires : tie.Need-write-requires
-write-requires c κs = let s = c .before .before .before .before .before in (s .pre .2, (s .args .first, s .pre .4 .0, s .pre .4 .1))
+write-requires c κs = search needs
 
 -- the table after the run is written: its first numbers are those of the places
 module _ (c : tie.After-write) where
