@@ -6,13 +6,13 @@
  * A buffer is passed as a pointer and its number of elements. Buffers must not overlap, and a pointer must not be null,
  * not even where the number of elements is 0.
  *
- * The calls eon_analyze, eon_replay, eon_place, eon_mark and eon_handin return kind * 2^32 + value:
+ * The calls eon_analyze, eon_replay, eon_why, eon_place, eon_mark and eon_handin return kind * 2^32 + value:
  *
  *   kind 0   unreached               value 0
  *   kind 1   reached                 value: the number n of places of the run shown
  *   kind 2   refused                 value: number * 65,536 + line
  *   kind 3   kept                    value 0; from eon_place the number of those who stood by
- *   kind 4   broken                  value: the place, from 0
+ *   kind 4   broken                  value: the place, from 0; from eon_why with the reason
  *   kind 5   unreadable hand-in      value: the hand-in's line; 0 for one over EON_HANDIN bytes
  *   kind 6   right                   value 0
  *   kind 7   the other verdict       value: 1 where the question is reached, 0 where it is unreached
@@ -77,6 +77,18 @@ uint64_t eon_analyze(const uint8_t *text, size_t bytes, uint8_t *work, size_t wo
  * stood is a table lent for writing. Each place before the one at which the run breaks, or all of them, gets the number of those who stood by; its
  * other places are left as they were, and all of them after a refusal. */
 uint64_t eon_replay(const uint8_t *text, size_t bytes, const uint32_t *run, size_t places, uint8_t *work, size_t work_bytes, uint32_t *stood, size_t numbers);
+
+/* Replays a run over a text as eon_replay does, and leaves the same in the buffers, but says besides why the run breaks: kind 2 or 3, or kind 4 with
+ * place * 65,536 + reason * 256 + literal:
+ *
+ *   reason 0  the run ends, and a stage is left        reason 5  another stage is the next one
+ *   reason 1  all stages were met before               reason 6  the stage has another number of variables
+ *   reason 2  no `new` or `next` line has this number  reason 7  a carried variable stands for another object
+ *   reason 3  a new object does not get this number    reason 8  a body does not hold: its literals are tried in order, first those without `not`,
+ *   reason 4  there is no such object                            and `literal`, from 0, is the first that no objects make true with those before it
+ *
+ * A number that stands for no place has one of these reasons too, and it says nothing. */
+uint64_t eon_why(const uint8_t *text, size_t bytes, const uint32_t *run, size_t places, uint8_t *work, size_t work_bytes, uint32_t *stood, size_t numbers);
 
 /* Puts one place to a replay state over a text: kind 2, 3 or 4. Kept is answered with the number of those who stood by, the one that eon_replay writes
  * at that place of a run. Broken is answered with the number of places kept so far, or with 0 where the state

@@ -24,7 +24,10 @@ use Rattle.display_shapes.specs.declared.Span.{Span}
 use Rattle.display_shapes.specs.Rows.{Shows}
 use Rattle.display.specs.declared.Declaration.{Declaration}
 use Rattle.display.specs.Shown.{relationAt, ShowsRelation}
+use Rattle.explain.specs.declared.Explanation.{Explanation}
+use Rattle.explain.specs.Explains.{Explained}
 use Rattle.codes.specs.Codes as codes
+use Rattle.reason_codes.specs.Codes.{explained}
 use Rattle.exports.specs.Codes.{refusal, coded, replied, put}
 use Rattle.exports.specs.Cells as cells
 use Rattle.exports.specs.Cells.{lastNumber, stateOf, cellsOf}
@@ -66,6 +69,12 @@ pub record Marked (text handin work run stood : List ℕ) (n : ℕ) (work′ run
   pub mark : Mark
   pub marks : Marks text handin work run stood mark work′ run′ stood′
   pub number : n ≡ codes.marked mark
+
+-- A RUN PUT TO A TEXT, and why it breaks, with the work area and the table of those who stood by after it
+pub record Reasoned (text run work table : List ℕ) (n : ℕ) (work′ table′ : List ℕ) : Type 0 where
+  pub explanation : Explanation
+  pub explains : Explained (runOutcome text run work table) run work table explanation work′ table′
+  pub number : n ≡ explained explanation
 
 -- A DECLARED RELATION of a text
 pub record Declared (text : List ℕ) (i n : ℕ) : Type 0 where

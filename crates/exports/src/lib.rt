@@ -19,7 +19,7 @@ ghost use Rattle.display.specs.Shown.{literalAt, variableAt};
 ghost use Rattle.effects.specs.Effects.{effectAt};
 ghost use Rattle.exports.specs.Codes.{refusal as refusalCode, coded as codeOf, replied as replyCode, put as placeCode};
 ghost use Rattle.exports.specs.Cells.{lastNumber, table as tableOf, stateOf, cellsOf};
-ghost use Rattle.exports.specs.Calls.{Analyzed, Replayed, Placed, written, Handed, Marked, Declared, Spanned};
+ghost use Rattle.exports.specs.Calls.{Analyzed, Replayed, Placed, written, Handed, Marked, Reasoned, Declared, Spanned};
 ghost use Rattle.exports.specs.Ranges.{ShortRun, LowPlace, LowNumber, Shown, Small};
 
 // The cells beside an answer of the analysis, of which the last has the shown run's last place.
@@ -239,6 +239,14 @@ pub extern "C" fn eon_mark(
     ensures { λ r. ⌜ Marked (now (text .entry)) (now (handin .entry)) (now (work .entry)) (now (run .entry)) (now (stood .entry)) r (now (work .exit)) (now (run .exit)) (now (stood .exit)) ⌝ }
 {
     codes::marked(marker::mark(text, handin, work, run, stood))
+}
+
+// Replays a run over a text, notes who stood by at each kept step, and says why it breaks.
+#[no_mangle]
+pub extern "C" fn eon_why(text: &[u8], run: &[u32], work: &mut [u8], table: &mut [u32]) -> u64
+    ensures { λ r. ⌜ Reasoned (now (text .entry)) (now (run .entry)) (now (work .entry)) (now (table .entry)) r (now (work .exit)) (now (table .exit)) ⌝ }
+{
+    reason_codes::explained(explain::explain(text, run, work, table))
 }
 
 // What a line of an accepted text makes of an object in a state.
