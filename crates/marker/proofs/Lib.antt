@@ -1,4 +1,3 @@
 pub mod Laws
-pub mod Numbers
 pub mod Said
 pub mod Unique

@@ -1,26 +1,27 @@
--- WHAT A HAND-IN SAYS, by the answer to it; and what a yes gives: a run that fits the table, and numbers that stand for its places.
+-- WHAT A HAND-IN SAYS, by the answer to it; and of a yes, on which line its run begins at the latest, and that the numbers of its places stand for them.
 use mathlib.Core.Path.{_≡_, refl, ap, ap₂}
 use mathlib.Core.Logic.{⊎-elim}
 use mathlib.Core.Bool.{Bool, true, false, cond}
 use mathlib.Core.List.{List, [], _∷_, _++_, map}
 use mathlib.Core.Option.{Option, none, some}
-use Prim.Native.Nat.{ℕ, suc, _+_, _≤_, _<_}
+use Prim.Native.Nat.{ℕ, suc, _+_, _≤_}
 use native.Mathlib.Omega.{arith}
 use lib.Dec.{eqb, ltb}
-use lib.ListN.{length, length-append}
-use borrow.Author.Tests.{ltb-true, ltb-false}
+use lib.ListN.{length}
+use borrow.Author.Tests.{ltb-false}
 use Rattle.limits.specs.Limits as limit
 use Rattle.semantics.specs.Runs.{Place}
 use Rattle.semantics.proofs.Tools.{either}
 use Rattle.grammar.specs.Bytes.{Line, ended, unended, inFront, lines}
-use Rattle.model.specs.Places.{numberOf, placeOf, Numerable}
+use Rattle.model.specs.Places.{numberOf}
 use Rattle.model.proofs.Places.{place-of-number}
+use Rattle.replay_session.specs.Replays.{Decodes}
 use Rattle.handin_lines.specs.Lines as line
 use Rattle.handin_lines.specs.Lines.{nothing, place, saidBy, verdict}
 use Rattle.handin.specs.declared.Handin.the-variants.{No, Yes, Unreadable}
 use Rattle.handin.specs.Handins.{Handin, says-no, says-yes, unreadable, content, onwards, follows, preface, readLines, reading}
 use Rattle.handin.specs.Answers.{told}
-use Rattle.marker.proofs.Numbers.{numerable}
+use Rattle.handin.proofs.Runs.{Numerables}
 
 -- BY THE ANSWER
 pub told-yes : (h : Handin) (first places : ℕ) → told h ≡ Yes first places → (ps : List Place) × (h ≡ says-yes first ps) × (places ≡ length ps)
@@ -51,70 +52,61 @@ few-lines : (s : List ℕ) → length (lines s) ≤ length s
 few-lines [] = omega arith
 few-lines (b ∷ s) = ⊎-elim (λ (q : eqb b 10 ≡ true). rw q (omega (arith, few-lines s))) (λ (q : eqb b 10 ≡ false). rw q (omega (arith, few-lines s, in-front-count b (lines s)))) (either (eqb b 10))
 
--- NUMBERS that stand for their places
-abbrev Stand : List Place → Type 0
-Stand ps = map placeOf (map numberOf ps) ≡ map some ps
-
-stand-more : (ps : List Place) (p : Place) → Stand ps → Numerable p → Stand (ps ++ p ∷ [])
-stand-more [] p h n = ap₂ {C = List (Option Place)} (λ (x : Option Place) (l : List (Option Place)). x ∷ l) (place-of-number p n) refl
-stand-more (q ∷ ps) p h n = ap₂ {C = List (Option Place)} (λ (x : Option Place) (l : List (Option Place)). x ∷ l) (cc) (stand-more ps p (cc) n)
-
--- A YES: its run begins on line n + k at the latest, fits the table, and has numbers
+-- A YES: its run begins on line n + k at the latest
 module _ (first : ℕ) (ps : List Place) where
-  abbrev Fits : ℕ → ℕ → Type 0
-  Fits n k = (first ≤ n + k) × (length ps ≤ limit.run) × Stand ps
-
-  one-place : (n : ℕ) (qs : List Place) (ls : List Line) (o : Option line.Said) → ((p : Place) → o ≡ some (place p) → Numerable p)
-      → ((p : Place) → Numerable p → length qs < limit.run → onwards n (qs ++ p ∷ []) ls ≡ says-yes first ps → Fits n 0)
+  one-place : (n : ℕ) (qs : List Place) (ls : List Line) (o : Option line.Said)
+      → ((p : Place) → onwards n (qs ++ p ∷ []) ls ≡ says-yes first ps → first ≡ n)
       → elim o [
         | none ↦ unreadable (n + length qs)
         | some nothing ↦ unreadable (n + length qs)
         | some (place p) ↦ cond (ltb (length qs) limit.run) (onwards n (qs ++ p ∷ []) ls) (unreadable (n + length qs))
       ] ≡ says-yes first ps
-      → Fits n 0
-  one-place n qs ls none h go e = no-yes (n + length qs) first ps e
-  one-place n qs ls (some nothing) h go e = no-yes (n + length qs) first ps e
-  one-place n qs ls (some (place p)) h go e =
-      ⊎-elim (λ (t : ltb (length qs) limit.run ≡ true). go p (h p refl) (ltb-true (length qs) limit.run t) (rw t at e))
+      → first ≡ n
+  one-place n qs ls none go e = no-yes (n + length qs) first ps e
+  one-place n qs ls (some nothing) go e = no-yes (n + length qs) first ps e
+  one-place n qs ls (some (place p)) go e =
+      ⊎-elim (λ (t : ltb (length qs) limit.run ≡ true). go p (rw t at e))
       (λ (t : ltb (length qs) limit.run ≡ false). no-yes (n + length qs) first ps (rw t at e)) (either (ltb (length qs) limit.run))
 
-  run-fits : (n : ℕ) (qs : List Place) (ls : List Line) → length qs ≤ limit.run → Stand qs → onwards n qs ls ≡ says-yes first ps → Fits n 0
+  run-first : (n : ℕ) (qs : List Place) (ls : List Line) → onwards n qs ls ≡ says-yes first ps → first ≡ n
   unfolding onwards
-  run-fits n qs [] few h e = let q : n ≡ first = cc in let r : qs ≡ ps = cc in (omega (arith, q), rw (← r) few, rw (← r) h)
-  run-fits n qs (l ∷ ls) few h e =
-      one-place n qs ls (saidBy (content l)) (numerable (content l)) (λ p k g. run-fits n (qs ++ p ∷ []) ls (omega (arith, length-append qs (p ∷ []))) (stand-more qs p h k)) e
+  run-first n qs [] e = cc
+  run-first n qs (l ∷ ls) e = one-place n qs ls (saidBy (content l)) (λ p. run-first n (qs ++ p ∷ []) ls) e
 
-  follows-fits : (reached : Bool) (n : ℕ) (ls : List Line) → follows reached n ls ≡ says-yes first ps → Fits n 0
+  follows-first : (reached : Bool) (n : ℕ) (ls : List Line) → follows reached n ls ≡ says-yes first ps → first ≡ n
   unfolding follows
-  follows-fits true n ls e = run-fits n [] ls (omega arith) refl e
-  follows-fits false n [] e = absurd (let z : _≡_ {A = ℕ} 0 1 = cc in omega arith)
-  follows-fits false n (l ∷ ls) e = no-yes n first ps e
+  follows-first true n ls e = run-first n [] ls e
+  follows-first false n [] e = absurd (let z : _≡_ {A = ℕ} 0 1 = cc in omega arith)
+  follows-first false n (l ∷ ls) e = no-yes n first ps e
 
-  one-line : (reached : Bool) (n : ℕ) (l : Line) (ls : List Line) (o : Option line.Said) → (preface reached (suc n) ls ≡ says-yes first ps → Fits (suc n) (length ls))
-      → elim o [ none ↦ follows reached n (l ∷ ls) | some nothing ↦ preface reached (suc n) ls | some (place p) ↦ follows reached n (l ∷ ls) ] ≡ says-yes first ps → Fits n (suc (length ls))
-  one-line reached n l ls none go e = let r = follows-fits reached n (l ∷ ls) e in (omega (arith, r .0), r .1, r .2)
-  one-line reached n l ls (some nothing) go e = let r = go e in (omega (arith, r .0), r .1, r .2)
-  one-line reached n l ls (some (place p)) go e = let r = follows-fits reached n (l ∷ ls) e in (omega (arith, r .0), r .1, r .2)
+  one-line : (reached : Bool) (n : ℕ) (l : Line) (ls : List Line) (o : Option line.Said) → (preface reached (suc n) ls ≡ says-yes first ps → first ≤ suc n + length ls)
+      → elim o [ none ↦ follows reached n (l ∷ ls) | some nothing ↦ preface reached (suc n) ls | some (place p) ↦ follows reached n (l ∷ ls) ] ≡ says-yes first ps → first ≤ n + suc (length ls)
+  one-line reached n l ls none go e = omega (arith, follows-first reached n (l ∷ ls) e)
+  one-line reached n l ls (some nothing) go e = omega (arith, go e)
+  one-line reached n l ls (some (place p)) go e = omega (arith, follows-first reached n (l ∷ ls) e)
 
-  preface-fits : (reached : Bool) (n : ℕ) (ls : List Line) → preface reached n ls ≡ says-yes first ps → Fits n (length ls)
+  preface-first : (reached : Bool) (n : ℕ) (ls : List Line) → preface reached n ls ≡ says-yes first ps → first ≤ n + length ls
   unfolding preface
-  preface-fits reached n [] e = follows-fits reached n [] e
-  preface-fits reached n (l ∷ ls) e = one-line reached n l ls (saidBy (content l)) (preface-fits reached (suc n) ls) e
+  preface-first reached n [] e = omega (arith, follows-first reached n [] e)
+  preface-first reached n (l ∷ ls) e = one-line reached n l ls (saidBy (content l)) (preface-first reached (suc n) ls) e
 
-  first-line : (ls : List Line) (o : Option Bool) → elim o [ none ↦ unreadable 1 | some reached ↦ preface reached 2 ls ] ≡ says-yes first ps → Fits 2 (length ls)
-  first-line ls none e = no-yes 1 first ps e
-  first-line ls (some reached) e = preface-fits reached 2 ls e
+  verdict-first : (ls : List Line) (o : Option Bool) → elim o [ none ↦ unreadable 1 | some reached ↦ preface reached 2 ls ] ≡ says-yes first ps → first ≤ 2 + length ls
+  verdict-first ls none e = no-yes 1 first ps e
+  verdict-first ls (some reached) e = preface-first reached 2 ls e
 
-  lines-fit : (ls : List Line) → readLines ls ≡ says-yes first ps → Fits 2 (length ls)
+  lines-first : (ls : List Line) → readLines ls ≡ says-yes first ps → first ≤ 2 + length ls
   unfolding readLines
-  lines-fit [] e = no-yes 1 first ps e
-  lines-fit (l ∷ ls) e = let r = first-line ls (verdict (content l)) e in (omega (arith, r .0), r .1, r .2)
+  lines-first [] e = no-yes 1 first ps e
+  lines-first (l ∷ ls) e = omega (arith, verdict-first ls (verdict (content l)) e)
 
-  pub yes-fits : (handin : List ℕ) → reading handin ≡ says-yes first ps → Fits 2 limit.handin
+  pub first-small : (handin : List ℕ) → reading handin ≡ says-yes first ps → first ≤ 2 + limit.handin
   unfolding reading
-  yes-fits handin e =
+  first-small handin e =
       ⊎-elim (λ (q : ltb limit.handin (length handin) ≡ true). no-yes 0 first ps (rw q at e))
-      (λ (q : ltb limit.handin (length handin) ≡ false).
-      let r = lines-fit (lines handin) (rw q at e) in
-      (omega (arith, r .0, few-lines handin, ltb-false limit.handin (length handin) q), r .1, r .2))
+      (λ (q : ltb limit.handin (length handin) ≡ false). omega (arith, lines-first (lines handin) (rw q at e), few-lines handin, ltb-false limit.handin (length handin) q))
       (either (ltb limit.handin (length handin)))
+
+-- THE NUMBERS of places that have one stand for them
+pub decodes : (ps : List Place) → Numerables ps → Decodes (map numberOf ps) ps
+decodes [] h = refl
+decodes (p ∷ ps) h = ap₂ {C = List (Option Place)} (λ (x : Option Place) (l : List (Option Place)). x ∷ l) (place-of-number p (h .0)) (decodes ps (h .1))

@@ -6,8 +6,9 @@ use denote.Ref.{now}
 use lib.ListN.{length, take, drop, length-append, length-map}
 use lib.Seq.{length-take-le, take-at}
 use Rattle.model.specs.Places.{numberOf}
+use Rattle.handin.proofs.Runs.{run-writable}
 use borrow.Author.Needs.{needs}
-use Rattle.marker.proofs.Said.{yes-fits}
+use Rattle.marker.proofs.Said.{first-small, decodes}
 use Rattle.marker.proofs.mark_yes.Statement.{statement}
 use Rattle.marker.proofs.mark_yes.Tie as tie
 
@@ -43,9 +44,10 @@ slice-aggregate-mark-run c = sym (long (c .before .before .before))
 mark-run-requires : tie.Need-mark-run-requires
 mark-run-requires c κs =
     let s = c .before .before .before .before .before .before .before .before .before .before .before in
-    let f = yes-fits (s .args .first) (s .pre .4 .0) (now (s .args .handin)) (s .pre .4 .1) in
+    let f = first-small (s .args .first) (s .pre .4 .0) (now (s .args .handin)) (s .pre .4 .1) in
+    let w = run-writable (now (s .args .handin)) (s .args .first) (s .pre .4 .0) (s .pre .4 .1) in
     let l = long (c .before .before .before .before .before) in
-    (s .pre .0, omega (arith, f .0, f .1, l, s .pre .4 .2), omega (arith, f .1, l, s .pre .4 .2), s .pre .1, s .pre .3)
+    (s .pre .0, omega (arith, f, w .0, l, s .pre .4 .2), omega (arith, w .0, l, s .pre .4 .2), s .pre .1, s .pre .3)
 
 same-length : tie.Need-same-length
 same-length c = search needs
@@ -59,10 +61,10 @@ same-length-3 c = search needs
 returns : tie.Need-returns
 returns c =
     let s = c .before .before .before .before .before .before .before .before .before .before .before .before .before .before .before .before in
-    let f = yes-fits (s .args .first) (s .pre .4 .0) (now (s .args .handin)) (s .pre .4 .1) in
+    let w = run-writable (now (s .args .handin)) (s .args .first) (s .pre .4 .0) (s .pre .4 .1) in
     let e = (c .before .before .before .before .mark-run .ensures) in
     let n = numbers (c .before .before .before .before .before .before .before .before .before .before) in
-    rw (s .pre .4 .1) (e .0 (s .pre .4 .0) (rw n (f .2)), (e .2, wrote (c .before .before .before .before .before .before .before .before .before .before), rw (← n) (e .1)))
+    rw (s .pre .4 .1) (e .0 (s .pre .4 .0) (rw n (decodes (s .pre .4 .0) (w .1))), (e .2, wrote (c .before .before .before .before .before .before .before .before .before .before), rw (← n) (e .1)))
 
 pub mark-yes-spec : {M : Type 1} → statement M
 mark-yes-spec =
