@@ -23,7 +23,7 @@ use Rattle.marker_worth.specs.declared.Mark.{Mark}
 use Rattle.marker_worth.specs.declared.Mark.the-variants.{Refused, Unreadable, Right, Other, Breaks}
 use Rattle.marker_worth.specs.Worth.{Worth}
 use Rattle.marker.specs.Marking.{Marked}
-use Rattle.marker.proofs.Said.{yes-fits}
+use Rattle.handin.proofs.Runs.{run-writable}
 use Rattle.display_shapes.specs.declared.Span.{Span}
 use Rattle.display_shapes.specs.Rows.{pick, Shows}
 use Rattle.display.specs.declared.Declaration.{Declaration}
@@ -33,7 +33,7 @@ use Rattle.codes.specs.Ranges.{ShortRun, LowPlace}
 -- WHAT A HAND-IN SAYS
 pub said-fits : (handin : List ℕ) (h : Handin) → reading handin ≡ h → ShortRun (told h)
 said-fits handin says-no e = tt
-said-fits handin (says-yes first ps) e = yes-fits first ps handin e .1
+said-fits handin (says-yes first ps) e = run-writable handin first ps e .0
 said-fits handin (unreadable at) e = tt
 
 -- THE MARK
@@ -52,7 +52,7 @@ worth-fits P Q (says-yes first ps) (Other reached) f w = tt
 
 pub mark-fits : (o : Outcome) (handin work run stood : List ℕ) (m : Mark) (work′ run′ stood′ : List ℕ) → Marked o (reading handin) work run stood m work′ run′ stood′ → LowPlace m
 mark-fits (refused n l) handin work run stood m work′ run′ stood′ h = rw (h .0) tt
-mark-fits (accepted D P Q) handin work run stood m work′ run′ stood′ h = worth-fits P Q (reading handin) m (λ first ps e. yes-fits first ps handin e .1) (h .0)
+mark-fits (accepted D P Q) handin work run stood m work′ run′ stood′ h = worth-fits P Q (reading handin) m (λ first ps e. run-writable handin first ps e .0) (h .0)
 
 -- A DECLARED RELATION stands in an accepted text
 text-size : (text : List ℕ) (D : Declared) (P : Program) (Q : Question) → outcome text ≡ accepted D P Q → length text ≤ limit.text

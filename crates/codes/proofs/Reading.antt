@@ -20,7 +20,7 @@ use Rattle.acceptance.specs.Sound.{codeAt}
 use Rattle.acceptance.proofs.Acceptance.{accepted-sound}
 use Rattle.handin_lines.specs.Lines.{verdict, Said, nothing, place, statesRest, atomicRest, stepRest, meetRest, line, saidBy}
 use Rattle.handin.specs.Handins.{says-yes, unreadable, content, onwards, follows, preface, readLines, reading}
-use Rattle.marker.proofs.Said.{yes-fits}
+use Rattle.handin.proofs.Runs.{run-writable}
 use Rattle.display_shapes.specs.declared.Span.{Span}
 use Rattle.display_shapes.specs.Rows.{pick}
 use Rattle.display.specs.declared.Declaration.{Declaration}
@@ -130,10 +130,10 @@ module _ (first : ℕ) (ps : List Place) where
   -- THE VALUES: a place, or the number of places, and a line are read off
   module _ (handin : List ℕ) (e : reading handin ≡ says-yes first ps) where
     pub yes-read : (length ps * 65536 + first < 4294967296) × ((length ps * 65536 + first) / 65536 ≡ length ps) × ((length ps * 65536 + first) % 65536 ≡ first)
-    yes-read = let f = first-small handin e in let n = yes-fits first ps handin e .1 in (omega arith, omega arith, omega arith)
+    yes-read = let f = first-small handin e in let n = run-writable handin first ps e .0 in (omega arith, omega arith, omega arith)
 
     pub breaks-read : (k : ℕ) → k ≤ length ps → (k * 65536 + (first + k) < 4294967296) × ((k * 65536 + (first + k)) / 65536 ≡ k) × ((k * 65536 + (first + k)) % 65536 ≡ first + k)
-    breaks-read k h = let f = first-small handin e in let n = yes-fits first ps handin e .1 in (omega arith, omega arith, omega arith)
+    breaks-read k h = let f = first-small handin e in let n = run-writable handin first ps e .0 in (omega arith, omega arith, omega arith)
 
 -- A PART OF A LINE
 pub span-read : (s : Span) → s .from ≤ limit.text → s .to ≤ limit.text → (spanned s / 4294967296 ≡ s .from) × (spanned s % 4294967296 ≡ s .to)

@@ -2,11 +2,12 @@
 use explain::Explanation;
 use reasons::Reason;
 ghost use mathlib.Core.Path.{_≡_};
+ghost use Prim.Native.Nat.{_<_};
 ghost use Rattle.reason_codes.specs.Codes.{reasoned as reasonCode, explained as explanationCode};
 
 // The number of a reason, and the place of the literal that is to blame.
 fn reasoned(reason: Reason) -> u64
-    ensures { λ r. ⌜ r ≡ reasonCode reason ⌝ }
+    ensures { λ r. ⌜ (r ≡ reasonCode reason) × (r < 4096) ⌝ }
 {
     match reason {
         Reason::Ends => 0,
