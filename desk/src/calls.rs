@@ -43,7 +43,7 @@ pub enum Mark {
     Unreadable { line: usize },
     Right,
     Other { reached: bool },
-    Breaks { place: usize, line: usize },
+    Breaks,
 }
 
 /// What a hand-in says.
@@ -152,10 +152,7 @@ pub fn mark(text: &[u8], handin: &[u8]) -> Mark {
         5 => Mark::Unreadable { line: value as usize },
         6 => Mark::Right,
         7 => Mark::Other { reached: value == 1 },
-        8 => Mark::Breaks {
-            place: (value >> 16) as usize,
-            line: (value & 65_535) as usize,
-        },
+        8 => Mark::Breaks,
         _ => foreign(code),
     }
 }

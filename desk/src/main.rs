@@ -153,8 +153,9 @@ fn mark(model_name: &str, handin_name: &str) -> ! {
             let said = "wrong: the hand-in says yes, but the question is unreached: no run meets its stages in order, however long it is.\n";
             end(&format!("{said}{}", break_of(&text, handin_name, &handin)), WRONG)
         }
-        Mark::Breaks { .. } => {
-            let said = "wrong: yes is the right answer, but the run does not show it.\n";
+        Mark::Breaks => {
+            let said = "wrong: yes is the right answer, but the run does not show it.
+";
             end(&format!("{said}{}", break_of(&text, handin_name, &handin)), WRONG)
         }
     }

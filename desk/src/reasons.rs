@@ -27,6 +27,21 @@ fn variables(line: &[u8], stage: usize) -> Vec<String> {
     (0..3).map_while(|j| calls::variable(line, stage, j)).map(readable).collect()
 }
 
+/// A literal of a line that no objects make true; literals are tried from left to right, those with `not` last.
+fn blamed(line: &[u8], object: usize, literal: &str) -> String {
+    let own = if line.starts_with(b"(next ") {
+        calls::variable(line, 0, 0).map_or(String::new(), |x| format!("with object {object} for {}, ", readable(x)))
+    } else {
+        String::new()
+    };
+    let others = if literal.starts_with("(not ") {
+        "all literals without `not` and those with it before this one"
+    } else {
+        "the literals without `not` before it"
+    };
+    format!("Its literals have to hold of some objects, and {own}none make {literal} true together with {others}.")
+}
+
 /// What a place would do, and why it is not allowed there.
 pub fn why(model: &Model, number: u32, reason: Reason, states: &[u32], met: usize) -> String {
     let (heading, line, part) = match story::place(number) {
@@ -68,7 +83,10 @@ pub fn why(model: &Model, number: u32, reason: Reason, states: &[u32], met: usiz
         Reason::Carried => "A variable that stands in two stages is one object in both, and an earlier meeting has another.".to_string(),
         Reason::Literal(k) => {
             let literal = calls::literal(model.line(line), part, k).map(readable).unwrap_or_default();
-            format!("No objects make the literal {literal} true together with those tried before it (first those without `not`, from left to right, then the others).")
+            match story::place(number) {
+                Place::Meeting { .. } => format!("The literal {literal} does not hold of these objects."),
+                Place::Step { object, .. } => blamed(model.line(line), object, &literal),
+            }
         }
     };
     format!("{heading}\n  {shown}\nThis is not allowed there. {because}\n")

@@ -108,7 +108,7 @@ fn rows(model: &Model, events: &[Event], first: usize, all: bool) -> Vec<Row> {
     }
     let helper = |e: &Event| matches!(e, Event::Step(s) if !actors.contains(&s.object));
     let mut states: Vec<u32> = Vec::new();
-    let mut take = |s: &Step, states: &mut Vec<u32>| if s.creates { states.push(s.after) } else { states[s.object] = s.after };
+    let take = |s: &Step, states: &mut Vec<u32>| if s.creates { states.push(s.after) } else { states[s.object] = s.after };
     let mut rows = Vec::new();
     let mut i = 0;
     while i < events.len() {

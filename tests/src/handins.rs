@@ -272,11 +272,12 @@ fn line_shown(report: &mut Report, l: &[u8]) {
     let about = |what: &str| format!("{what} of {}", String::from_utf8_lossy(l));
     let parts = parts(l);
     for stage in 0..6 {
-        let (mut variables, literals): (Vec<String>, Vec<Literal>) =
+        let (head, literals): (Vec<String>, Vec<Literal>) =
             parts.iter().find(|p| p.0 == stage).map_or((Vec::new(), Vec::new()), |p| (p.1.clone(), p.2.clone()));
-        for v in literals.iter().flat_map(|l| &l.variables) {
-            if !variables.contains(v) {
-                variables.push(v.clone());
+        let mut variables: Vec<&String> = Vec::new();
+        for v in head.iter().chain(literals.iter().flat_map(|l| &l.variables)) {
+            if !variables.contains(&v) {
+                variables.push(v);
             }
         }
         for k in 0..=literals.len() {
@@ -290,6 +291,24 @@ fn line_shown(report: &mut Report, l: &[u8]) {
             report.check(from <= to && to <= l.len() && l[from..to] == *wanted.as_bytes(), || about(&format!("variable {j} of stage {stage}")));
         }
     }
+}
+
+/// The run with another object of the same state in its last meeting, for each that there is.
+fn exchanged(m: &Model, run: &[u32]) -> Vec<Vec<u32>> {
+    let sessions = play(m, run).sessions;
+    let Some(Place::Meeting(stage, os)) = run.last().and_then(|n| Place::decode(*n)) else { return Vec::new() };
+    let db = &sessions[run.len() - 1].db;
+    let mut all = Vec::new();
+    for i in (0..3).filter(|i| os[*i] != 255) {
+        for other in (0..db.len()).filter(|o| *o != os[i] && db[*o] == db[os[i]]) {
+            let mut objects = os;
+            objects[i] = other;
+            let mut changed = run.to_vec();
+            *changed.last_mut().unwrap() = Place::Meeting(stage, objects).encode();
+            all.push(changed);
+        }
+    }
+    all
 }
 
 /// One seeded model and its hand-ins.
@@ -313,6 +332,11 @@ fn seeded(report: &mut Report, r: &mut Random) {
             marked(report, &subject, reached, listing(r, 3, Some(&broken)).as_bytes());
         }
     }
+    if let (Ok(m), Some(run)) = (&subject.read, run) {
+        for changed in exchanged(m, run).iter().take(3) {
+            marked(report, &subject, reached, listing(r, 3, Some(changed)).as_bytes());
+        }
+    }
     let bad = Subject::new(&damage::text(r, &text));
     if bad.read.is_err() {
         marked(report, &bad, false, right.as_bytes());
@@ -330,7 +354,8 @@ fn limits(report: &mut Report) {
         (places(RUN), Said::Yes(2, vec![4 * 256; RUN])),
         (places(RUN + 1), Said::Unreadable(RUN + 2)),
         ("yes\n".to_string() + &"(atomic)\n".repeat(29_126), Said::Yes(29_128, vec![])),
-        ("no\n".to_string() + &"(atomic a)\n".repeat(23_831), Said::Unreadable(0)),
+        ("no\n".to_string() + &"(atomic a)\n".repeat(23_831), Said::No),
+        ("no\n".to_string() + &"(atomic a)\n".repeat(23_832), Said::Unreadable(0)),
         (String::new(), Said::Unreadable(1)),
     ] {
         let plain = said(report, bytes.as_bytes());
