@@ -98,7 +98,7 @@ fn fold(model: &Model, steps: &[&Step], states: &[u32]) -> String {
     format!("{what}: {}", made(model, &objects, states))
 }
 
-/// The rows of a run; steps of objects that meet no stage are helpers' steps, and folded where many follow one another.
+/// The rows of a run; steps of objects that meet no stage are helpers' steps, and folded where many follow one another. Where no stage names an object, nothing is folded.
 fn rows(model: &Model, events: &[Event], first: usize, all: bool) -> Vec<Row> {
     let mut actors = BTreeSet::new();
     for e in events {
@@ -113,7 +113,7 @@ fn rows(model: &Model, events: &[Event], first: usize, all: bool) -> Vec<Row> {
     let mut i = 0;
     while i < events.len() {
         let end = i + events[i..].iter().take_while(|e| helper(e)).count();
-        if !all && end - i >= FOLDED {
+        if !all && !actors.is_empty() && end - i >= FOLDED {
             let steps: Vec<&Step> = events[i..end]
                 .iter()
                 .filter_map(|e| if let Event::Step(s) = e { Some(s) } else { None })
