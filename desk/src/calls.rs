@@ -1,26 +1,6 @@
 //! The proved calls (include/eon.h), with buffers of the sizes that they need.
 
-extern "C" {
-    fn eon_analyze(text: *const u8, bytes: usize, work: *mut u8, area: usize, run: *mut u32, places: usize, out: *mut [u32; OUT]) -> u64;
-    fn eon_mark(
-        text: *const u8,
-        bytes: usize,
-        handin: *const u8,
-        length: usize,
-        work: *mut u8,
-        area: usize,
-        run: *mut u32,
-        places: usize,
-        stood: *mut u32,
-        numbers: usize,
-    ) -> u64;
-    fn eon_handin(handin: *const u8, length: usize, run: *mut u32, places: usize) -> u64;
-    fn eon_why(text: *const u8, bytes: usize, run: *const u32, places: usize, work: *mut u8, area: usize, stood: *mut u32, numbers: usize) -> u64;
-    fn eon_effect(text: *const u8, bytes: usize, line: u32, state: u32) -> u64;
-    fn eon_relation(text: *const u8, bytes: usize, i: usize) -> u64;
-    fn eon_literal(line: *const u8, bytes: usize, stage: usize, k: usize) -> u64;
-    fn eon_variable(line: *const u8, bytes: usize, stage: usize, j: usize) -> u64;
-}
+include!("../../include/eon.rs");
 
 /// The most bytes of a model and of a hand-in that are read: one more than is taken, so that a longer file is refused for its length.
 pub const MODEL: usize = 16_385;
@@ -115,7 +95,7 @@ fn foreign(code: u64) -> ! {
 /// Analyzes a model.
 pub fn analyze(text: &[u8]) -> Result<Analysis, Refusal> {
     let (mut work, mut run, mut out) = (vec![0; WORK], vec![0; RUN], [0; OUT]);
-    let code = unsafe { eon_analyze(text.as_ptr(), text.len(), work.as_mut_ptr(), WORK, run.as_mut_ptr(), RUN, &mut out) };
+    let code = unsafe { eon_analyze(text.as_ptr(), text.len(), work.as_mut_ptr(), WORK, run.as_mut_ptr(), RUN, out.as_mut_ptr()) };
     let value = code as u32;
     let states = out[1..=out[0] as usize].to_vec();
     match code >> 32 {

@@ -1,29 +1,6 @@
 //! The product's calls, with buffers that are filled with a pattern before and looked at whole after.
 
-extern "C" {
-    fn eon_analyze(text: *const u8, bytes: usize, work: *mut u8, area: usize, run: *mut u32, places: usize, out: *mut [u32; OUT]) -> u64;
-    fn eon_replay(text: *const u8, bytes: usize, run: *const u32, places: usize, work: *mut u8, area: usize, table: *mut u32, numbers: usize) -> u64;
-    fn eon_line(text: *const u8, bytes: usize, i: usize) -> u64;
-    fn eon_handin(handin: *const u8, length: usize, run: *mut u32, places: usize) -> u64;
-    fn eon_mark(
-        text: *const u8,
-        bytes: usize,
-        handin: *const u8,
-        length: usize,
-        work: *mut u8,
-        area: usize,
-        run: *mut u32,
-        places: usize,
-        stood: *mut u32,
-        numbers: usize,
-    ) -> u64;
-    fn eon_why(text: *const u8, bytes: usize, run: *const u32, places: usize, work: *mut u8, area: usize, stood: *mut u32, numbers: usize) -> u64;
-    fn eon_effect(text: *const u8, bytes: usize, line: u32, state: u32) -> u64;
-    fn eon_relation(text: *const u8, bytes: usize, i: usize) -> u64;
-    fn eon_literal(line: *const u8, bytes: usize, stage: usize, k: usize) -> u64;
-    fn eon_variable(line: *const u8, bytes: usize, stage: usize, j: usize) -> u64;
-    fn eon_place(text: *const u8, bytes: usize, session: *mut Lent, place: u32, work: *mut u8, area: usize) -> u64;
-}
+include!("../../include/eon.rs");
 
 /// The work bytes that a call needs, and uses.
 pub const WORK: usize = 32_768;
@@ -117,7 +94,7 @@ pub fn analyze(text: &[u8], work: usize, places: usize) -> Analysis {
     let mut area = Area::new(work);
     let mut table: Vec<u32> = (0..places + BEHIND).map(run_pattern).collect();
     let mut out = [0xDEAD_BEEFu32; OUT];
-    let code = unsafe { eon_analyze(text.as_ptr(), text.len(), area.pointer(), work, table.as_mut_ptr(), places, &mut out) };
+    let code = unsafe { eon_analyze(text.as_ptr(), text.len(), area.pointer(), work, table.as_mut_ptr(), places, out.as_mut_ptr()) };
     let answer = Answer::decode(code);
     let written = if let Answer::Reached(n) = answer { n.min(places) } else { 0 };
     let count = (out[0] as usize).min(LISTED);
@@ -178,7 +155,7 @@ pub struct Put {
 /// Puts one place to a lent state, which is updated.
 pub fn place(text: &[u8], lent: &mut Lent, place: u32, work: usize) -> Put {
     let mut area = Area::new(work);
-    let code = unsafe { eon_place(text.as_ptr(), text.len(), lent, place, area.pointer(), work) };
+    let code = unsafe { eon_place(text.as_ptr(), text.len(), lent.as_mut_ptr(), place, area.pointer(), work) };
     let kept = code >> 32 == 3;
     let answer = if kept { Answer::Kept } else { Answer::decode(code) };
     Put { answer, stood: kept.then_some(code as u32), area: area.is_right(&answer) }
