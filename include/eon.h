@@ -1,17 +1,26 @@
-/* Tumreslo's calls for C: the analysis of an EON text, the replay of a run, the replay one place at a time, and the accepted lines.
+/* Tumreslo's calls for C: the analysis of an EON text, the replay of a run, the replay one place at a time, the accepted lines, the mark of a hand-in,
+ * and what is declared and stands on a line, for display.
  *
  * The library is written by `rt staticlib exports` as target/staticlib/libexports.a.
  *
  * A buffer is passed as a pointer and its number of elements. Buffers must not overlap, and a pointer must not be null,
  * not even where the number of elements is 0.
  *
- * Each call but the last returns kind * 2^32 + value:
+ * The calls eon_analyze, eon_replay, eon_why, eon_place, eon_mark and eon_handin return kind * 2^32 + value:
  *
- *   kind 0  unreached                value 0
- *   kind 1  reached                  value: the number n of places of the run shown
- *   kind 2  refused                  value: number * 65,536 + line
- *   kind 3  kept                     value 0; from eon_place the number of those who stood by
- *   kind 4  broken                   value: the place, from 0
+ *   kind 0   unreached               value 0
+ *   kind 1   reached                 value: the number n of places of the run shown
+ *   kind 2   refused                 value: number * 65,536 + line
+ *   kind 3   kept                    value 0; from eon_place the number of those who stood by
+ *   kind 4   broken                  value: the place, from 0; from eon_why with the reason
+ *   kind 5   unreadable hand-in      value: the hand-in's line; 0 for one over EON_HANDIN bytes
+ *   kind 6   right                   value 0
+ *   kind 7   the other verdict       value: 1 where the question is reached, 0 where it is unreached
+ *   kind 8   breaks                  value: place * 65,536 + line: the place, from 0, and the hand-in's line of it; the line behind the last
+ *                                    where the run ends too soon
+ *   kind 9   the hand-in says no     value 0
+ *   kind 10  the hand-in says yes    value: places * 65,536 + first: the places of its run, and the hand-in's line of the first; the line behind
+ *                                    the last where there are none
  *
  * Numbers of refusals: 1 no bytes, or over 16,384; 2 a bad byte, or a last line without byte 10; 3 a line that has no shape;
  * 4 one declaration or clause too many; 5 a name declared again; 6 a name undeclared or of the wrong kind; 7 a wrong number of variables;
@@ -20,8 +29,8 @@
  * under EON_RUN places; 14 a run over EON_RUN places, or a state that has kept EON_RUN.
  * The first line is 1; the line is 0 for numbers 1, 12 and 14.
  *
- * After a refusal the lent buffers are as they were, but for `out`. After every other answer the first EON_WORK bytes of the work area are zero,
- * and the rest is as it was.
+ * After a refusal the lent buffers are as they were, but for `out`, and so they are after an unreadable hand-in. After every other answer the first
+ * EON_WORK bytes of the work area are zero, and the rest is as it was.
  *
  * A call needs under 192 KB of stack, and no memory but the stack and what is lent.
  *
@@ -50,6 +59,9 @@ extern "C" {
 #define EON_OUT 130
 #define EON_SESSION 259
 
+/* The bytes that a hand-in has at most. */
+#define EON_HANDIN 262144
+
 /* Analyzes a text: kind 0, 1 or 2.
  *
  * out has EON_OUT cells, and all of them are written. out[0] is the number of reachable atomic states; out[1] and so on are these states by rising
@@ -66,6 +78,18 @@ uint64_t eon_analyze(const uint8_t *text, size_t bytes, uint8_t *work, size_t wo
  * other places are left as they were, and all of them after a refusal. */
 uint64_t eon_replay(const uint8_t *text, size_t bytes, const uint32_t *run, size_t places, uint8_t *work, size_t work_bytes, uint32_t *stood, size_t numbers);
 
+/* Replays a run over a text as eon_replay does, and leaves the same in the buffers, but says besides why the run breaks: kind 2 or 3, or kind 4 with
+ * place * 65,536 + reason * 256 + literal:
+ *
+ *   reason 0  the run ends, and a stage is left        reason 5  another stage is the next one
+ *   reason 1  all stages were met before               reason 6  the stage has another number of variables
+ *   reason 2  no `new` or `next` line has this number  reason 7  a carried variable stands for another object
+ *   reason 3  a new object does not get this number    reason 8  a body does not hold: its literals are tried in order, first those without `not`,
+ *   reason 4  there is no such object                            and `literal`, from 0, is the first that no objects make true with those before it
+ *
+ * A number that stands for no place has one of these reasons too, and it says nothing. */
+uint64_t eon_why(const uint8_t *text, size_t bytes, const uint32_t *run, size_t places, uint8_t *work, size_t work_bytes, uint32_t *stood, size_t numbers);
+
 /* Puts one place to a replay state over a text: kind 2, 3 or 4. Kept is answered with the number of those who stood by, the one that eon_replay writes
  * at that place of a run. Broken is answered with the number of places kept so far, or with 0 where the state
  * does not fit the text.
@@ -78,6 +102,35 @@ uint64_t eon_place(const uint8_t *text, size_t bytes, uint32_t *session, uint32_
 /* Clause i of an accepted text, from 0: its line * 4, and 1 for a rule, 2 for a `new` line, 3 for a `next` line. 0 where the text has no such clause,
  * or is refused. */
 uint64_t eon_line(const uint8_t *text, size_t bytes, size_t i);
+
+/* Reads a hand-in: kind 5, 9 or 10; kind 2 with number 12 and line 0 where the run table has under EON_RUN places.
+ *
+ * run is written only for kind 10, and only its first places: the numbers of the hand-in's run. */
+uint64_t eon_handin(const uint8_t *handin, size_t length, uint32_t *run, size_t places);
+
+/* Marks a hand-in to a text: kind 2, 5, 6, 7 or 8. A refusal of the text comes before what the hand-in says. A hand-in that says no is right exactly
+ * if the question is unreached, and one that says yes exactly if its run is kept; a run that breaks is of kind 8 if the question is reached, else of
+ * kind 7.
+ *
+ * run and stood are tables lent for writing. Where the text is accepted and the hand-in says yes, run gets the numbers of its run, as from eon_handin,
+ * and stood the numbers of those who stood by, as from eon_replay. Otherwise both are left as they were, and so are all other places of them. */
+uint64_t eon_mark(const uint8_t *text, size_t bytes, const uint8_t *handin, size_t length, uint8_t *work, size_t work_bytes, uint32_t *run, size_t places, uint32_t *stood, size_t numbers);
+
+/* What a line of an accepted text makes of an object in an atomic state: 2 * 2^32 + the state of the object that a `new` line creates, 3 * 2^32 + the
+ * state that a `next` line gives to an object in `state`. 0 where the line is neither, or the text is refused. */
+uint64_t eon_effect(const uint8_t *text, size_t bytes, uint32_t line, uint32_t state);
+
+/* Declared relation i of an accepted text, from 0: from * 2^32 + size * 65,536 + code, where its name is the `size` bytes of the text from byte `from`
+ * on. The code of the a-th state relation, from 0, is a; that of the k-th derived relation with n variables, from 0, is 32 * (n + 1) + k. 0 where the
+ * text has no such relation, or is refused. */
+uint64_t eon_relation(const uint8_t *text, size_t bytes, size_t i);
+
+/* Literal k, from 0, of a `rule`, `new` or `next` line, which is stage 0, or of a stage of an `ask` line, from 1: from * 2^32 + to, where it is the
+ * bytes of the line from byte `from` to before byte `to`. 0 where there is none. The line is without its byte 10; one over 16,384 bytes has none. */
+uint64_t eon_literal(const uint8_t *line, size_t bytes, size_t stage, size_t k);
+
+/* The name of variable j, from 0, of such a line or stage, in order of first appearance, those of a head first: the same number. */
+uint64_t eon_variable(const uint8_t *line, size_t bytes, size_t stage, size_t j);
 
 #ifdef __cplusplus
 }

@@ -1,20 +1,6 @@
 //! The product's calls, with buffers that are filled with a pattern before and looked at whole after.
 
-extern "C" {
-    fn eon_analyze(text: *const u8, bytes: usize, work: *mut u8, area: usize, run: *mut u32, places: usize, out: *mut [u32; OUT]) -> u64;
-    fn eon_replay(
-        text: *const u8,
-        bytes: usize,
-        run: *const u32,
-        places: usize,
-        work: *mut u8,
-        area: usize,
-        table: *mut u32,
-        numbers: usize,
-    ) -> u64;
-    fn eon_line(text: *const u8, bytes: usize, i: usize) -> u64;
-    fn eon_place(text: *const u8, bytes: usize, session: *mut Lent, place: u32, work: *mut u8, area: usize) -> u64;
-}
+include!("../../include/eon.rs");
 
 /// The work bytes that a call needs, and uses.
 pub const WORK: usize = 32_768;
@@ -108,7 +94,7 @@ pub fn analyze(text: &[u8], work: usize, places: usize) -> Analysis {
     let mut area = Area::new(work);
     let mut table: Vec<u32> = (0..places + BEHIND).map(run_pattern).collect();
     let mut out = [0xDEAD_BEEFu32; OUT];
-    let code = unsafe { eon_analyze(text.as_ptr(), text.len(), area.pointer(), work, table.as_mut_ptr(), places, &mut out) };
+    let code = unsafe { eon_analyze(text.as_ptr(), text.len(), area.pointer(), work, table.as_mut_ptr(), places, out.as_mut_ptr()) };
     let answer = Answer::decode(code);
     let written = if let Answer::Reached(n) = answer { n.min(places) } else { 0 };
     let count = (out[0] as usize).min(LISTED);
@@ -169,7 +155,7 @@ pub struct Put {
 /// Puts one place to a lent state, which is updated.
 pub fn place(text: &[u8], lent: &mut Lent, place: u32, work: usize) -> Put {
     let mut area = Area::new(work);
-    let code = unsafe { eon_place(text.as_ptr(), text.len(), lent, place, area.pointer(), work) };
+    let code = unsafe { eon_place(text.as_ptr(), text.len(), lent.as_mut_ptr(), place, area.pointer(), work) };
     let kept = code >> 32 == 3;
     let answer = if kept { Answer::Kept } else { Answer::decode(code) };
     Put { answer, stood: kept.then_some(code as u32), area: area.is_right(&answer) }
@@ -178,4 +164,85 @@ pub fn place(text: &[u8], lent: &mut Lent, place: u32, work: usize) -> Put {
 /// The line of clause i and its kind, as one number.
 pub fn line(text: &[u8], i: usize) -> u64 {
     unsafe { eon_line(text.as_ptr(), text.len(), i) }
+}
+
+/// What the reading of a hand-in left.
+pub struct Handin {
+    pub code: u64,
+    table: Vec<u32>,
+}
+
+impl Handin {
+    /// Whether the table has these places first, and is untouched behind them.
+    pub fn has(&self, places: &[u32]) -> bool {
+        self.table.starts_with(places) && (places.len()..self.table.len()).all(|i| self.table[i] == run_pattern(i))
+    }
+}
+
+/// Reads a hand-in with a table of this size.
+pub fn handin(bytes: &[u8], places: usize) -> Handin {
+    let mut table: Vec<u32> = (0..places + BEHIND).map(run_pattern).collect();
+    let code = unsafe { eon_handin(bytes.as_ptr(), bytes.len(), table.as_mut_ptr(), places) };
+    Handin { code, table }
+}
+
+/// What a mark left.
+pub struct Mark {
+    pub code: u64,
+    /// Whether the work area is untouched, and whether it is wiped.
+    pub untouched: bool,
+    pub wiped: bool,
+    run: Vec<u32>,
+    stood: Vec<u32>,
+}
+
+impl Mark {
+    /// Whether the tables have these places and numbers first, and are untouched behind them.
+    pub fn has(&self, places: &[u32], numbers: &[u32]) -> bool {
+        let table = |t: &[u32], first: &[u32]| t.starts_with(first) && (first.len()..t.len()).all(|i| t[i] == run_pattern(i));
+        table(&self.run, places) && table(&self.stood, numbers)
+    }
+}
+
+/// Marks a hand-in with buffers of these sizes.
+pub fn mark(text: &[u8], handin: &[u8], work: usize, places: usize, numbers: usize) -> Mark {
+    let mut area = Area::new(work);
+    let table = |n: usize| (0..n + BEHIND).map(run_pattern).collect::<Vec<u32>>();
+    let (mut run, mut stood) = (table(places), table(numbers));
+    let code = unsafe {
+        eon_mark(text.as_ptr(), text.len(), handin.as_ptr(), handin.len(), area.pointer(), work, run.as_mut_ptr(), places, stood.as_mut_ptr(), numbers)
+    };
+    Mark { code, untouched: area.is_right(&Answer::Refused(0, 0)), wiped: area.is_right(&Answer::Kept), run, stood }
+}
+
+/// Replays a run and says why it breaks, with a work area and a table of these sizes: the number of the answer, beside what a replay leaves.
+pub fn why(text: &[u8], run: &[u32], work: usize, numbers: usize) -> (u64, Replay) {
+    let mut area = Area::new(work);
+    let mut table: Vec<u32> = (0..numbers + BEHIND).map(run_pattern).collect();
+    let code = unsafe { eon_why(text.as_ptr(), text.len(), run.as_ptr(), run.len(), area.pointer(), work, table.as_mut_ptr(), numbers) };
+    let answer = if code >> 32 == 2 { Answer::decode(code) } else { Answer::Kept };
+    (code, Replay { answer, area: area.is_right(&answer), table })
+}
+
+/// What a line makes of an object in a state.
+pub fn effect(text: &[u8], line: u32, state: u32) -> u64 {
+    unsafe { eon_effect(text.as_ptr(), text.len(), line, state) }
+}
+
+/// Declared relation i: where its name begins, its length and its code.
+pub fn relation(text: &[u8], i: usize) -> (usize, usize, u32) {
+    let code = unsafe { eon_relation(text.as_ptr(), text.len(), i) };
+    ((code >> 32) as usize, (code >> 16 & 65_535) as usize, (code & 65_535) as u32)
+}
+
+/// Where literal k of a line, or of a stage of it, begins and ends.
+pub fn literal(line: &[u8], stage: usize, k: usize) -> (usize, usize) {
+    let code = unsafe { eon_literal(line.as_ptr(), line.len(), stage, k) };
+    ((code >> 32) as usize, code as u32 as usize)
+}
+
+/// Where the name of variable j of a line, or of a stage of it, begins and ends.
+pub fn variable(line: &[u8], stage: usize, j: usize) -> (usize, usize) {
+    let code = unsafe { eon_variable(line.as_ptr(), line.len(), stage, j) };
+    ((code >> 32) as usize, code as u32 as usize)
 }

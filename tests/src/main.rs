@@ -6,6 +6,7 @@ mod cases;
 mod damage;
 mod guess;
 mod guided;
+mod handins;
 mod lent;
 mod longest;
 mod meaning;
@@ -57,6 +58,7 @@ fn main() {
     standing::all(&mut report);
     longest::run(&mut report);
     salad::texts(&mut report);
+    handins::all(&mut report);
     lent::all(&mut report);
     buffers::all(&mut report);
     seeded::models(&mut report);

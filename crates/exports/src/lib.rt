@@ -1,7 +1,10 @@
 // The public calls for C and Rust: answers as numbers, records as rows of cells (include/eon.h).
 use analyzer_verdict::Analysis;
+use handin::Handin;
 use limits::LISTED;
 use limits::OBJECTS;
+use limits::RUN;
+use limits::TEXT;
 use replay_session::Session;
 ghost use mathlib.Core.Path.{_≡_};
 ghost use Prim.Native.Nat.{_+_, _≤_};
@@ -10,9 +13,13 @@ ghost use lib.Seq.{paste};
 ghost use Rattle.limits.specs.Limits as limit;
 ghost use Rattle.grammar.specs.Texts.{outcome};
 ghost use Rattle.lines.specs.Lines.{lineAt};
+ghost use Rattle.handin.specs.Handins.{reading};
+ghost use Rattle.handin.specs.Answers.{told};
+ghost use Rattle.display.specs.Shown.{literalAt, variableAt};
+ghost use Rattle.effects.specs.Effects.{effectAt};
 ghost use Rattle.exports.specs.Codes.{refusal as refusalCode, coded as codeOf, replied as replyCode, put as placeCode};
 ghost use Rattle.exports.specs.Cells.{lastNumber, table as tableOf, stateOf, cellsOf};
-ghost use Rattle.exports.specs.Calls.{Analyzed, Replayed, Placed};
+ghost use Rattle.exports.specs.Calls.{Analyzed, Replayed, Placed, written, Handed, Marked, Reasoned, Declared, Spanned};
 ghost use Rattle.exports.specs.Ranges.{ShortRun, LowPlace, LowNumber, Shown, Small};
 
 // The cells beside an answer of the analysis, of which the last has the shown run's last place.
@@ -190,4 +197,92 @@ pub extern "C" fn eon_line(text: &[u8], i: usize) -> u64
     ensures { λ r. ⌜ r ≡ lineAt (outcome (now (text .entry))) i ⌝ }
 {
     lines::line(text, i)
+}
+
+// Writes the run of a hand-in that says yes into the table.
+fn write_run(handin: &[u8], said: Handin, run: &mut [u32])
+    requires { ⌜ (limit.run ≤ length (now run)) × (said ≡ told (reading (now handin))) ⌝ }
+    ensures { λ _. ⌜ now (run .exit) ≡ written (reading (now (handin .entry))) (now (run .entry)) ⌝ }
+{
+    let Handin::Yes {
+        first: _,
+        places: _,
+    } = said
+    else {
+        return;
+    };
+    handin::write(handin, run);
+}
+
+// Reads a hand-in, and writes its run into the table.
+#[no_mangle]
+pub extern "C" fn eon_handin(handin: &[u8], run: &mut [u32]) -> u64
+    ensures { λ r. ⌜ Handed (now (handin .entry)) (now (run .entry)) r (now (run .exit)) ⌝ }
+{
+    if run.len() < RUN {
+        return refusal(12, 0);
+    }
+    let said = handin::read(handin);
+    write_run(handin, said, run);
+    codes::handed(said)
+}
+
+// Marks a hand-in to a text.
+#[no_mangle]
+pub extern "C" fn eon_mark(
+    text: &[u8],
+    handin: &[u8],
+    work: &mut [u8],
+    run: &mut [u32],
+    stood: &mut [u32],
+) -> u64
+    ensures { λ r. ⌜ Marked (now (text .entry)) (now (handin .entry)) (now (work .entry)) (now (run .entry)) (now (stood .entry)) r (now (work .exit)) (now (run .exit)) (now (stood .exit)) ⌝ }
+{
+    codes::marked(marker::mark(text, handin, work, run, stood))
+}
+
+// Replays a run over a text, notes who stood by at each kept step, and says why it breaks.
+#[no_mangle]
+pub extern "C" fn eon_why(text: &[u8], run: &[u32], work: &mut [u8], table: &mut [u32]) -> u64
+    ensures { λ r. ⌜ Reasoned (now (text .entry)) (now (run .entry)) (now (work .entry)) (now (table .entry)) r (now (work .exit)) (now (table .exit)) ⌝ }
+{
+    reason_codes::explained(explain::explain(text, run, work, table))
+}
+
+// What a line of an accepted text makes of an object in a state.
+#[no_mangle]
+pub extern "C" fn eon_effect(text: &[u8], line: u32, state: u32) -> u64
+    ensures { λ r. ⌜ r ≡ effectAt (outcome (now (text .entry))) line state ⌝ }
+{
+    effects::effect(text, line, state)
+}
+
+// Declared relation i of an accepted text.
+#[no_mangle]
+pub extern "C" fn eon_relation(text: &[u8], i: usize) -> u64
+    ensures { λ r. ⌜ Declared (now (text .entry)) i r ⌝ }
+{
+    codes::declared(display::relation(text, i))
+}
+
+// Literal k of a line's clause, which is stage 0, or of a stage of an `ask` line.
+#[no_mangle]
+pub extern "C" fn eon_literal(line: &[u8], stage: usize, k: usize) -> u64
+    ensures { λ r. ⌜ Spanned (now (line .entry)) (literalAt (now (line .entry)) stage k) r ⌝ }
+{
+    if TEXT < line.len() {
+        return 0;
+    }
+    codes::spanned(display::literal(line, stage, k))
+}
+
+// Variable j of a line's clause, which is stage 0, or of a stage of an `ask` line.
+#[no_mangle]
+pub extern "C" fn eon_variable(line: &[u8], stage: usize, j: usize) -> u64
+    ensures { λ r. ⌜ Spanned (now (line .entry)) (variableAt (now (line .entry)) stage j) r ⌝ }
+{
+    if TEXT < line.len() {
+        return 0;
+    }
+    codes::spanned(display::variable(line, stage, j))
 }

@@ -47,6 +47,10 @@ work = 32768
 abbrev pub run : ℕ
 run = 8640
 
+-- A HAND-IN: 8,640 places of at most 24 bytes, and the lines before them
+abbrev pub handin : ℕ
+handin = 262144
+
 -- PLACES AND STATES. "Objects are numbered from 0 in order of creation, 254 the highest"
 abbrev pub objects : ℕ
 objects = 255

@@ -34,6 +34,9 @@ pub const WORK: usize = 32_768;
 
 pub const RUN: usize = 8_640;
 
+// The bytes of a hand-in.
+pub const HANDIN: usize = 262_144;
+
 // The objects of a database that is replayed.
 pub const OBJECTS: usize = 255;
 

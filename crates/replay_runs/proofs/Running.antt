@@ -1,10 +1,10 @@
 -- A run, place by place.
-use mathlib.Core.Path.{_≡_, refl, sym, _∙_, subst, fun-ext}
+use mathlib.Core.Path.{_≡_, refl, sym, ap, _∙_, subst, fun-ext}
 use mathlib.Core.Logic.{inl, inr, _≢_}
 use mathlib.Core.Bool.{Bool, true, false, cond}
-use mathlib.Core.List.{List, []}
+use mathlib.Core.List.{List, [], _∷_}
 use mathlib.Core.Option.{Option, none, some}
-use Prim.Native.Nat.{ℕ, suc, _+_, _≤_, _<_}
+use Prim.Native.Nat.{ℕ, zero, suc, _+_, _≤_, _<_}
 use native.Mathlib.Omega.{arith}
 use native.Mathlib.Numerals.{add-one}
 use native.Mathlib.Nat.{not-suc-le-zero}
@@ -12,11 +12,11 @@ use lib.Dec.{eqb}
 use lib.ListN.{length, take, drop, getD, length-set, length-replicate, drop-of-length-le}
 use lib.Seq.{drop-cons, length-take-le}
 use Rattle.limits.specs.Limits as limit
-use Rattle.semantics.specs.Models.{Line, rule, new, next, other, line}
+use Rattle.semantics.specs.Models.{Line, rule, new, next, other, Program, line, Question}
 use Rattle.semantics.specs.Facts.{Database}
 use Rattle.semantics.specs.Steps.{Enabled}
 use Rattle.semantics.specs.Runs as runs
-use Rattle.semantics.specs.Runs.{step, meet, start, nobody, Allowed}
+use Rattle.semantics.specs.Runs.{step, meet, start, nobody, Allowed, after}
 use Rattle.model.specs.declared.Model.{Model}
 use Rattle.model.specs.Records.{programOf, questionOf}
 use Rattle.model.specs.Places.{placeOf, Numerable}
@@ -29,8 +29,9 @@ use Rattle.facts_derived.specs.Stocks.{ExactFor, Stocked, Enough, Supplied}
 use Rattle.facts_derived.proofs.Users.{there, supplied}
 use Rattle.replay_session.specs.declared.Answer.{Answer}
 use Rattle.replay_session.specs.declared.Answer.the-variants.{Kept, Broken}
+use Rattle.replay_session.specs.declared.Position.{Position}
 use Rattle.replay_session.specs.declared.Session.{Session}
-use Rattle.replay_session.specs.Sessions.{stepped}
+use Rattle.replay_session.specs.Sessions.{sessionIn, stepped}
 use Rattle.replay_session.specs.Records.{sessionOf, Fits, taken}
 use Rattle.replay_session.specs.Replays.{Replays}
 use Rattle.replay_session.proofs.Effects.{taken-after, taken-fits}
@@ -40,6 +41,7 @@ use Rattle.replay_view.specs.Views.{rowOf, Views, Arranged, Known}
 use Rattle.replay_steps.specs.Tries.{Rests, Sees, Lent, TriedAt}
 use Rattle.replay_places.proofs.Looking.{fits-small}
 use Rattle.replay_runs.specs.Replies.{fresh}
+use Rattle.replay_runs.specs.Endings.{Leads, Stopped}
 
 -- THE START
 pub fresh-session : (m : Model) → sessionOf m fresh ≡ start []
@@ -86,15 +88,22 @@ taken-kept : (m : Model) (s : Session) (p : runs.Place) → Allowed (programOf m
 taken-kept m s (step ℓ o) a = stepped-kept m (sessionOf m s .db) s o (line (programOf m) ℓ) (a .1)
 taken-kept m s (meet i os) a = refl
 
+-- one place more
+leads-more : (P : Program) (Q : Question) (s : runs.Session) (ns : List ℕ) (k : ℕ) (t : runs.Session) → Leads P Q s ns k t → k < length ns → (p : runs.Place) → placeOf (getD ns k 0) ≡ some p → Allowed P Q t p → Leads P Q s ns (suc k) (after P Q t p)
+leads-more P Q s [] k t h l p e a = absurd (not-suc-le-zero l)
+leads-more P Q s (n ∷ ns) zero t h l p e a = (p, e, subst (λ (x : runs.Session). Allowed P Q x p) h a, ap (λ (x : runs.Session). after P Q x p) h)
+leads-more P Q s (n ∷ ns) (suc k) t h l p e a = (h .0, h .1, h .2, leads-more P Q (after P Q s (h .0)) ns k t (h .3) (omega arith) p e a)
+
 -- WHERE A RUN STANDS after i places, all kept: what the rest of the run is answered from there, the whole run is answered
 pub record Running (m : Model) (run : List ℕ) (i : ℕ) (s : Session) : Type 0 where
   pub kept : s .kept ≡ i
   pub fits : Fits m s
   pub long : length (s .states) ≡ 255
   pub rest : (a : Answer) → Replays (programOf m) (questionOf m) (sessionOf m s) (drop i run) i a → Replays (programOf m) (questionOf m) (start []) run 0 a
+  pub leads : Leads (programOf m) (questionOf m) (start []) run i (sessionOf m s)
 
 pub running-start : (m : Model) (run : List ℕ) → Running m run 0 fresh
-running-start m run = record { kept = refl; fits = fresh-fits m; long = fresh-long; rest = λ a h. rw (← fresh-session m) h }
+running-start m run = record { kept = refl; fits = fresh-fits m; long = fresh-long; rest = λ a h. rw (← fresh-session m) h; leads = fresh-session m }
 
 module _ (m : Model) (w : WellFormed m) (run : List ℕ) (i : ℕ) (s : Session) (r : Running m run i s) where
   module _ (l : i < length run) (few : length run ≤ limit.run) where
@@ -115,6 +124,7 @@ module _ (m : Model) (w : WellFormed m) (run : List ℕ) (i : ℕ) (s : Session)
             subst (λ (x : runs.Session). Replays (programOf m) (questionOf m) x (drop (suc i) run) (suc i) a)
                 (taken-after m w s (r .long) (r .fits) p numerable allowed) (rw add-one at h),
           )));
+          leads = rw (add-one i, taken-after m w s (r .long) (r .fits) p numerable allowed) (leads-more (programOf m) (questionOf m) (start []) run i (sessionOf m s) (r .leads) l p e allowed);
         })
       where
         numerable : Numerable p
@@ -129,6 +139,14 @@ module _ (m : Model) (w : WellFormed m) (run : List ℕ) (i : ℕ) (s : Session)
 
     pub running-early : s .met ≢ m .stagecount → Replays (programOf m) (questionOf m) (start []) run 0 (Broken i)
     running-early e = r .rest (Broken i) (rw nothing ((λ q. e (q ∙ stages m w)), refl))
+
+-- where the run ends or breaks
+pub running-ends : (m : Model) (run : List ℕ) (i : ℕ) (s : Session) → Running m run i s → i ≤ length run → (t : Session) → t ≡ s → Stopped m run i t
+running-ends m run i s r l t e = subst (Stopped m run i) (sym e) (record { within = l; kept = r .kept; fits = r .fits; long = r .long; leads = r .leads })
+
+-- a place that is not allowed leaves the states
+pub states-left : (m : Model) (states states′ : List ℕ) (at after : Position) (n k : ℕ) → TriedAt m (sessionIn states at) n false (sessionIn states′ after) k → (t : Session) → t ≡ sessionIn states′ at → t ≡ sessionIn states at
+states-left m states states′ at after n k h t e = e ∙ ap (λ (s : Session). sessionIn (s .states) at) (h .1)
 
 -- WHAT THE RUN SEES of its database: a view, a work area that shows its row, and a stock of facts over it
 pub record Seen (m : Model) (plans : List ℕ) (db : Database) (v : View) (s : Stock) (units w d : List ℕ) : Type 0 where

@@ -1,0 +1,2 @@
+pub mod Handins
+pub mod Answers

@@ -1,0 +1,4 @@
+pub mod Laws
+pub mod Shapes
+pub mod Numbers
+pub mod Printing

@@ -1,0 +1,4 @@
+pub mod Orders
+pub mod Picking
+pub mod Turning
+pub mod Blaming

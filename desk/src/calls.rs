@@ -1,0 +1,234 @@
+//! The proved calls (include/eon.h), with buffers of the sizes that they need.
+
+include!("../../include/eon.rs");
+
+/// The most bytes of a model and of a hand-in that are read: one more than is taken, so that a longer file is refused for its length.
+pub const MODEL: usize = 16_385;
+pub const HANDIN: usize = 262_145;
+
+const WORK: usize = 32_768;
+const RUN: usize = 8_640;
+const OUT: usize = 130;
+
+/// A refusal of the model: its number and line.
+#[derive(Clone, Copy)]
+pub struct Refusal {
+    pub number: u32,
+    pub line: u32,
+}
+
+/// What a hand-in is worth.
+pub enum Mark {
+    Refused(Refusal),
+    Unreadable { line: usize },
+    Right,
+    Other { reached: bool },
+    Breaks,
+}
+
+/// What a hand-in says.
+pub enum Handin {
+    Unreadable {
+        line: usize,
+    },
+    No,
+    /// Place i of the run stands on line first + i.
+    Yes {
+        first: usize,
+        run: Vec<u32>,
+    },
+}
+
+/// Why a place is not allowed.
+#[derive(Clone, Copy, PartialEq)]
+pub enum Reason {
+    /// All stages were met before it.
+    Done,
+    /// No `new` or `next` line has this number.
+    NoLine,
+    /// A new object does not get this number.
+    NotNext,
+    /// There is no such object yet.
+    NoObject,
+    /// Another stage is the next one.
+    OtherStage,
+    /// The stage has another number of variables.
+    Variables,
+    /// The carried variable stands for another object already.
+    Carried,
+    /// No objects make this literal true together with the plain ones, and those before it.
+    Literal(usize),
+}
+
+/// A run put to a model: kept, or where it breaks and why; at its end there is no reason but the stages that are left.
+pub enum Replay {
+    Kept,
+    Ends,
+    Breaks { place: usize, reason: Reason },
+}
+
+/// The analysis of a model.
+pub struct Analysis {
+    pub states: Vec<u32>,
+    pub run: Option<Vec<u32>>,
+}
+
+/// A relation that is declared.
+pub struct Relation {
+    pub name: Vec<u8>,
+    pub code: u32,
+}
+
+fn refusal(value: u32) -> Refusal {
+    Refusal {
+        number: value >> 16,
+        line: value & 65_535,
+    }
+}
+
+/// A number that include/eon.h does not have: the library and this program do not belong together.
+fn foreign(code: u64) -> ! {
+    eprintln!("eon: the library answered {code}, which is no answer; build it anew");
+    std::process::exit(3)
+}
+
+/// Analyzes a model.
+pub fn analyze(text: &[u8]) -> Result<Analysis, Refusal> {
+    let (mut work, mut run, mut out) = (vec![0; WORK], vec![0; RUN], [0; OUT]);
+    let code = unsafe { eon_analyze(text.as_ptr(), text.len(), work.as_mut_ptr(), WORK, run.as_mut_ptr(), RUN, out.as_mut_ptr()) };
+    let value = code as u32;
+    let states = out[1..=out[0] as usize].to_vec();
+    match code >> 32 {
+        0 => Ok(Analysis { states, run: None }),
+        1 => {
+            run.truncate(value as usize);
+            Ok(Analysis { states, run: Some(run) })
+        }
+        2 => Err(refusal(value)),
+        _ => foreign(code),
+    }
+}
+
+/// Marks a hand-in.
+pub fn mark(text: &[u8], handin: &[u8]) -> Mark {
+    let (mut work, mut run, mut stood) = (vec![0; WORK], vec![0; RUN], vec![0; RUN]);
+    let code = unsafe {
+        eon_mark(
+            text.as_ptr(),
+            text.len(),
+            handin.as_ptr(),
+            handin.len(),
+            work.as_mut_ptr(),
+            WORK,
+            run.as_mut_ptr(),
+            RUN,
+            stood.as_mut_ptr(),
+            RUN,
+        )
+    };
+    let value = code as u32;
+    match code >> 32 {
+        2 => Mark::Refused(refusal(value)),
+        5 => Mark::Unreadable { line: value as usize },
+        6 => Mark::Right,
+        7 => Mark::Other { reached: value == 1 },
+        8 => Mark::Breaks,
+        _ => foreign(code),
+    }
+}
+
+/// Reads a hand-in.
+pub fn handin(bytes: &[u8]) -> Handin {
+    let mut run = vec![0; RUN];
+    let code = unsafe { eon_handin(bytes.as_ptr(), bytes.len(), run.as_mut_ptr(), RUN) };
+    let value = code as u32;
+    match code >> 32 {
+        5 => Handin::Unreadable { line: value as usize },
+        9 => Handin::No,
+        10 => {
+            run.truncate((value >> 16) as usize);
+            Handin::Yes {
+                first: (value & 65_535) as usize,
+                run,
+            }
+        }
+        _ => foreign(code),
+    }
+}
+
+/// Replays a run over an accepted model: who stood by at each kept step, and whether it is kept, or why not.
+pub fn replay(text: &[u8], run: &[u32]) -> (Vec<u32>, Replay) {
+    let (mut work, mut stood) = (vec![0; WORK], vec![0; RUN]);
+    let code = unsafe {
+        eon_why(
+            text.as_ptr(),
+            text.len(),
+            run.as_ptr(),
+            run.len(),
+            work.as_mut_ptr(),
+            WORK,
+            stood.as_mut_ptr(),
+            RUN,
+        )
+    };
+    let value = code as u32;
+    let place = (value >> 16) as usize;
+    let answer = match (code >> 32, value >> 8 & 255) {
+        (3, _) => Replay::Kept,
+        (4, 0) => Replay::Ends,
+        (4, kind) => {
+            let reason = match kind {
+                1 => Reason::Done,
+                2 => Reason::NoLine,
+                3 => Reason::NotNext,
+                4 => Reason::NoObject,
+                5 => Reason::OtherStage,
+                6 => Reason::Variables,
+                7 => Reason::Carried,
+                8 => Reason::Literal((value & 255) as usize),
+                _ => foreign(code),
+            };
+            Replay::Breaks { place, reason }
+        }
+        _ => foreign(code),
+    };
+    stood.truncate(if let Replay::Breaks { place, .. } = answer { place } else { run.len() });
+    (stood, answer)
+}
+
+/// What a line makes of an object in a state: whether it creates the object, and the state after it; none where the line is no `new` or `next` line.
+pub fn effect(text: &[u8], line: u32, state: u32) -> Option<(bool, u32)> {
+    let code = unsafe { eon_effect(text.as_ptr(), text.len(), line, state) };
+    match code >> 32 {
+        0 => None,
+        2 => Some((true, code as u32)),
+        3 => Some((false, code as u32)),
+        _ => foreign(code),
+    }
+}
+
+/// Declared relation i of an accepted model.
+pub fn relation(text: &[u8], i: usize) -> Option<Relation> {
+    let code = unsafe { eon_relation(text.as_ptr(), text.len(), i) };
+    let (from, length) = ((code >> 32) as usize, (code >> 16 & 65_535) as usize);
+    (length > 0).then(|| Relation {
+        name: text[from..from + length].to_vec(),
+        code: (code & 65_535) as u32,
+    })
+}
+
+/// The part of a line that a call gives as where it begins and where it ends, or none.
+fn part(line: &[u8], code: u64) -> Option<&[u8]> {
+    let (from, to) = ((code >> 32) as usize, (code & 0xffff_ffff) as usize);
+    (to > from).then(|| &line[from..to])
+}
+
+/// Literal k of a line's body, or of a stage of the question.
+pub fn literal(line: &[u8], stage: usize, k: usize) -> Option<&[u8]> {
+    part(line, unsafe { eon_literal(line.as_ptr(), line.len(), stage, k) })
+}
+
+/// Variable j of a line, or of a stage of the question, in order of first appearance.
+pub fn variable(line: &[u8], stage: usize, j: usize) -> Option<&[u8]> {
+    part(line, unsafe { eon_variable(line.as_ptr(), line.len(), stage, j) })
+}

@@ -1,0 +1,16 @@
+// Tumreslo's calls for Rust: those of eon.h, which says what each number means. `include!` this file where they are called.
+#[allow(dead_code)]
+extern "C" {
+    fn eon_analyze(text: *const u8, bytes: usize, work: *mut u8, work_bytes: usize, run: *mut u32, places: usize, out: *mut u32) -> u64;
+    fn eon_replay(text: *const u8, bytes: usize, run: *const u32, places: usize, work: *mut u8, work_bytes: usize, stood: *mut u32, numbers: usize) -> u64;
+    fn eon_why(text: *const u8, bytes: usize, run: *const u32, places: usize, work: *mut u8, work_bytes: usize, stood: *mut u32, numbers: usize) -> u64;
+    fn eon_place(text: *const u8, bytes: usize, session: *mut u32, place: u32, work: *mut u8, work_bytes: usize) -> u64;
+    fn eon_handin(handin: *const u8, handin_bytes: usize, run: *mut u32, places: usize) -> u64;
+    #[rustfmt::skip]
+    fn eon_mark(text: *const u8, bytes: usize, handin: *const u8, handin_bytes: usize, work: *mut u8, work_bytes: usize, run: *mut u32, places: usize, stood: *mut u32, numbers: usize) -> u64;
+    fn eon_line(text: *const u8, bytes: usize, i: usize) -> u64;
+    fn eon_effect(text: *const u8, bytes: usize, line: u32, state: u32) -> u64;
+    fn eon_relation(text: *const u8, bytes: usize, i: usize) -> u64;
+    fn eon_literal(line: *const u8, bytes: usize, stage: usize, k: usize) -> u64;
+    fn eon_variable(line: *const u8, bytes: usize, stage: usize, j: usize) -> u64;
+}
