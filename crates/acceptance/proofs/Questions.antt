@@ -37,13 +37,13 @@ module _ (vs : List Word) where
   pub within-rest : (w : Word) (ws : List Word) → Within (w ∷ ws) → Within ws
   within-rest w ws k u e = k u (or-right (same u w) (member u ws) e)
 
-  pub number-same : (w v : Word) → member w vs ≡ true → member v vs ≡ true → eqb (place vs w) (place vs v) ≡ same w v
+  number-same : (w v : Word) → member w vs ≡ true → member v vs ≡ true → eqb (place vs w) (place vs v) ≡ same w v
   number-same w v h k = ⊎-elim
       (λ (q : same w v ≡ true). rw q (eq-eqb (place vs w) (place vs v) (ap (place vs) (same-eq w v q))))
       (λ (q : same w v ≡ false). rw q (ne-eqb (place vs w) (place vs v) (λ z. clash (subst (λ (u : Word). same w u ≡ true) (place-injective vs w v h k z) (same-refl w)) q)))
       (either (same w v))
 
-  number-member : (w : Word) (ws : List Word) → member w vs ≡ true → Within ws → elem (place vs w) (map (place vs) ws) ≡ member w ws
+  pub number-member : (w : Word) (ws : List Word) → member w vs ≡ true → Within ws → elem (place vs w) (map (place vs) ws) ≡ member w ws
   number-member w [] h k = refl
   number-member w (v ∷ ws) h k = rw (number-same w v h (k v (member-here v ws)), number-member w ws h (within-rest v ws k))
 
@@ -51,7 +51,7 @@ module _ (vs : List Word) where
 abbrev pub askWords : List (List Literal) → List Word
 askWords qs = extend [] (allVariables qs)
 
-pub within-asked : (qs : List (List Literal)) → Within (askWords qs) (allVariables qs)
+within-asked : (qs : List (List Literal)) → Within (askWords qs) (allVariables qs)
 within-asked qs w e = extend-new w [] (allVariables qs) e
 
 -- words in order of first appearance are numbers in that order
@@ -123,7 +123,7 @@ module _ (D : Declared) where
     safe-all (q ∷ qs) e (suc i) x h = safe-all qs (stage-right D q qs e .2) i x h
 
     -- a variable stands in as many stages as its word
-    pub stands-all : (qs : List (List Literal)) → stagesFault D qs ≡ 0 → Within vs (allVariables qs) → (w : Word) → member w vs ≡ true
+    stands-all : (qs : List (List Literal)) → stagesFault D qs ≡ 0 → Within vs (allVariables qs) → (w : Word) → member w vs ≡ true
         → meaning.stands (place vs w) (map (bodyOf D vs) qs) ≡ words.stands w qs
     unfolding stagesFault allVariables words.stands
     stands-all [] e k w h = refl
