@@ -8,7 +8,7 @@ use Prim.Native.Nat.{ℕ, zero, suc, _≤_, _<_}
 use native.Mathlib.Omega.{arith}
 use lib.Dec.{eqb}
 use lib.ListN.{length, take, drop, getD, replicate, length-map}
-use borrow.Author.Tests.{eqb-true, eqb-false}
+use borrow.Author.Tests.{eqb-true, eqb-false, eq-eqb}
 use Rattle.limits.specs.Limits as limit
 use Rattle.model.specs.Records as model
 use Rattle.model.specs.Records.{padded}
@@ -27,6 +27,7 @@ use Rattle.text_clauses.proofs.Laws.{Row, lower-row, row-row, body-row, row-bou
 use Rattle.text_carried.specs.Asking as asking
 use Rattle.text_carried.specs.Asking.{carriersOf}
 use Rattle.text_carried.specs.declared.Table.{Table}
+use Rattle.text_carried.specs.declared.Carriers.{Carriers}
 use Rattle.text_carried.proofs.Stages.{marked-carried}
 use Rattle.text_stages.specs.Questions.{Empty, Stored, Holds, Added}
 use Rattle.text_stages.specs.declared.Asking.{Asking}
@@ -88,7 +89,16 @@ stages-row D [] = inl refl
 stages-row D (q ∷ qs) = lower-row (lower (bodyFault D q) (scopeFault [] q)) (stagesFault D qs)
     (lower-row (bodyFault D q) (scopeFault [] q) (body-row D q) (row-row 9 (not (supported [] q && few [] q)) (omega arith))) (stages-row D qs)
 
--- THE END
+-- THE END: where rows 6 to 9 give no number, r has the carried variables
+module _ (s : Asking) {r : Carriers} (z : s .number ≡ 0) (e : r ≡ carriersOf (s .table)) where
+  pub finish-many : r .many ≡ true → record { number = 11; model = s .model } ≡ finished s
+  unfolding finished
+  finish-many q = rw (eq-eqb (s .number) 0 z, sym (ap (λ (c : Carriers). c .many) e) ∙ q)
+
+  pub finish-carries : r .many ≡ false → record { number = 0; model = carrying (s .model) (r .cells) } ≡ finished s
+  unfolding finished
+  finish-carries q = rw (eq-eqb (s .number) 0 z, sym (ap (λ (c : Carriers). c .many) e) ∙ q, ap (λ (c : Carriers). c .cells) e)
+
 module _ {text : List ℕ} {D : Declared} {m₀ : Model} {qs : List (List forms.Literal)} {s : Asking} (so : Holds text D m₀ qs s) where
   many-carried : s .number ≡ 0 → carriersOf (s .table) .many ≡ carriesMany qs
   many-carried z = rw (marked-carried qs (so .stored z .table), length-map (carried qs (askWords qs)) (place (askWords qs)))
