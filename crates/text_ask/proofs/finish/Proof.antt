@@ -13,10 +13,10 @@ carried-requires : tie.Need-carried-requires
 carried-requires c κs = search needs
 
 returns-2 : tie.Need-returns-2
-returns-2 c = finish-many _ (c .before .before .if1 .left) (c .before .carried .ensures) (c .if2 .taken)
+returns-2 c = finish-many (c .before .before .before .before .before .before .args .s) (c .before .before .if1 .left) (c .before .carried .ensures) (c .if2 .taken)
 
 returns-3 : tie.Need-returns-3
-returns-3 c = finish-carries _ (c .before .before .before .if1 .left) (c .before .before .carried .ensures) (c .before .if2 .left)
+returns-3 c = finish-carries (c .before .before .before .before .before .before .before .args .s) (c .before .before .before .if1 .left) (c .before .before .carried .ensures) (c .before .if2 .left)
 
 pub finish-spec : {M : Type 1} → statement M
 finish-spec = tie.close (tie.spec returns carried-requires returns-2 returns-3)
