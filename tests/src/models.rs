@@ -1,6 +1,6 @@
 //! Models checked by hand: document 01's own, and those that a good reader of the paper gets wrong.
 
-use crate::calls::Answer;
+use crate::calls::{Answer, OBJECTS};
 use crate::meaning::Place;
 use crate::report::Report;
 use crate::seeded::place_by_place;
@@ -95,7 +95,7 @@ fn set_then_clear(report: &mut Report) {
     for state in [2, 3] {
         let subject = Subject::new(text.as_bytes());
         let mut lent = fresh();
-        (lent[0], lent[255]) = (state, 1);
+        (lent[0], lent[OBJECTS]) = (state, 1);
         let kept = subject.place(report, &mut lent, step(4, 0).encode());
         report.check(kept == Answer::Kept && lent[0] == 2, || format!("{state} goes to {}", lent[0]));
     }
@@ -232,20 +232,20 @@ fn many_objects(report: &mut Report) {
     report.check(broken == Answer::Broken(255), || format!("256 objects: {broken:?}"));
 }
 
-/// A run of 8,640 places is replayed, one of 8,641 is not.
+/// A run of 9,344 places is replayed, one of 9,345 is not.
 fn long_runs(report: &mut Report) {
     let text = format!("{AB}(new (A))\n(next x () () (A x))\n(ask ((A x)))\n");
     let subject = Subject::new(text.as_bytes());
-    let mut run = vec![step(4, 0).encode(); 8_640];
+    let mut run = vec![step(4, 0).encode(); 9_344];
     run[0] = step(3, 0).encode();
-    run[8_639] = meet(1, &[0]).encode();
-    for (places, wanted) in [(8_640, Answer::Kept), (8_639, Answer::Broken(8_639))] {
+    run[9_343] = meet(1, &[0]).encode();
+    for (places, wanted) in [(9_344, Answer::Kept), (9_343, Answer::Broken(9_343))] {
         let given = subject.replay(report, &run[..places]);
         report.check(given == wanted, || format!("{places} places: {given:?}"));
     }
     run.insert(1, step(4, 0).encode());
     let refused = subject.replay(report, &run);
-    report.check(refused == Answer::Refused(14, 0), || format!("8,641 places: {refused:?}"));
+    report.check(refused == Answer::Refused(14, 0), || format!("9,345 places: {refused:?}"));
     let bad = Subject::new(b"(state A!)\n").replay(report, &run);
     report.check(bad == Answer::Refused(14, 0), || format!("14 comes before the lines: {bad:?}"));
 }

@@ -29,16 +29,18 @@ struct Known {
 }
 
 /// Searches with more and more objects, until nothing can have been missed. By document 01's count the reachable states can be put in an order in which
-/// each is made with one object of each state before it; and a run needs one object of each state, and the carried one. So a search of all sessions with
-/// n objects that finds fewer than n states is certain: the first state that it missed would have needed n objects at most. The empty state helps to make
-/// no other, so it is not counted here; it is made from one object of each of the others, with one object more at most.
+/// each is made with one object of each state before it. So a search of all sessions with n objects that finds fewer than n states has found them all:
+/// the first state that it missed would have needed n objects at most. And a run needs one object of each state and one for each carried variable, so
+/// the search is certain of the verdict too where n is at least the sum of these. The empty state helps to make no other, so it is not counted here; it
+/// is made from one object of each of the others, with one object more at most.
 fn known(m: &Model) -> Known {
     let mut known = Known { run: None, states: BTreeSet::new(), certain: false };
     for objects in 2..=OBJECTS {
         let found = search(m, objects, SESSIONS);
         known.run = known.run.or(found.run);
         known.states.extend(found.states);
-        known.certain = found.whole && known.states.iter().filter(|s| **s != 0).count() < objects;
+        let needed = known.states.iter().filter(|s| **s != 0).count() + m.carried.max(1);
+        known.certain = found.whole && needed <= objects;
         if known.certain || !found.whole {
             break;
         }
@@ -70,7 +72,11 @@ fn compare(report: &mut Report, subject: &Subject, m: &Model, answer: Answer, st
     if known.certain {
         report.check(reached == known.run.is_some(), about);
         report.check(listed == known.states, about);
-        report.cover(if reached { "search: certain and reached" } else { "search: certain and unreached" });
+        let verdict = if reached { "reached" } else { "unreached" };
+        report.cover(&format!("search: certain and {verdict}"));
+        if m.carried == 2 {
+            report.cover(&format!("search: certain and {verdict} with a pair"));
+        }
         report.cover(&format!("empty state: {}", emptied(m, &known.states)));
     } else {
         report.cover("search: certain in one direction only");
@@ -78,6 +84,7 @@ fn compare(report: &mut Report, subject: &Subject, m: &Model, answer: Answer, st
     if let Some(run) = &known.run {
         let kept = subject.replay(report, run) == Answer::Kept;
         report.check(kept, || format!("the plain run is not kept: {}", about()));
+        cover_pair(report, m, run);
     }
 }
 
@@ -104,10 +111,21 @@ fn replay_both_ways(report: &mut Report, subject: &Subject, run: &[u32]) {
     report.check(agree, || format!("whole {whole:?}, place by place {broken:?}: {run:?} in\n{}", subject.show()));
 }
 
-/// Whether a run changes the carried object after it was met first.
-fn moves_carried(m: &Model, run: &[u32]) -> bool {
+/// How many of the carried objects a run changes after they were met first.
+fn moved(m: &Model, run: &[u32]) -> usize {
     let all = play(m, run).sessions;
-    all.windows(2).any(|pair| pair[0].carried.is_some_and(|o| pair[0].db[o] != pair[1].db[o]))
+    let moves = |c: usize| all.windows(2).any(|two| two[0].carried[c].is_some_and(|o| two[0].db[o] != two[1].db[o]));
+    (0..m.carried).filter(|c| moves(*c)).count()
+}
+
+/// Counts a kept run that carries a pair, by whether the two are one object.
+fn cover_pair(report: &mut Report, m: &Model, run: &[u32]) {
+    let played = play(m, run);
+    let carried = played.sessions.last().expect("a session before the first place").carried;
+    if played.broken_at(m, run).is_none() && m.carried == 2 {
+        let one = carried[0] == carried[1];
+        report.cover(if one { "kept runs whose pair is one object" } else { "kept runs whose pair is two objects" });
+    }
 }
 
 /// Replays a shown run, the run damaged in one place, and plays it on.
@@ -115,8 +133,10 @@ fn runs(report: &mut Report, r: &mut Random, subject: &Subject, m: &Model, run: 
     let kept = subject.replay(report, run) == Answer::Kept;
     report.check(kept, || format!("the shown run is not kept: {run:?} in\n{}", subject.show()));
     replay_both_ways(report, subject, run);
-    if moves_carried(m, run) {
-        report.cover("shown runs that change the carried object between stages");
+    match moved(m, run) {
+        0 => {}
+        1 => report.cover("shown runs that change one carried object between stages"),
+        _ => report.cover("shown runs that change both carried objects between stages"),
     }
     for i in 0..12 {
         let damaged = damage::run(r, run);
@@ -164,7 +184,7 @@ fn features(report: &mut Report, text: &str, m: &Model, reached: bool) {
     count("recursion through pairs", text.contains(" x z) (") && text.contains(" z y))"));
     count("not", text.contains("(not "));
     count("several stages", m.stages.len() > 1);
-    count("a carried variable", m.stages.iter().any(|s| s.carried.is_some()));
+    count(["no carried variable", "a carried variable", "a carried pair"][m.carried], true);
 }
 
 /// A model that the plain search can mostly settle, or a larger one.
