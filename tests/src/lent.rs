@@ -207,7 +207,11 @@ fn unused_cells(report: &mut Report) {
 /// A state that often fits, with a wrong number in it now and then.
 fn random_state(r: &mut Random, m: &Model) -> Lent {
     let objects: Vec<u32> = (0..r.below(5)).map(|_| r.below(1 << m.states) as u32).collect();
-    let carried = [(); 2].map(|_| if r.chance(60) { 255 } else { r.below(objects.len() + 1) as u32 });
+    let carried = [(); 2].map(|_| match r.below(10) {
+        0..=4 => 255,
+        5 => r.below(objects.len() + 1) as u32,
+        _ => r.below(objects.len().max(1)) as u32,
+    });
     let mut l = lent(&objects, r.below(m.stages.len() + 1) as u32, carried, r.below(9_344) as u32);
     if r.chance(10) {
         let cell = r.below(260);
@@ -225,9 +229,13 @@ fn random_states(report: &mut Report) {
         let Ok(m) = &subject.read else { continue };
         for _ in 0..40 {
             let mut l = random_state(&mut r, m);
-            let place = guess::place(&mut r, m, l[OBJECTS] as usize % 300, l[MET] as usize);
+            let carried = carried_objects(&l).map(|o| (o < 255).then_some(o as usize));
+            let place = guess::place(&mut r, m, l[OBJECTS] as usize % 300, l[MET] as usize, &carried);
             let given = subject.place(report, &mut l, place);
             report.cover(if given == Answer::Kept { "random lent states kept" } else { "random lent states broken" });
+            if given == Answer::Kept && place >> 31 == 1 && carried.iter().all(|o| o.is_some()) && m.carried == 2 {
+                report.cover("random lent states with a pair that meets");
+            }
         }
     }
 }

@@ -50,6 +50,7 @@ fn covered_enough(report: &mut Report) {
     report.met_often("search: certain and unreached with a pair", 30);
     report.met_often("shown runs that change one carried object between stages", 30);
     report.met_often("shown runs that change both carried objects between stages", 10);
+    report.met_often("random lent states with a pair that meets", 10);
     report.met_often("kept runs whose pair is one object", 20);
     report.met_often("kept runs whose pair is two objects", 20);
     report.met_often("played on after other objects", 400);

@@ -150,6 +150,97 @@ fn readings(report: &mut Report) {
     verdict(report, &format!("{carried}(ask ((A x)) ((B y)) ((A x)) ((B x)))\n"), true, &[0, 1, 2]);
 }
 
+/// The paper's section 5.1.1: is an object that a Low process wrote executed by a process that was High and is Med? Its derivation is a run, and a
+/// process that was never High is not the one.
+fn privilege(report: &mut Report) {
+    let text = include_str!("../../examples/vista-escalation.eon");
+    let line = |form: &str| 1 + text.lines().position(|l| l == form).expect("a line of the example") as u32;
+    let [low, med, high] = ["(new (Low))", "(new (Med))", "(new (High))"].map(line);
+    let process = line("(next x (P) () (Obj x))");
+    let raise = line("(next y (Med) (Low) (Low y) (not (P y)) (ByMed))");
+    let fall = line("(next x (Med) (High) (High x) (P x))");
+    verdict(report, text, true, &[2, 3, 4, 5, 8, 9]);
+    let wrote = [step(low, 0), step(low, 1), step(process, 1), meet(1, &[1, 0])];
+    let raised = [step(med, 2), step(process, 2), step(raise, 0)];
+    let fell = [step(high, 3), step(process, 3), meet(2, &[3]), step(fall, 3)];
+    let before = [&wrote[..], &raised, &fell].concat();
+    answer(report, text, &[&before[..], &[meet(3, &[3, 0])]].concat(), Answer::Kept);
+    answer(report, text, &[&before[..], &[meet(3, &[2, 0])]].concat(), Answer::Broken(11));
+    answer(report, text, &[&before[..], &[meet(3, &[3, 2])]].concat(), Answer::Broken(11));
+}
+
+/// Pairs of objects that stay what they are: alike or not.
+const ALIKE: &str = "(state A)\n(state B)\n(rel W 2)\n(rel V 2)\n(new (A))\n(new (B))\n(rule (W x y) (A x) (A y))\n(rule (W x y) (B x) (B y))\n(rule (V x y) (A x) (B y))\n(rule (V x y) (B x) (A y))\n";
+
+/// The pair that met one stage is the pair that meets the next, also where a stage between has one of the two or neither.
+fn pairs(report: &mut Report) {
+    let states = &[1, 2];
+    for (ask, reached) in [
+        ("((V x y)) ((V x y))", true),
+        ("((V x y)) ((V y x))", true),
+        ("((W x y)) ((V x y))", false),
+        ("((W x y)) ((V x z))", true),
+        ("((W x y)) ((V z y))", true),
+        ("((W x y)) ((A x)) ((A y))", true),
+        ("((W x y)) ((A x)) ((B y))", false),
+        ("((V x y)) ((A x)) ((A y))", false),
+        ("((W x y)) ((V a b)) ((A x) (B y))", false),
+        ("((W x y)) ((V a b)) ((A x) (A y))", true),
+        ("((A x)) ((B y)) ((V x y))", true),
+        ("((A x)) ((B y)) ((V y x))", true),
+        ("((A x)) ((B y)) ((W x y))", false),
+        ("((A x)) ((W x y)) ((B y))", false),
+        ("((W x y)) ((V y z)) ((B x))", true),
+        ("((W x y)) ((V y z) (A z)) ((A x))", false),
+        ("((A x) (B y)) ((A y)) ((A x))", false),
+        ("((A x) (B y)) ((B y)) ((A x))", true),
+    ] {
+        verdict(report, &format!("{ALIKE}(ask {ask})\n"), reached, states);
+    }
+    let moving = format!("{ALIKE}(next x (B) (A) (A x))\n");
+    for (ask, reached) in [
+        ("((W x y)) ((V x y))", true),
+        ("((V x y) (A x)) ((W x y))", true),
+        ("((V x y) (A x)) ((V y x) (A y))", false),
+        ("((W x y) (A x)) ((V x y)) ((V y x) (A y))", true),
+        ("((W x y) (A x)) ((V x y) (A y)) ((A x))", false),
+        ("((A x)) ((B y)) ((W x y))", true),
+        ("((B x)) ((A y)) ((V x y)) ((W x y))", true),
+        ("((B x)) ((A y)) ((W x y)) ((V x y))", false),
+    ] {
+        verdict(report, &format!("{moving}(ask {ask})\n"), reached, states);
+    }
+}
+
+/// Runs that carry a pair: two objects, one object for both, and objects that are not the pair that met.
+fn runs_of_pairs(report: &mut Report) {
+    let made = [step(5, 0), step(6, 1), step(5, 2)];
+    let asked = |ask: &str| format!("{ALIKE}(ask {ask})\n");
+    let mut tried = |ask: &str, first: &[usize], second: &[usize], wanted: Answer| {
+        answer(report, &asked(ask), &[&made[..], &[meet(1, first), meet(2, second)]].concat(), wanted);
+    };
+    let alike = "((W x y)) ((W y x))";
+    tried(alike, &[0, 2], &[2, 0], Answer::Kept);
+    tried(alike, &[0, 2], &[0, 2], Answer::Broken(4));
+    tried(alike, &[0, 2], &[2, 2], Answer::Broken(4));
+    tried(alike, &[0, 2], &[0, 0], Answer::Broken(4));
+    tried(alike, &[2, 2], &[2, 2], Answer::Kept);
+    tried(alike, &[2, 2], &[2, 0], Answer::Broken(4));
+    tried(alike, &[2, 2], &[0, 2], Answer::Broken(4));
+    let apart = "((V x y)) ((V x y))";
+    tried(apart, &[0, 1], &[0, 1], Answer::Kept);
+    tried(apart, &[0, 1], &[2, 1], Answer::Broken(4));
+    tried(apart, &[0, 1], &[1, 0], Answer::Broken(4));
+    tried(apart, &[0, 0], &[0, 0], Answer::Broken(3));
+    let late = asked("((A x)) ((A y)) ((W y x))");
+    let run = |objects: [usize; 4]| [&made[..], &[meet(1, &objects[..1]), meet(2, &objects[1..2]), meet(3, &objects[2..])]].concat();
+    answer(report, &late, &run([0, 2, 2, 0]), Answer::Kept);
+    answer(report, &late, &run([0, 0, 0, 0]), Answer::Kept);
+    answer(report, &late, &run([0, 2, 0, 2]), Answer::Broken(5));
+    answer(report, &late, &run([0, 2, 2, 2]), Answer::Broken(5));
+    answer(report, &late, &run([0, 2, 0, 0]), Answer::Broken(5));
+}
+
 /// The empty state is listed first where an object comes to it, by creation or by clearing, and nowhere else; such an object does nothing more.
 fn empty_state(report: &mut Report) {
     let asked = "(ask ((A x)))\n";
@@ -258,6 +349,9 @@ pub fn all(report: &mut Report) {
     errors_of_readers(report);
     handed_down(report);
     readings(report);
+    privilege(report);
+    pairs(report);
+    runs_of_pairs(report);
     empty_state(report);
     places(report);
     many_objects(report);
