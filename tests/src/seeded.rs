@@ -5,6 +5,7 @@ use crate::damage;
 use crate::guess;
 use crate::guided;
 use crate::meaning::{play, Action, Clause, Model};
+use crate::paired;
 use crate::playing::play_on;
 use crate::random::{model, Random, Shape};
 use crate::report::Report;
@@ -14,6 +15,8 @@ use std::collections::BTreeSet;
 
 /// How many models are tried.
 const MODELS: u64 = 500;
+/// How many models are tried whose questions join two carried variables.
+const PAIRED_MODELS: u64 = 300;
 /// How many larger models are tried.
 const LARGE_MODELS: u64 = 30;
 /// The most objects that the plain search takes.
@@ -61,6 +64,18 @@ fn emptied(m: &Model, states: &BTreeSet<u32>) -> &'static str {
     }
 }
 
+/// Whether each of two carried variables could be carried by itself, the other standing for any object in each stage.
+fn each_alone(m: &Model) -> bool {
+    (0..2).all(|other| {
+        let mut one = m.clone();
+        one.carried = 1;
+        for stage in &mut one.stages {
+            stage.carried[other] = None;
+        }
+        known(&one).run.is_some()
+    })
+}
+
 /// Compares the verdict and the states with what the plain search knows.
 fn compare(report: &mut Report, subject: &Subject, m: &Model, answer: Answer, states: &[u32]) {
     let known = known(m);
@@ -76,6 +91,9 @@ fn compare(report: &mut Report, subject: &Subject, m: &Model, answer: Answer, st
         report.cover(&format!("search: certain and {verdict}"));
         if m.carried == 2 {
             report.cover(&format!("search: certain and {verdict} with a pair"));
+            if !reached && each_alone(m) {
+                report.cover("search: no pair, though each variable by itself");
+            }
         }
         report.cover(&format!("empty state: {}", emptied(m, &known.states)));
     } else {
@@ -196,16 +214,13 @@ fn shape(r: &mut Random, large: bool) -> Shape {
 }
 
 /// One seeded model: the verdict, the states, the shown run.
-fn seeded(report: &mut Report, r: &mut Random, large: bool) -> String {
-    let shape = shape(r, large);
-    let text = if r.chance(60) { guided::model(r, shape) } else { model(r, shape) };
+fn seeded(report: &mut Report, r: &mut Random, text: &str) {
     let subject = Subject::new(text.as_bytes());
     let a = subject.analyze(report);
     let Ok(m) = &subject.read else {
-        report.check(false, || format!("a random model is refused:\n{text}"));
-        return text;
+        return report.check(false, || format!("a random model is refused:\n{text}"));
     };
-    features(report, &text, m, matches!(a.answer, Answer::Reached(_)));
+    features(report, text, m, matches!(a.answer, Answer::Reached(_)));
     report.cover(&format!("models with {:2} reachable states", a.states.len()));
     compare(report, &subject, m, a.answer, &a.states);
     for _ in 0..3 {
@@ -214,17 +229,33 @@ fn seeded(report: &mut Report, r: &mut Random, large: bool) -> String {
     if !a.run.is_empty() {
         runs(report, r, &subject, m, &a.run);
     }
-    text
+}
+
+/// A random model with a question of its own or one that a run meets or nearly meets.
+fn any_model(r: &mut Random, large: bool) -> String {
+    let shape = shape(r, large);
+    if r.chance(60) {
+        return guided::model(r, shape);
+    }
+    model(r, shape)
 }
 
 /// Runs all seeded models.
 pub fn models(report: &mut Report) {
     for seed in 1..=MODELS {
         let mut r = Random::new(seed);
-        let text = seeded(report, &mut r, false);
+        let text = any_model(&mut r, false);
+        seeded(report, &mut r, &text);
         texts(report, &mut r, &text);
     }
     for seed in 1..=LARGE_MODELS {
-        seeded(report, &mut Random::new(seed + 1_000), true);
+        let mut r = Random::new(seed + 1_000);
+        let text = any_model(&mut r, true);
+        seeded(report, &mut r, &text);
+    }
+    for seed in 1..=PAIRED_MODELS {
+        let mut r = Random::new(seed + 4_000_000);
+        let text = paired::model(&mut r);
+        seeded(report, &mut r, &text);
     }
 }
