@@ -189,13 +189,9 @@ fn unused_cells(report: &mut Report) {
     let none = "(state A)\n(new (A))\n(ask ((A x)) ((A y)))\n";
     let one = "(state A)\n(new (A))\n(ask ((A x)) ((A x)))\n";
     let meeting = Place::meeting(1, &[0]);
-    for (text, before, after) in [
-        (none, [1, 255], [1, 255]),
-        (none, [255, 1], [255, 1]),
-        (none, [1, 1], [1, 1]),
-        (one, [255, 1], [0, 1]),
-        (one, [0, 1], [0, 1]),
-    ] {
+    for (text, before, after) in
+        [(none, [1, 255], [1, 255]), (none, [255, 1], [255, 1]), (none, [1, 1], [1, 1]), (one, [255, 1], [0, 1]), (one, [0, 1], [0, 1])]
+    {
         let l = put_to(report, text, lent(&[1, 1], 0, before, 0), meeting, Answer::Kept);
         report.check(carried_objects(&l) == after, || format!("{before:?} becomes {:?}, not {after:?}:\n{text}", carried_objects(&l)));
     }
