@@ -64,7 +64,9 @@ fn office() -> String {
 
 /// A course text: integrity levels of processes and objects, after the EON paper's model of Vista.
 fn integrity() -> String {
-    let mut t = String::from("(state P)\n(state Low)\n(state Med)\n(state High)\n(state Fell)\n(rel Obj 1)\n(rel ByMed 0)\n(rel ByHigh 0)\n(rel Geq 2)\n(rel Write 2)\n(rel Execute 2)\n");
+    let mut t = String::from(
+        "(state P)\n(state Low)\n(state Med)\n(state High)\n(rel Obj 1)\n(rel ByMed 0)\n(rel ByHigh 0)\n(rel Geq 2)\n(rel Write 2)\n(rel Execute 2)\n",
+    );
     for s in ["Low", "Med", "High"] {
         write!(t, "(new ({s}))\n(rule (Obj x) ({s} x))\n").unwrap();
     }
@@ -72,11 +74,11 @@ fn integrity() -> String {
         "(next x (P) () (Obj x))\n(rule (ByMed) (P x) (Med x))\n(rule (ByMed) (ByHigh))\n(rule (ByHigh) (P x) (High x))\n\
          (next y (Low) (Med) (Med y) (ByMed))\n(next y (Med) (High) (High y) (ByHigh))\n(next y (Low) (High) (High y) (ByHigh))\n\
          (next y (Med) (Low) (Low y) (not (P y)) (ByMed))\n(next y (High) (Low) (Low y) (not (P y)) (ByHigh))\n\
-         (next y (High) (Med) (Med y) (not (P y)) (ByHigh))\n(next x (Med Fell) (High) (High x) (P x))\n\
-         (next x (Low Fell) (High) (High x) (P x))\n(next x (Low) (Med) (Med x) (P x))\n(rule (Geq x y) (High x) (Obj y))\n\
+         (next y (High) (Med) (Med y) (not (P y)) (ByHigh))\n(next x (Med) (High) (High x) (P x))\n\
+         (next x (Low) (High) (High x) (P x))\n(next x (Low) (Med) (Med x) (P x))\n(rule (Geq x y) (High x) (Obj y))\n\
          (rule (Geq x y) (Med x) (Med y))\n(rule (Geq x y) (Med x) (Low y))\n(rule (Geq x y) (Low x) (Low y))\n\
          (rule (Write x y) (P x) (Geq x y))\n(rule (Execute x y) (P x) (Geq y x))\n\
-         (ask ((Low x) (Write x y)) ((Med z) (Fell z) (Execute z y)))\n",
+         (ask ((Low x) (Write x y)) ((High z)) ((Med z) (Execute z y)))\n",
     );
     t
 }
