@@ -99,17 +99,18 @@ module _ (m : Model) (n : ℕ) (ns ns′ ns″ : List ℕ) where
         before = λ x l. w .before x (omega arith) ∙ h .before x l;
       }
 
+-- WHAT HOLDS OF EACH CELL of the carried variables
+pub each-cell : (P : ℕ → Type 0) → P 0 → P 1 → (v : ℕ) → v < limit.carried → P v
+each-cell P a b zero l = a
+each-cell P a b (suc zero) l = b
+each-cell P a b (suc (suc v)) l = absurd (omega arith)
+
 -- the carried variables, each in its cell
 pub carried-row : (m : Model) → WellFormed m → (ns : List ℕ) → getD ns 2 0 ≡ getD (m .carried) 0 0 → getD ns 3 0 ≡ getD (m .carried) 1 0 → (v : ℕ) → v < limit.carried → getD ns (2 + v) 0 ≡ carriedAt m v
-carried-row m w ns a b v h = go v h ∙ ap (λ (l : List ℕ). getD l 0 0) (sym (drop-cons (m .carried) v 0 there) ∙ drop-cons (m .carried) v limit.none there)
+carried-row m w ns a b v h = each-cell (λ (u : ℕ). getD ns (2 + u) 0 ≡ getD (m .carried) u 0) a b v h ∙ ap (λ (l : List ℕ). getD l 0 0) (sym (drop-cons (m .carried) v 0 there) ∙ drop-cons (m .carried) v limit.none there)
   where
     there : v < length (m .carried)
     there = let e = carried-cells m w in omega arith
-
-    go : (v : ℕ) → v < limit.carried → getD ns (2 + v) 0 ≡ getD (m .carried) v 0
-    go zero l = a
-    go (suc zero) l = b
-    go (suc (suc v)) l = absurd (omega arith)
 
 -- the counts, then the stages, then the clauses
 pub numbered : (m : Model) → WellFormed m → (ns ns′ ns″ : List ℕ) → 552 ≤ length ns → getD ns 0 0 ≡ m .clausecount → getD ns 1 0 ≡ m .stagecount → ((v : ℕ) → v < limit.carried → getD ns (2 + v) 0 ≡ carriedAt m v)
