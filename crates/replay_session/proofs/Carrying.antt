@@ -9,7 +9,7 @@ use native.Mathlib.Omega.{arith}
 use native.Mathlib.Nat.{suc-inj}
 use borrow.Author.Tests.{eqb-true, eq-eqb, ne-eqb}
 use lib.Dec.{eqb}
-use lib.ListN.{length, getD}
+use lib.ListN.{length, getD, replicate}
 use Rattle.limits.specs.Limits as limit
 use Rattle.semantics.specs.Models.{elem, Body, Question, vars, shared, carriers}
 use Rattle.semantics.specs.Runs.{named}
@@ -38,6 +38,12 @@ empty-cell : (n v : ℕ) → getD (padded n []) v limit.none ≡ limit.none
 empty-cell zero v = refl
 empty-cell (suc n) zero = refl
 empty-cell (suc n) (suc v) = empty-cell n v
+
+-- nobody stands for a variable where nobody is carried
+pub nobody-carried : (cs : List ℕ) (n x : ℕ) → carriedFor cs (replicate n limit.none) x ≡ none
+nobody-carried [] n x = refl
+nobody-carried (c ∷ cs) zero x = refl
+nobody-carried (c ∷ cs) (suc n) x = ⊎-elim (λ (q : eqb x c ≡ true). rw q) (λ (q : eqb x c ≡ false). rw q (nobody-carried cs n x)) (either (eqb x c))
 
 -- WHO STANDS FOR A VARIABLE is in its cell
 for-cell : (n : ℕ) (cs held : List ℕ) (x d : ℕ) → length cs ≤ n → carriedFor cs held x ≡ some d → (v : ℕ) × (v < n) × (getD (padded n cs) v limit.none ≡ x) × (getD held v 0 ≡ d) × (d ≢ limit.none)
