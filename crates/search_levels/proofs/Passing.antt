@@ -120,6 +120,11 @@ module _ (S w literals ways : List ℕ) (t : Meeting) (A : ℕ → ℕ → Bool)
       λ q. (z .1 (q .0, hoped e q), q .1),
     ))
 
+  -- where nobody is led there is no pair
+  pub paired-empty : (led : List ℕ) → Has led (λ e. Led ways t A e f) → Empty led true → Has led Paired
+  paired-empty led l z = record { bits = λ e g. ((λ q. clash q (z .none refl e)), λ q. l .bits e g .1 (q .0)) }
+
+  -- and none where the stage does not hold
   pub paired-none : ((e : ℕ) → Met S w literals t e f → ⊥) → Has (replicate 16 0) Paired
   paired-none h = has-nothing Paired (λ e l q. h e (q .1))
 

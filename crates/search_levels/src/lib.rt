@@ -170,15 +170,15 @@ fn onward(ways: &[u8], a: Walker, row: [u8; 16]) -> [u8; 16]
 }
 
 // The slots that the first object has on level k with those from which the second one goes to slot f.
-fn gathered(ways: &[u8], a: Walker, rows: &[u8], k: usize, f: usize) -> [u8; 16]
+fn gathered(ways: &[u8], b: Walker, rows: &[u8], k: usize, f: usize) -> [u8; 16]
     requires { ⌜ (length (now ways) ≡ 2048) × (length (now rows) ≡ 10240) × (k < 5) × (f < 128) ⌝ }
-    ensures { λ r. ⌜ Has r (λ u. Onward (now (ways .entry)) (a .stands) (a .chosen) (λ v. pairAt (now (rows .entry)) k u v ≡ true) f) ⌝ }
+    ensures { λ r. ⌜ Has r (λ u. Onward (now (ways .entry)) (b .stands) (b .chosen) (λ v. pairAt (now (rows .entry)) k u v ≡ true) f) ⌝ }
 {
     let at = SLOTS * k;
-    if !a.stands {
+    if !b.stands {
         return facts_bits::row(rows, at + f);
     }
-    if a.chosen {
+    if b.chosen {
         return union(rows, at, column(ways, f));
     }
     facts_bits::row(rows, at)
@@ -241,6 +241,9 @@ fn next_row(
     ensures { λ r. ⌜ Over (now (work .entry)) n (λ S. Has r (λ e. Led (now (ways .entry)) t (pairAt (now (rows .entry)) k) e f × Met S (now (work .entry)) (now (literals .entry)) t e f)) ⌝ }
 {
     let pairs = led(ways, t, rows, k, f);
+    if facts_bits::empty(pairs) {
+        return pairs;
+    }
     let row = facts_bits::both(pairs, able);
     if !t.second.stands {
         return row;
@@ -307,13 +310,13 @@ fn asked(stage: Stage, carried: [u32; 2], first: bool, second: bool) -> Meeting
 }
 
 // Whether the variable stood in a stage before the next one.
-fn after(a: Walker) -> bool
-    ensures { λ r. ⌜ r ≡ (a .chosen || a .stands) ⌝ }
+fn after(w: Walker) -> bool
+    ensures { λ r. ⌜ r ≡ (w .chosen || w .stands) ⌝ }
 {
-    if a.chosen {
+    if w.chosen {
         return true;
     }
-    a.stands
+    w.stands
 }
 
 // The levels of a question over the found states, where `ways` has who can come from which slot to which.

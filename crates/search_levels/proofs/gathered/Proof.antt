@@ -14,7 +14,7 @@ row-requires : tie.Need-row-requires
 row-requires c κs = search needs
 
 returns : tie.Need-returns
-returns c = let s = c .before .before .before .before .before in let a = s .args in rw (not-true (a .a .stands) (c .before .if1 .taken)) (gathered-same (a .ways .now) (a .rows .now) (a .k) (a .f) (s .pre .3) (a .a .chosen) (c .row .result) (c .row .ensures))
+returns c = let s = c .before .before .before .before .before in let a = s .args in rw (not-true (a .b .stands) (c .before .if1 .taken)) (gathered-same (a .ways .now) (a .rows .now) (a .k) (a .f) (s .pre .3) (a .b .chosen) (c .row .result) (c .row .ensures))
 
 column-requires : tie.Need-column-requires
 column-requires c κs = search needs
@@ -23,13 +23,13 @@ union-requires : tie.Need-union-requires
 union-requires c κs = search needs
 
 returns-2 : tie.Need-returns-2
-returns-2 c = let s = c .before .before .before .before .before .before .before in let a = s .args in rw (not-false (a .a .stands) (c .before .before .before .if1 .left), c .before .before .if2 .taken) (gathered-led (a .ways .now) (a .rows .now) (a .k) (a .f) (s .pre .3) (c .before .column .result) (c .union .result) (c .before .column .ensures) (c .union .ensures))
+returns-2 c = let s = c .before .before .before .before .before .before .before in let a = s .args in rw (not-false (a .b .stands) (c .before .before .before .if1 .left), c .before .before .if2 .taken) (gathered-led (a .ways .now) (a .rows .now) (a .k) (a .f) (s .pre .3) (c .before .column .result) (c .union .result) (c .before .column .ensures) (c .union .ensures))
 
 row-requires-2 : tie.Need-row-requires-2
 row-requires-2 c κs = search needs
 
 returns-3 : tie.Need-returns-3
-returns-3 c = let s = c .before .before .before .before .before .before in let a = s .args in rw (not-false (a .a .stands) (c .before .before .if1 .left), c .before .if2 .left) (gathered-first (a .ways .now) (a .rows .now) (a .k) (a .f) (s .pre .3) (c .row2 .result) (c .row2 .ensures))
+returns-3 c = let s = c .before .before .before .before .before .before in let a = s .args in rw (not-false (a .b .stands) (c .before .before .if1 .left), c .before .if2 .left) (gathered-first (a .ways .now) (a .rows .now) (a .k) (a .f) (s .pre .3) (c .row2 .result) (c .row2 .ensures))
 
 pub gathered-spec : {M : Type 1} → statement M
 gathered-spec =
