@@ -199,7 +199,8 @@ fn back(
     let k = p.level - 1;
     let first = p.first;
     let second = p.second;
-    let n = s.count as u32;
+    let one = s.count as u32;
+    let two = one + 1;
     let q = previous(rows, ways, m, k, first, second);
     let met = witness_meetings::meet(run, work, slots, m, s, k, first, second, p.at);
     let then = errand(
@@ -213,10 +214,23 @@ fn back(
         k,
         q.second,
         second,
-        n + 1,
+        two,
         met,
     );
-    let at = errand(run, work, m, s, table, steps, 0, k, q.first, first, n, then);
+    let at = errand(
+        run,
+        work,
+        m,
+        s,
+        table,
+        steps,
+        0,
+        k,
+        q.first,
+        first,
+        one,
+        then,
+    );
     Stand {
         level: k,
         first: q.first,

@@ -21,8 +21,11 @@ room c = let p = c .pre in let a = c .args in behind-index (a .m) (a .work .now)
 sub-k : tie.Need-sub-k
 sub-k c = search needs
 
-cast-n : tie.Need-cast-n
-cast-n c = let few = c .before .before .before .before .before .before .before .before .before .pre .0 .known .proper .count in search needs
+cast-one : tie.Need-cast-one
+cast-one c = let few = c .before .before .before .before .before .before .before .before .before .pre .0 .known .proper .count in search needs
+
+add-two : tie.Need-add-two
+add-two c = let few = c .before .before .before .before .before .before .before .before .before .pre .0 .known .proper .count in record { fits = omega arith }
 
 previous-requires : tie.Need-previous-requires
 previous-requires c κs =
@@ -44,9 +47,6 @@ meet-requires c κs =
       came-met (a .m) (a .work .now) (a .s) (a .rows .now) (a .table .now) (a .steps .now) (a .ways .now) (p .0) (a .p .level - 1) (a .p .first) (a .p .second) (h .level) (h .sits),
       omega (arith, room b, p .3),
     )
-
-add-errand : tie.Need-add-errand
-add-errand c = let few = c .before .before .before .before .before .before .before .before .before .before .before .before .before .before .before .pre .0 .known .proper .count in record { fits = omega arith }
 
 errand-requires : tie.Need-errand-requires
 errand-requires c κs =
@@ -113,10 +113,10 @@ back-spec =
     tie.close
     (tie.spec
     sub-k
-    cast-n
+    cast-one
+    add-two
     previous-requires
     meet-requires
-    add-errand
     errand-requires
     errand-requires-2
     same-length
