@@ -270,8 +270,8 @@ module _ (n : ℕ) (D : Declared) (P : Program) (Q : Question) (m : Model) (s : 
     stages = rw (r .stages) (s .question .stages);
     stage = good-stage;
     safely = rw (r .question) (s .question .safe);
-    carries = rw (r .question, r .carried) (s .question .carries);
-    carried = rw (r .question, r .carried) (s .question .carried);
+    carries = rw (r .question) (s .question .carries);
+    carried = rw (r .question) (r .carried);
     lines = rw (r .lines) (s .most);
     literalcount = r .literalcount;
     codes = r .codes;
