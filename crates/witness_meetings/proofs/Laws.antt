@@ -7,7 +7,6 @@ use mathlib.Core.Option.{Option, some}
 use Prim.Native.Nat.{ℕ, zero, suc, _+_, _*_, _≤_, _<_}
 use native.Mathlib.Omega.{arith}
 use borrow.Author.Tests.{eq-eqb, ne-eqb}
-use lib.Dec.{eqb}
 use lib.ListN.{set, getD, length-map}
 use Rattle.limits.specs.Limits as limit
 use Rattle.semantics.specs.Models.{elem, Body, vars, names, supported, Supported}
@@ -58,13 +57,6 @@ meeting-number k n a b d c h (ea, la) (eb, lb) (ed, ld) = rw (← ea, ← eb, �
   where
     parts : (k a b d : ℕ) → k < limit.atomic → a < 256 → b < 256 → d < 256 → numeral (Meeting (k + 1) a b d) ≡ 2147483648 + suc k * 16777216 + a * 65536 + b * 256 + d
     parts k a b d h la lb ld = omega arith
-
--- no variable is fixed, and nothing is asked
-pub free-chosen : (x : ℕ) → chosen (record { first = 255; second = 255; third = 255 }) x ≡ 255
-free-chosen x = ⊎-elim (λ (q : eqb x 0 ≡ true). rw q) (λ (q : eqb x 0 ≡ false). rw q (⊎-elim (λ (p : eqb x 1 ≡ true). rw p) (λ (p : eqb x 1 ≡ false). rw p) (either (eqb x 1)))) (either (eqb x 0))
-
-pub free-fixed : (n : ℕ) (σ : ℕ → ℕ) → Fixed n (record { first = 255; second = 255; third = 255 }) σ
-free-fixed n σ x l h = absurd (h (free-chosen x))
 
 -- STAGE k of a well-formed model, with names of its own for its variables
 module _ (m : Model) (wf : WellFormed m) (k : ℕ) (here : k < m .stagecount) where

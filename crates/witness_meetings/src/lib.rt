@@ -135,11 +135,7 @@ pub fn meet(
 {
     let stage = m.stages[k];
     let n = s.count;
-    let free = Choice {
-        first: facts_find::FREE,
-        second: facts_find::FREE,
-        third: facts_find::FREE,
-    };
+    let free = facts_holds::free();
     let fixed = name_both(m, k, first, second, free);
     let c = choose(work, slots, m, s, k, fixed);
     let objects = name_both(m, k, n, n + 1, c);

@@ -1,6 +1,6 @@
 use native.Mathlib.Omega.{arith}
 use Rattle.model.specs.Records.{numberIn, stageAt}
-use Rattle.witness_meetings.proofs.Laws.{free-fixed, shows-body, few-variables, both-fixed, objects-small, meeting-written}
+use Rattle.witness_meetings.proofs.Laws.{shows-body, few-variables, both-fixed, objects-small, meeting-written}
 use borrow.Author.Needs.{needs}
 use Rattle.witness_meetings.proofs.meet.Statement.{statement}
 use Rattle.witness_meetings.proofs.meet.Tie as tie
@@ -11,12 +11,15 @@ mul-stage c = search needs
 element-copy-out-stage : tie.Need-element-copy-out-stage
 element-copy-out-stage c = search needs
 
+free-requires : tie.Need-free-requires
+free-requires c κs = search needs
+
 name-both-requires : tie.Need-name-both-requires
 name-both-requires c κs = search needs
 
 choose-requires : tie.Need-choose-requires
 choose-requires c κs =
-    let b = c .before .before .before .before .before in
+    let b = c .before .before .before .before .before .before in
     let p = b .pre in
     let a = b .args in
     let σ = p .3 .0 in (
@@ -26,7 +29,7 @@ choose-requires c κs =
       (
         (λ x. σ (numberIn (stageAt (a .t4) (a .k)) x)),
         shows-body (a .t4) (a .work .now) (a .s) (p .0) (a .k) (p .2) σ (p .3 .1),
-        both-fixed (a .t4) (a .work .now) (a .s) (p .0) (a .k) (p .2) (a .first) (a .second) _ _ (c .name-both .ensures) σ (p .3 .2) (free-fixed _ _),
+        both-fixed (a .t4) (a .work .now) (a .s) (p .0) (a .k) (p .2) (a .first) (a .second) _ _ (c .name-both .ensures) σ (p .3 .2) (λ x l n. absurd (n (c .before .free .ensures x))),
       ),
     )
 
@@ -41,7 +44,7 @@ cast-number c = search needs
 
 number-requires : tie.Need-number-requires
 number-requires c κs =
-    let b = c .before .before .before .before .before .before .before .before in
+    let b = c .before .before .before .before .before .before .before .before .before in
     let p = b .pre in
     let a = b .args in
     let four = p .0 .model .stages in
@@ -52,20 +55,20 @@ number-requires c κs =
     )
 
 mul-run : tie.Need-mul-run
-mul-run c = search needs
+mul-run c = let b = c .before .before .before .before .before .before .before .before .before .before in record { fits = omega (arith, b .pre .4) }
 
 slice-write-run : tie.Need-slice-write-run
 slice-write-run c = search needs
 
 add-result : tie.Need-add-result
-add-result c = search needs
+add-result c = let b = c .before .before .before .before .before .before .before .before .before .before in record { fits = omega (arith, b .pre .4) }
 
 same-length : tie.Need-same-length
 same-length c = search needs
 
 returns : tie.Need-returns
 returns c =
-    let b = c .before .before .before .before .before .before .before .before .before in
+    let b = c .before .before .before .before .before .before .before .before .before .before in
     let p = b .pre in
     let a = b .args in
     let d = c .before .before .before .choose .ensures in
@@ -77,6 +80,7 @@ meet-spec =
     (tie.spec
     mul-stage
     element-copy-out-stage
+    free-requires
     name-both-requires
     choose-requires
     add-name-both
