@@ -104,7 +104,7 @@ Explains m s p r = (Allowed (programOf m) (questionOf m) (sessionOf m s) p → �
 abbrev pub Swapped : Stage → ℕ → ℕ → Choice → Type 0
 Swapped g number carried c = (carried ≢ limit.none) × ((x : ℕ) × (x < g .variables) × (numberIn g x ≡ number) × (chosen c x ≢ carried))
 
--- the same of some cell of the carried objects: the numbers 2 and on of a model's row are the carried variables
+-- the choice has another object than the carried one for some carried variable, which the row of a model has from number 2 on
 abbrev pub AnySwapped : List ℕ → Stage → List ℕ → Choice → Type 0
 AnySwapped ns g carried c = (v : ℕ) × (v < limit.carried) × Swapped g (getD ns (2 + v) 0) (getD carried v 0) c
 

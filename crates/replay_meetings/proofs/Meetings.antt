@@ -29,7 +29,7 @@ use Rattle.replay_session.specs.declared.Position.{Position}
 use Rattle.replay_session.specs.declared.Session.{Session}
 use Rattle.replay_session.specs.Sessions.{sessionIn, carriedIn, carriedBy, met}
 use Rattle.replay_session.specs.Records.{sessionOf}
-use Rattle.replay_session.proofs.Carrying.{stands-cell, cell-stands, carried-cells}
+use Rattle.replay_session.proofs.Carrying.{stands-cell, cell-stands, carried-left}
 use Rattle.replay_numbers.specs.Numbers.{stagePlace, stageFrom, Numbered}
 use Rattle.replay_view.specs.declared.View.{View}
 use Rattle.replay_steps.specs.Tries.{Plain, Ready, Open, Holding, Tried}
@@ -191,7 +191,7 @@ module _ (m : Model) (s : Session) (v : View) (w : List ℕ) (ready : Ready m s 
           (has (r .0) (r .1))
 
       carried-after : (after : List ℕ) → AllCarried (s .carried) held after → after ≡ carriedBy (carriers (questionOf m)) (getD (questionOf m) (s .met) []) os (s .carried)
-      carried-after after (long, each) = carried-cells m (ready .accepted) s (ready .cells) (s .met) os after long
+      carried-after after (long, each) = carried-left m (ready .accepted) s (ready .cells) (s .met) os after long
           (λ v l. each v l ∙ subst (λ (body : Body). carriedOn (carriedIn s v) (getD held v 0) ≡ cond (elem (carriedAt m v) (vars body)) (named body os (carriedAt m v)) (carriedIn s v)) (sym here) (⊎-elim
           (λ f. rw (f .0, ne-eqb (getD held v 0) 255 (f .2)) (sym (f .1)))
           (λ f. rw (f .0, eq-eqb (getD held v 0) 255 (f .1)))

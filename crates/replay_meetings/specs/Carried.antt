@@ -24,12 +24,14 @@ Agrees c o = (c ≢ limit.none) → (o ≢ limit.none) → o ≡ c
 abbrev pub carriedOn : ℕ → ℕ → ℕ
 carriedOn c o = cond (eqb o limit.none) c o
 
--- the same of all cells: the numbers 2 and on of a model's row are the carried variables
+-- os are the objects that the choice has for the carried variables, which the row of a model has from number 2 on
 abbrev pub AllNamed : List ℕ → Stage → Choice → List ℕ → Type 0
 AllNamed ns g c os = (v : ℕ) → v < limit.carried → Named g (getD ns (2 + v) 0) c (getD os v 0)
 
+-- each of the objects os may be met where those of cs are carried
 abbrev pub AllAgree : List ℕ → List ℕ → Type 0
 AllAgree cs os = (v : ℕ) → v < limit.carried → Agrees (getD cs v 0) (getD os v 0)
 
+-- left are the carried objects afterwards
 abbrev pub AllCarried : List ℕ → List ℕ → List ℕ → Type 0
 AllCarried cs os left = (length left ≡ limit.carried) × ((v : ℕ) → v < limit.carried → getD left v 0 ≡ carriedOn (getD cs v 0) (getD os v 0))

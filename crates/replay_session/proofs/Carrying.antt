@@ -121,7 +121,7 @@ module _ (m : Model) (w : WellFormed m) where
   cell v = ap (λ (l : List ℕ). getD l v limit.none) (w .carried)
 
   -- 255 is no variable of a stage
-  pub none-absent : (i : ℕ) → elem limit.none (vars (getD (questionOf m) i [])) ≡ false
+  none-absent : (i : ℕ) → elem limit.none (vars (getD (questionOf m) i [])) ≡ false
   none-absent i = ⊎-elim (λ q. absurd (let l = stands-below m w i limit.none q in omega arith)) (λ q. q) (either (elem limit.none (vars (getD (questionOf m) i []))))
 
   module _ (s : Session) (cells : length (s .carried) ≡ limit.carried) where
@@ -134,10 +134,10 @@ module _ (m : Model) (w : WellFormed m) where
         (λ u q. sym (carried-differ m w v u l (carried-own m w v i e) (sym (cell u ∙ q))))
 
     -- the objects that are carried after the meeting of stage i, where each cell has its own
-    pub carried-cells : (i : ℕ) (os left : List ℕ) → length left ≡ limit.carried
+    pub carried-left : (i : ℕ) (os left : List ℕ) → length left ≡ limit.carried
         → ((v : ℕ) → v < limit.carried → getD left v 0 ≡ cond (elem (carriedAt m v) (vars (getD (questionOf m) i []))) (named (getD (questionOf m) i []) os (carriedAt m v)) (carriedIn s v))
         → left ≡ carriedBy (carriers (questionOf m)) (getD (questionOf m) i []) os (s .carried)
-    carried-cells i os left long each = by-cells limit.carried (carriers (questionOf m)) (getD (questionOf m) i []) os (s .carried) left (w .carries) cells long (none-absent i)
+    carried-left i os left long each = by-cells limit.carried (carriers (questionOf m)) (getD (questionOf m) i []) os (s .carried) left (w .carries) cells long (none-absent i)
         (λ v l. each v l ∙ ap (λ (c : ℕ). cond (elem c (vars (getD (questionOf m) i []))) (named (getD (questionOf m) i []) os c) (carriedIn s v)) (cell v))
 
     -- who stands for a variable after the meeting
