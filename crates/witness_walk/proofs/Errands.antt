@@ -19,7 +19,7 @@ use Rattle.model.specs.Records.{programOf}
 use Rattle.model.specs.WellFormed.{WellFormed}
 use Rattle.model.specs.Places.{numberOf, numeral, Numerable}
 use Rattle.search_states.specs.declared.States.{States}
-use Rattle.search_states.specs.States.{row, by, from, Proper}
+use Rattle.search_states.specs.States.{row, by, from, Proper, Discovered}
 use Rattle.search_states.proofs.Laws.{length-row}
 use Rattle.search_ways.specs.Shortest.{Shortest}
 use Rattle.witness_table.specs.Runs.{AllNumerable, backwards}
@@ -27,7 +27,7 @@ use Rattle.witness_table.proofs.Laws.{backwards-none, backwards-more}
 use Rattle.witness_lineage.specs.Lineage.{linesTo, making}
 use Rattle.witness_lineage.proofs.Laws.{small-line}
 use Rattle.witness_lineage.proofs.Making.{length-places, numerable-making}
-use Rattle.witness_meetings.specs.Meetings.{Known, Written}
+use Rattle.witness_meetings.specs.Meetings.{Written}
 use Rattle.witness_walk.specs.Walk.{Ready, Errand, effort}
 
 -- the steps of a way have numbers
@@ -75,8 +75,8 @@ module _ (m : Model) (wf : WellFormed m) (s : States) (proper : Proper s) (e t o
       count = length-places o (take n lines) ∙ length-take-le n lines long
 
 -- the making of a state takes at most one step for each state
-pub making-few : (m : Model) (s : States) (w : List ℕ) → Known m w s → (e : ℕ) → e < s .count → length (linesTo m s e) ≤ s .count
-making-few m s w known e inside = omega (arith, length-lineage (programOf m) (row s) (by s) (from s) (known .found) (suc e) e (omega arith) (omega (arith, length-row s (known .proper))))
+pub making-few : (m : Model) (s : States) → Proper s → Discovered (programOf m) s → (e : ℕ) → e < s .count → length (linesTo m s e) ≤ s .count
+making-few m s proper found e inside = omega (arith, length-lineage (programOf m) (row s) (by s) (from s) found (suc e) e (omega arith) (omega (arith, length-row s proper)))
 
 -- AN ERRAND IS WRITTEN
 module _ (m : Model) (s : States) (o u e : ℕ) where
@@ -85,13 +85,13 @@ module _ (m : Model) (s : States) (o u e : ℕ) where
   stay-written began run at = record { places = []; good = refl; few = omega arith; numerable = tt; written = sym (backwards-none run at); index = omega arith }
 
   -- the making of the object
-  pub making-written : (w : List ℕ) → Known m w s → e < s .count → o < limit.objects → (run run′ : List ℕ) (at at′ : ℕ) → at′ ≡ at + length (making m s o e) → run′ ≡ backwards run at (making m s o e)
+  pub making-written : WellFormed m → Proper s → Discovered (programOf m) s → e < s .count → o < limit.objects → (run run′ : List ℕ) (at at′ : ℕ) → at′ ≡ at + length (making m s o e) → run′ ≡ backwards run at (making m s o e)
       → Written (Errand m s o true false u e) (effort (s .count) true false) run at run′ at′
-  making-written w known inside small run run′ at at′ i q = record {
+  making-written wf proper found inside small run run′ at at′ i q = record {
     places = making m s o e;
     good = refl;
-    few = omega (arith, length-places o (linesTo m s e), making-few m s w known e inside);
-    numerable = numerable-making m (known .model) s (known .proper) (known .found) e o small inside;
+    few = omega (arith, length-places o (linesTo m s e), making-few m s proper found e inside);
+    numerable = numerable-making m wf s proper found e o small inside;
     written = q;
     index = i;
   }

@@ -9,13 +9,14 @@ ghost use Prim.Native.Nat.{ℕ, _+_, _-_, _*_, _≤_, _<_};
 ghost use lib.ListN.{length, take};
 ghost use Rattle.limits.specs.Limits as limit;
 ghost use Rattle.semantics.specs.Building.{places, with};
+ghost use Rattle.model.specs.Records.{programOf};
 ghost use Rattle.model.specs.WellFormed.{WellFormed};
 ghost use Rattle.facts_candidates.specs.Choices.{Own};
-ghost use Rattle.search_states.specs.States.{Proper};
+ghost use Rattle.search_states.specs.States.{Proper, Discovered};
 ghost use Rattle.search_ways.specs.Shortest.{Says};
 ghost use Rattle.search_levels.specs.Levels.{holder, chosen, Moved};
 ghost use Rattle.witness_table.specs.Runs.{AllNumerable, backwards};
-ghost use Rattle.witness_meetings.specs.Meetings.{Known, Written};
+ghost use Rattle.witness_meetings.specs.Meetings.{Written};
 ghost use Rattle.witness_walk.specs.Walk.{Mapped, Recorded, Ready, Errand, effort, Sits, LeadsTo, Source, Behind, Walked};
 
 // The slots of the two carried objects; a slot says nothing as long as its variable stood in no stage.
@@ -99,7 +100,6 @@ fn lead(
 // Writes what the object of cell v does before stage k + 1 is met, the last step first, from index `at` on. Returns the index behind it.
 fn errand(
     run: &mut [u32],
-    work: &[u8],
     m: Model,
     s: States,
     table: &[u8],
@@ -111,7 +111,7 @@ fn errand(
     object: u32,
     at: usize,
 ) -> usize
-    requires { ⌜ Known m (now work) s × Mapped m s (now table) (now steps) × (v < limit.carried) × (k < m .stagecount) × Ready m s (holder m v k) (chosen m v k) from to × (object < limit.objects) × (at + s .count ≤ length (now run)) ⌝ }
+    requires { ⌜ WellFormed m × Proper s × Discovered (programOf m) s × Mapped m s (now table) (now steps) × (v < limit.carried) × (k < m .stagecount) × Ready m s (holder m v k) (chosen m v k) from to × (object < limit.objects) × (at + s .count ≤ length (now run)) ⌝ }
     ensures { λ r. ⌜ Written (Errand m s object (holder m v k) (chosen m v k) from to) (effort (s .count) (holder m v k) (chosen m v k)) (now (run .entry)) at (now (run .exit)) r ⌝ }
 {
     if !holds(m, v, k) {
@@ -203,34 +203,8 @@ fn back(
     let two = one + 1;
     let q = previous(rows, ways, m, k, first, second);
     let met = witness_meetings::meet(run, work, slots, m, s, k, first, second, p.at);
-    let then = errand(
-        run,
-        work,
-        m,
-        s,
-        table,
-        steps,
-        1,
-        k,
-        q.second,
-        second,
-        two,
-        met,
-    );
-    let at = errand(
-        run,
-        work,
-        m,
-        s,
-        table,
-        steps,
-        0,
-        k,
-        q.first,
-        first,
-        one,
-        then,
-    );
+    let then = errand(run, m, s, table, steps, 1, k, q.second, second, two, met);
+    let at = errand(run, m, s, table, steps, 0, k, q.first, first, one, then);
     Stand {
         level: k,
         first: q.first,

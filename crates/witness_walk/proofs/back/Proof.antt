@@ -58,7 +58,9 @@ errand-requires c κs =
     let q = c .before .before .before .before .before .previous in
     let t = c .before .before .before .meet .ensures in
     let long = written-length _ _ _ _ _ _ t in (
-      p .0 .known,
+      p .0 .known .model,
+      p .0 .known .proper,
+      p .0 .known .found,
       p .0 .mapped,
       omega arith,
       h .level,
@@ -79,7 +81,9 @@ errand-requires-2 c κs =
     let d = c .before .before .before .errand .ensures in
     let long = written-length _ _ _ _ _ _ t in
     let long-still = written-length _ _ _ _ _ _ d in (
-      p .0 .known,
+      p .0 .known .model,
+      p .0 .known .proper,
+      p .0 .known .found,
       p .0 .mapped,
       omega arith,
       h .level,
