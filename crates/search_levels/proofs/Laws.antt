@@ -15,8 +15,7 @@ use Rattle.semantics.specs.Tables.{Shows}
 use Rattle.semantics.specs.Walkers.{Whole, Comes, Stand, stood, Level, Passable}
 use Rattle.semantics.proofs.Tools.{clash, no-none}
 use Rattle.semantics.proofs.Bodies.{more-facts}
-use Rattle.semantics.proofs.WalkersComplete.{some-same}
-use Rattle.semantics.proofs.WalkersPairs.{level-named}
+use Rattle.semantics.proofs.WalkersComplete.{some-same, level-named}
 use Rattle.semantics.proofs.WalkersVerdict as verdicts
 use Rattle.model.specs.declared.Model.{Model}
 use Rattle.model.specs.Records.{programOf, questionOf, carriedAt}
