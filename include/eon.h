@@ -25,7 +25,7 @@
  * Numbers of refusals: 1 no bytes, or over 16,384; 2 a bad byte, or a last line without byte 10; 3 a line that has no shape;
  * 4 one declaration or clause too many; 5 a name declared again; 6 a name undeclared or of the wrong kind; 7 a wrong number of variables;
  * 8 `not` before a derived relation; 9 a variable only under `not` or only in the head, a fourth variable, one repeated in a rule's head;
- * 10 a line after `ask`, or no `ask`; 11 two or more carried variables; 12 a work area under EON_WORK bytes, or a table lent for writing
+ * 10 a line after `ask`, or no `ask`; 11 three or more carried variables; 12 a work area under EON_WORK bytes, or a table lent for writing
  * under EON_RUN places; 14 a run over EON_RUN places, or a state that has kept EON_RUN.
  * The first line is 1; the line is 0 for numbers 1, 12 and 14.
  *
@@ -55,9 +55,9 @@ extern "C" {
 
 /* The sizes that buffers need: bytes of the work area, places of a run table lent for writing, cells beside an answer, cells of a replay state. */
 #define EON_WORK 32768
-#define EON_RUN 8640
+#define EON_RUN 9344
 #define EON_OUT 130
-#define EON_SESSION 259
+#define EON_SESSION 260
 
 /* The bytes that a hand-in has at most. */
 #define EON_HANDIN 262144
@@ -95,8 +95,10 @@ uint64_t eon_why(const uint8_t *text, size_t bytes, const uint32_t *run, size_t 
  * does not fit the text.
  *
  * session has EON_SESSION cells: 255 atomic states of the objects in order of creation, then the number of objects, the stages met,
- * the carried object (255 for none), and the number of places kept. The state before the first place has 255 for the carried object and 0 in
- * every other cell. It is updated if the place is kept, and left as it was after every other answer. */
+ * the first carried object, the second (each 255 for none), and the number of places kept. The carried variables are those that stand in two or more
+ * stages, in order of first appearance in the question, stage by stage; each gets its object at the first stage that has it, and the two may be one
+ * object. A cell that no carried variable uses has 255 or an object that was created, and stays. The state before the first place has 255 for both
+ * carried objects and 0 in every other cell. It is updated if the place is kept, and left as it was after every other answer. */
 uint64_t eon_place(const uint8_t *text, size_t bytes, uint32_t *session, uint32_t place, uint8_t *work, size_t work_bytes);
 
 /* Clause i of an accepted text, from 0: its line * 4, and 1 for a rule, 2 for a `new` line, 3 for a `next` line. 0 where the text has no such clause,

@@ -10,7 +10,10 @@ pub enum Spelling {
     Number,
 }
 
-const VARIABLES: [&str; 3] = ["X", "Y", "Z"];
+/// The variables of a body, and those of carried objects that the body does not speak of.
+const VARIABLES: [&str; 5] = ["X", "Y", "Z", "U", "V"];
+/// Where those of carried objects begin.
+const OTHERS: usize = 3;
 
 impl Spelling {
     /// The terms of a variable.
@@ -74,7 +77,43 @@ impl Spelling {
     }
 }
 
-/// The Datalog program of a model, with an atom for each level of the question and the carried object's state.
+/// The atom of a level: so many stages are met, and these are the terms of the carried objects that are chosen.
+fn level(s: Spelling, met: usize, chosen: &[usize]) -> String {
+    let terms: Vec<String> = chosen.iter().map(|&v| s.terms(v)).collect();
+    match terms.is_empty() {
+        true => format!("level{met}"),
+        false => format!("level{met}({})", terms.join(",")),
+    }
+}
+
+/// The carried variables that are chosen when so many stages are met, by their numbers among the carried ones.
+fn chosen(m: &Model, met: usize) -> Vec<usize> {
+    let stands = |c: &usize| m.stages[..met].iter().any(|s| s.variables.contains(&m.carried[*c]));
+    (0..m.carried.len()).filter(stands).collect()
+}
+
+/// The rules by which a `next` line changes each carried object of each level, the others staying what they are.
+fn walks(t: &mut String, m: &Model, s: Spelling, line: u32, after: &str, more: &str) {
+    for met in 0..m.stages.len() {
+        let carried = chosen(m, met);
+        for walker in 0..carried.len() {
+            let before: Vec<usize> = (0..carried.len()).map(|i| if i == walker { 0 } else { OTHERS + i }).collect();
+            let head: Vec<String> = before.iter().map(|&v| if v == 0 { after.to_string() } else { s.terms(v) }).collect();
+            let (head, from) = (head.join(","), level(s, met, &before));
+            writeln!(t, "level{met}({head}) :- {from}, can{line}({}){more}.", s.terms(0)).unwrap();
+        }
+    }
+}
+
+/// The rule by which a stage leads from a level to the next: the pair that met the stages before is the pair that meets this one.
+fn meeting(t: &mut String, m: &Model, s: Spelling, met: usize) {
+    let stage = &m.stages[met];
+    let seat = |c: &usize| stage.variables.iter().position(|&v| v == m.carried[*c]).unwrap_or(OTHERS + c);
+    let [before, after] = [met, met + 1].map(|k| chosen(m, k).iter().map(seat).collect::<Vec<usize>>());
+    writeln!(t, "{} :- {}, {}.", level(s, met + 1, &after), level(s, met, &before), s.body(&stage.body)).unwrap();
+}
+
+/// The Datalog program of a model, with an atom for each level of the question and the states of the carried objects.
 pub fn program(m: &Model, s: Spelling) -> String {
     let mut t = String::from("reach0.\ntrue(1).\nfalse(0).\n");
     if s == Spelling::Number {
@@ -97,38 +136,17 @@ pub fn program(m: &Model, s: Spelling) -> String {
                 let (after, more) = s.after(plus, minus);
                 writeln!(t, "can{}({}) :- {body}.", c.line, s.terms(0)).unwrap();
                 writeln!(t, "reach({after}) :- can{}({}){more}.", c.line, s.terms(0)).unwrap();
-                for k in 0..m.stages.len() {
-                    writeln!(t, "level{k}({after}) :- level{k}({}), can{}({}){more}.", s.terms(0), c.line, s.terms(0)).unwrap();
-                }
+                walks(&mut t, m, s, c.line, &after, &more);
             }
         }
     }
     t.push_str("level0.\n");
-    for (k, stage) in m.stages.iter().enumerate() {
-        let body = s.body(&stage.body);
-        match m.carried.and_then(|v| stage.variables.iter().position(|&w| w == v)) {
-            None => {
-                writeln!(t, "level{} :- level{k}, {body}.", k + 1).unwrap();
-                let own = if s == Spelling::Vector {
-                    (0..7).map(|i| format!("V{i}")).collect::<Vec<_>>().join(",")
-                } else {
-                    "V".to_string()
-                };
-                writeln!(t, "level{}({own}) :- level{k}({own}), {body}.", k + 1).unwrap();
-            }
-            Some(x) => {
-                writeln!(t, "level{}({}) :- level{k}, {body}.", k + 1, s.terms(x)).unwrap();
-                writeln!(t, "level{}({}) :- level{k}({}), {body}.", k + 1, s.terms(x), s.terms(x)).unwrap();
-            }
-        }
+    for met in 0..m.stages.len() {
+        meeting(&mut t, m, s, met);
     }
     let last = m.stages.len();
-    let any = if s == Spelling::Vector { s.terms(0) } else { "X".to_string() };
-    writeln!(
-        t,
-        "reached :- level{last}.\nreached :- level{last}({any}).\n#show reached/0.\n#show reach/{}.",
-        if s == Spelling::Vector { 7 } else { 1 }
-    )
-    .unwrap();
+    let some: Vec<usize> = (0..chosen(m, last).len()).collect();
+    let labels = if s == Spelling::Vector { 7 } else { 1 };
+    writeln!(t, "reached :- {}.\n#show reached/0.\n#show reach/{labels}.", level(s, last, &some)).unwrap();
     t
 }

@@ -39,7 +39,8 @@ pub struct Model {
     pub names: Vec<(String, Kind)>,
     pub clauses: Vec<Clause>,
     pub stages: Vec<Stage>,
-    pub carried: Option<usize>,
+    /// The variables that stand in two or more stages, in order of first appearance.
+    pub carried: Vec<usize>,
 }
 
 /// A form of the text: a word, or forms in brackets.
@@ -126,7 +127,7 @@ pub fn read(text: &[u8]) -> Model {
         names: Vec::new(),
         clauses: Vec::new(),
         stages: Vec::new(),
-        carried: None,
+        carried: Vec::new(),
     };
     let (mut states, mut relations, mut line) = (0, 0, 0);
     for bytes in text.split(|&b| b == b'\n').filter(|l| !l.is_empty()) {
@@ -152,13 +153,10 @@ pub fn read(text: &[u8]) -> Model {
                     let mut own = Vec::new();
                     let body = body(&m.names, &mut own, stage.items());
                     let variables: Vec<usize> = own.iter().map(|v| number(&mut all, v)).collect();
-                    for &v in &variables {
-                        if m.stages.iter().any(|s: &Stage| s.variables.contains(&v)) {
-                            m.carried = Some(v);
-                        }
-                    }
                     m.stages.push(Stage { body, variables });
                 }
+                let stands = |v: &usize| m.stages.iter().filter(|s| s.variables.contains(v)).count();
+                m.carried = (0..all.len()).filter(|v| stands(v) > 1).collect();
                 continue;
             }
             "rule" => {

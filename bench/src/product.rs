@@ -24,8 +24,8 @@ impl Buffers {
     pub fn new() -> Self {
         Buffers {
             work: vec![0; 32_768],
-            run: vec![0; 8_640],
-            stood: vec![0; 8_640],
+            run: vec![0; 9_344],
+            stood: vec![0; 9_344],
         }
     }
 

@@ -11,7 +11,7 @@ pub struct Run {
 }
 
 /// The most places of a run.
-const PLACES: usize = 8_640;
+const PLACES: usize = 9_344;
 /// The atomic state with all relations.
 const ALL: u32 = 127;
 

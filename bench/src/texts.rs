@@ -64,7 +64,9 @@ fn office() -> String {
 
 /// A course text: integrity levels of processes and objects, after the EON paper's model of Vista.
 fn integrity() -> String {
-    let mut t = String::from("(state P)\n(state Low)\n(state Med)\n(state High)\n(state Fell)\n(rel Obj 1)\n(rel ByMed 0)\n(rel ByHigh 0)\n(rel Geq 2)\n(rel Write 2)\n(rel Execute 2)\n");
+    let mut t = String::from(
+        "(state P)\n(state Low)\n(state Med)\n(state High)\n(rel Obj 1)\n(rel ByMed 0)\n(rel ByHigh 0)\n(rel Geq 2)\n(rel Write 2)\n(rel Execute 2)\n",
+    );
     for s in ["Low", "Med", "High"] {
         write!(t, "(new ({s}))\n(rule (Obj x) ({s} x))\n").unwrap();
     }
@@ -72,11 +74,11 @@ fn integrity() -> String {
         "(next x (P) () (Obj x))\n(rule (ByMed) (P x) (Med x))\n(rule (ByMed) (ByHigh))\n(rule (ByHigh) (P x) (High x))\n\
          (next y (Low) (Med) (Med y) (ByMed))\n(next y (Med) (High) (High y) (ByHigh))\n(next y (Low) (High) (High y) (ByHigh))\n\
          (next y (Med) (Low) (Low y) (not (P y)) (ByMed))\n(next y (High) (Low) (Low y) (not (P y)) (ByHigh))\n\
-         (next y (High) (Med) (Med y) (not (P y)) (ByHigh))\n(next x (Med Fell) (High) (High x) (P x))\n\
-         (next x (Low Fell) (High) (High x) (P x))\n(next x (Low) (Med) (Med x) (P x))\n(rule (Geq x y) (High x) (Obj y))\n\
+         (next y (High) (Med) (Med y) (not (P y)) (ByHigh))\n(next x (Med) (High) (High x) (P x))\n\
+         (next x (Low) (High) (High x) (P x))\n(next x (Low) (Med) (Med x) (P x))\n(rule (Geq x y) (High x) (Obj y))\n\
          (rule (Geq x y) (Med x) (Med y))\n(rule (Geq x y) (Med x) (Low y))\n(rule (Geq x y) (Low x) (Low y))\n\
          (rule (Write x y) (P x) (Geq x y))\n(rule (Execute x y) (P x) (Geq y x))\n\
-         (ask ((Low x) (Write x y)) ((Med z) (Fell z) (Execute z y)))\n",
+         (ask ((Low x) (Write x y)) ((High z)) ((Med z) (Execute z y)))\n",
     );
     t
 }
@@ -390,6 +392,51 @@ fn longest_run_full() -> String {
     t
 }
 
+/// The text whose shown run has 9,142 places: two objects that go a whole round of the counter between the stages.
+fn longest_run_of_pair() -> String {
+    let names = ["I", "J", "K", "L"];
+    let mut t = declared(&names, &[]);
+    cycle(&mut t, false);
+    for (name, n) in names.iter().zip([127, 126, 125, 124]) {
+        writeln!(t, "(rule ({name} x){})", is(n, "x")).unwrap();
+    }
+    writeln!(t, "(ask {})", names.map(|n| format!("(({n} x) ({n} y))")).join(" ")).unwrap();
+    t
+}
+
+/// A question of four stages that carry x and y, each with a third variable of its own.
+fn four_of_pair(t: &mut String, bodies: [String; 4]) {
+    t.push_str("(ask");
+    for (k, body) in bodies.iter().enumerate() {
+        write!(t, " ({})", body.trim_start().replace('z', &format!("z{k}"))).unwrap();
+    }
+    t.push_str(")\n");
+}
+
+/// A pair through four stages of eight literals over six full relations, so that each pair of states is followed.
+fn pair_full(find: impl Fn(&mut String)) -> String {
+    let mut t = declared(&["O"], &PAIRS);
+    find(&mut t);
+    full_relations(&mut t, 43);
+    four_of_pair(&mut t, [0, 1, 2, 3].map(|i| tangle(8, i, &PAIRS)));
+    t
+}
+
+/// The same over half-full relations, where the last stage holds for each two of its variables and never for all three.
+fn pair_never() -> String {
+    let mut t = declared(&["O"], &PAIRS);
+    all_states(&mut t);
+    every(&mut t, "O");
+    halves(&mut t, &["Q", "R", "S"], &["P", "T"]);
+    for i in 0..39 {
+        writeln!(t, "(rule (U x y){})", no_triangle(i)).unwrap();
+    }
+    let alike = ["Q", "R", "S"];
+    let [one, two, three] = [0, 1, 2].map(|i| tangle(8, i, &alike));
+    four_of_pair(&mut t, [one, two, three, no_triangle(0)]);
+    t
+}
+
 /// A text of 16,384 bytes: rules of eight literals with names and variables of 16 letters, then short lines that fill it up.
 fn longest_text() -> String {
     const SIZE: usize = 16_384;
@@ -426,6 +473,7 @@ pub fn all() -> Vec<Text> {
         text("64 clauses, 16 relations", office_block()),
         text("longest run", longest_run()),
         text("longest run, six full relations", longest_run_full()),
+        text("longest run of a pair", longest_run_of_pair()),
         text("one fact handed round", hand_round()),
         text("transitive closures", closures()),
         text("six full relations", six_full(all_states)),
@@ -436,6 +484,9 @@ pub fn all() -> Vec<Text> {
         text("carried last", carried_last(0)),
         text("carried last, 64 clauses", carried_last(38)),
         text("no pair, one at a time", slow_pairs()),
+        text("a pair, six full relations", pair_full(all_states)),
+        text("a pair, six full relations, slowly", pair_full(chained)),
+        text("a pair, never all three", pair_never()),
         text("chained, six full relations", chained_full()),
         text("chained, never all three", chained_never()),
         text("longest text", longest_text()),

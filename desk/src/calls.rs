@@ -7,7 +7,7 @@ pub const MODEL: usize = 16_385;
 pub const HANDIN: usize = 262_145;
 
 const WORK: usize = 32_768;
-const RUN: usize = 8_640;
+const RUN: usize = 9_344;
 const OUT: usize = 130;
 
 /// A refusal of the model: its number and line.
@@ -54,7 +54,7 @@ pub enum Reason {
     OtherStage,
     /// The stage has another number of variables.
     Variables,
-    /// The carried variable stands for another object already.
+    /// A carried variable stands for another object already.
     Carried,
     /// No objects make this literal true together with the plain ones, and those before it.
     Literal(usize),

@@ -100,7 +100,7 @@ fn unreadable(name: &str, bytes: &[u8], line: usize) -> String {
     let cure = if line == 1 {
         "The first line of a hand-in is yes or no."
     } else {
-        "After a yes come the places of a run, one a line: (step line object) and (meet stage object ..), with one space between items, numbers without leading zeros, objects up to 254, at most 8,640 places. After a no comes nothing."
+        "After a yes come the places of a run, one a line: (step line object) and (meet stage object ..), with one space between items, numbers without leading zeros, objects up to 254, at most 9,344 places. After a no comes nothing."
     };
     format!("unreadable: line {line} of {name}:\n  {shown}\n{cure}\n")
 }
@@ -110,14 +110,18 @@ fn broken(model: &Model, name: &str, handin: &[u8], first: usize, run: &[u32]) -
     let (stood, replay) = calls::replay(&model.bytes, run);
     let kept = stood.len();
     let (events, states) = story::tell(model, &run[..kept], &stood);
-    let met = events.iter().filter(|e| matches!(e, story::Event::Meeting(_))).count();
+    let met: Vec<&story::Meeting> = events
+        .iter()
+        .filter_map(|e| if let story::Event::Meeting(m) = e { Some(m) } else { None })
+        .collect();
     match replay {
         Replay::Kept => String::new(),
         Replay::Ends => format!(
-            "The run breaks at its end, after line {} of {name}: {met} stage{} met, and stage {} is left.\n{}",
+            "The run breaks at its end, after line {} of {name}: {} stage{} met, and stage {} is left.\n{}",
             first + kept - 1,
-            if met == 1 { " is" } else { "s are" },
-            met + 1,
+            met.len(),
+            if met.len() == 1 { " is" } else { "s are" },
+            met.len() + 1,
             reasons::objects(model, &states)
         ),
         Replay::Breaks { place, reason } => {
@@ -125,7 +129,7 @@ fn broken(model: &Model, name: &str, handin: &[u8], first: usize, run: &[u32]) -
             format!(
                 "The run breaks at line {line} of {name}:\n  {}\n{}{}",
                 readable(line_of(handin, line)),
-                reasons::why(model, run[place], reason, &states, met),
+                reasons::why(model, run[place], reason, &states, &met),
                 reasons::objects(model, &states)
             )
         }

@@ -2,7 +2,7 @@
 
 use crate::calls::{self, Reason};
 use crate::model::{readable, Model};
-use crate::story::{self, Place};
+use crate::story::{self, Meeting, Place};
 
 /// The objects at a moment, one a line.
 pub fn objects(model: &Model, states: &[u32]) -> String {
@@ -42,10 +42,29 @@ fn blamed(line: &[u8], object: usize, literal: &str) -> String {
     format!("Its literals have to hold of some objects, and {own}none make {literal} true together with {others}.")
 }
 
-/// What a place would do, and why it is not allowed there.
-pub fn why(model: &Model, number: u32, reason: Reason, states: &[u32], met: usize) -> String {
-    let (heading, line, part) = match story::place(number) {
-        Place::Step { line, object } => (format!("Object {object} would take line {line} of the model:"), line, 0),
+/// The variables of a stage that stand for other objects since earlier meetings.
+fn carried(line: &[u8], stage: usize, objects: &[usize], met: &[&Meeting]) -> String {
+    let since = |name: &String| {
+        met.iter().find_map(|m| {
+            let j = variables(line, m.stage).iter().position(|n| n == name)?;
+            Some((m.stage, *m.objects.get(j)?))
+        })
+    };
+    let others: Vec<String> = variables(line, stage)
+        .iter()
+        .zip(objects)
+        .filter_map(|(name, &object)| {
+            let (stage, chosen) = since(name).filter(|(_, chosen)| *chosen != object)?;
+            Some(format!("{name} is object {chosen} since stage {stage}"))
+        })
+        .collect();
+    format!("A variable that stands in two stages is one object in both: {}.", others.join(", "))
+}
+
+/// What a place would do, and why it is not allowed there, after the meetings before it.
+pub fn why(model: &Model, number: u32, reason: Reason, states: &[u32], met: &[&Meeting]) -> String {
+    let (heading, line, part, objects) = match story::place(number) {
+        Place::Step { line, object } => (format!("Object {object} would take line {line} of the model:"), line, 0, vec![object]),
         Place::Meeting { stage, objects } => {
             let names = variables(model.line(model.question()), stage);
             let with: Vec<String> = objects
@@ -58,7 +77,7 @@ pub fn why(model: &Model, number: u32, reason: Reason, states: &[u32], met: usiz
             } else {
                 format!(" with {}", with.join(", "))
             };
-            (format!("Stage {stage} of the question would be met{with}:"), model.question(), stage)
+            (format!("Stage {stage} of the question would be met{with}:"), model.question(), stage, objects)
         }
     };
     let text = readable(model.line(line));
@@ -68,7 +87,7 @@ pub fn why(model: &Model, number: u32, reason: Reason, states: &[u32], met: usiz
         Reason::NoLine => "It is no `new` and no `next` line, so no step takes it.".to_string(),
         Reason::NotNext => format!("Objects are numbered from 0 in order of creation, so the new one is object {}.", states.len()),
         Reason::NoObject => format!("There is no such object: {}.", numbers(states)),
-        Reason::OtherStage => format!("Stages are met in order, and the next one is stage {}.", met + 1),
+        Reason::OtherStage => format!("Stages are met in order, and the next one is stage {}.", met.len() + 1),
         Reason::Variables => {
             let names = variables(model.line(line), part);
             match names.len() {
@@ -80,7 +99,7 @@ pub fn why(model: &Model, number: u32, reason: Reason, states: &[u32], met: usiz
                 ),
             }
         }
-        Reason::Carried => "A variable that stands in two stages is one object in both, and an earlier meeting has another.".to_string(),
+        Reason::Carried => carried(model.line(line), part, &objects, met),
         Reason::Literal(k) => {
             let literal = calls::literal(model.line(line), part, k).map(readable).unwrap_or_default();
             match story::place(number) {

@@ -28,7 +28,10 @@ pub fn row(number: u32) -> (&'static str, &'static str) {
             "let each variable stand in a literal without `not`, and have at most three",
         ),
         10 => ("a line follows `ask`, or there is no `ask` line", "let `ask` be the last line"),
-        11 => ("two or more variables stand in more than one stage", "carry one variable from stage to stage"),
+        11 => (
+            "three or more variables stand in more than one stage",
+            "carry at most two variables from stage to stage",
+        ),
         _ => ("the program did not lend what the call needs", "report this"),
     }
 }

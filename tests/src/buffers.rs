@@ -1,12 +1,12 @@
 //! Buffers of every interesting size: row 12, the order of rows 1, 12 and 14, and what the buffers hold after the call.
 
-use crate::calls::{Answer, RUN, WORK};
+use crate::calls::{Answer, KEPT, RUN, WORK};
 use crate::cases::long_text;
 use crate::report::Report;
 use crate::subject::{fresh, Subject};
 
 const AREAS: [usize; 6] = [0, 1, WORK - 1, WORK, WORK + 1, 40_000];
-const TABLES: [usize; 6] = [0, 1, RUN - 1, RUN, RUN + 1, 9_000];
+const TABLES: [usize; 6] = [0, 1, RUN - 1, RUN, RUN + 1, 10_000];
 
 /// A reached text, an unreached one, and texts of several rows.
 fn texts() -> Vec<Vec<u8>> {
@@ -18,7 +18,7 @@ fn texts() -> Vec<Vec<u8>> {
         b"(state A!)\n",
         b"(state A)\n(state A)\n",
         b"(state A)\n",
-        b"(rel W 2)\n(ask ((W x y)) ((W x y)))\n",
+        b"(state A)\n(rel W 2)\n(ask ((W x y) (A z)) ((W x y) (A z)))\n",
         b"(state A)\n(ask ((A x)))\n\n",
     ];
     let mut all: Vec<Vec<u8>> = small.iter().map(|t| t.to_vec()).collect();
@@ -62,9 +62,9 @@ fn replays(report: &mut Report, subject: &Subject) {
         }
     }
     for work in AREAS {
-        for kept in [0, 8_639, 8_640, 8_641] {
+        for kept in [0, 9_343, 9_344, 9_345] {
             let mut lent = fresh();
-            lent[258] = kept;
+            lent[KEPT] = kept;
             subject.place_with(report, &mut lent, 512, work);
         }
     }

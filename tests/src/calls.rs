@@ -5,7 +5,7 @@ include!("../../include/eon.rs");
 /// The work bytes that a call needs, and uses.
 pub const WORK: usize = 32_768;
 /// The places that a run table lent for writing needs.
-pub const RUN: usize = 8_640;
+pub const RUN: usize = 9_344;
 /// The most states that are listed: 127 and the empty one.
 const LISTED: usize = 128;
 /// The cells beside an answer of the analysis: the number of states, the states, the number of the last place.
@@ -13,8 +13,13 @@ const OUT: usize = LISTED + 2;
 /// What stands behind each lent buffer, and must not be touched.
 const BEHIND: usize = 64;
 
-/// A lent replay state: 255 atomic states, then the number of objects, the stages met, the carried object and the places kept.
-pub type Lent = [u32; 259];
+/// A lent replay state: 255 atomic states, then the number of objects, the stages met, the first and the second carried object, and the places kept.
+pub type Lent = [u32; 260];
+/// The cells behind the atomic states.
+pub const OBJECTS: usize = 255;
+pub const MET: usize = 256;
+pub const CARRIED_OBJECTS: [usize; 2] = [257, 258];
+pub const KEPT: usize = 259;
 
 #[derive(Clone, Copy, Debug, PartialEq)]
 pub enum Answer {

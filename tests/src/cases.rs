@@ -57,7 +57,7 @@ fn small_examples(report: &mut Report) {
     refused(report, 8, 3, b"(state A)\n(rel R 1)\n(ask ((A x) (not (R x))))\n");
     refused(report, 9, 3, b"(state A)\n(rel R 1)\n(rule (R x) (A y))\n");
     refused(report, 10, 2, b"(state A)\n");
-    refused(report, 11, 2, b"(rel W 2)\n(ask ((W x y)) ((W x y)))\n");
+    refused(report, 11, 3, b"(state A)\n(rel W 2)\n(ask ((W x y) (A z)) ((W x y) (A z)))\n");
 }
 
 /// Rows 2, 3 and 10 by lines.

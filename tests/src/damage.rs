@@ -32,7 +32,7 @@ fn places_of(text: &str, word: &str) -> Vec<usize> {
 
 /// The text with one word put for another.
 fn word(r: &mut Random, text: &mut Vec<u8>) {
-    const WORDS: [(&str, &str); 18] = [
+    const WORDS: [(&str, &str); 21] = [
         (" x", " y"),
         (" y", " z"),
         (" z", " v"),
@@ -50,6 +50,9 @@ fn word(r: &mut Random, text: &mut Vec<u8>) {
         ("a1", "a0"),
         ("))", ") (A x))"),
         (" w", " a0"),
+        (" w", " v"),
+        (" v", " w"),
+        ("a0", "v"),
         ("A", "R"),
     ];
     let (from, to) = r.pick(&WORDS);

@@ -1,6 +1,6 @@
 //! Guessed pairs, places and runs, which are often allowed.
 
-use crate::meaning::{Action, Model, Place, Session};
+use crate::meaning::{Action, Carried, Model, Place, Session, Stage};
 use crate::random::Random;
 
 /// A pair that is often allowed, and sometimes far off.
@@ -19,13 +19,22 @@ pub fn pair(r: &mut Random, m: &Model, objects: usize) -> (u32, usize) {
     }
 }
 
-/// A place that is often allowed with so many objects and stages met.
-pub fn place(r: &mut Random, m: &Model, objects: usize, met: usize) -> u32 {
+/// The object that a variable of a stage has to stand for.
+fn chosen(stage: &Stage, carried: &Carried, variable: usize) -> Option<usize> {
+    stage.carried.iter().zip(carried).find(|(seat, _)| **seat == Some(variable)).and_then(|(_, object)| *object)
+}
+
+/// A place that is often allowed with so many objects, stages met and these objects carried.
+pub fn place(r: &mut Random, m: &Model, objects: usize, met: usize, carried: &Carried) -> u32 {
     if r.chance(10) {
         return r.word();
     }
     if let (Some(stage), true) = (m.stages.get(met), r.chance(50)) {
-        let named: Vec<usize> = (0..stage.body.variables).map(|_| r.below(objects + 1)).collect();
+        let object = |x: usize| match chosen(stage, carried, x) {
+            Some(o) if r.chance(70) => o,
+            _ => r.below(objects + 1),
+        };
+        let named: Vec<usize> = (0..stage.body.variables).map(object).collect();
         return Place::meeting(met + 1, &named).encode();
     }
     let (line, object) = pair(r, m, objects);
@@ -37,7 +46,7 @@ pub fn run(r: &mut Random, m: &Model) -> Vec<u32> {
     let mut session = Session::default();
     let mut run = Vec::new();
     for _ in 0..24 {
-        let n = place(r, m, session.db.len(), session.met);
+        let n = place(r, m, session.db.len(), session.met, &session.carried);
         let after = Place::decode(n).and_then(|p| session.after(m, &m.facts(&session.db), p));
         match after {
             Some(next) => {

@@ -1,23 +1,28 @@
 //! Questions drawn from a random walk, so that a run meets them, and near misses of such questions.
 
 use crate::guess::pair;
-use crate::meaning::{Facts, Model};
-use crate::random::{self, Random, Shape};
+use crate::meaning::{Carried, Facts, Model};
+use crate::random::{self, Random, Shape, CARRIED};
 use crate::reader::{self, Kind, Outcome, Text};
 use std::collections::BTreeSet;
 
-/// A walk through the databases of a model, and the carried object.
+/// A walk through the databases of a model, and the carried objects.
 struct Walk<'a> {
     text: &'a Text,
     m: &'a Model,
     db: Vec<u32>,
-    carried: Option<usize>,
+    carried: Carried,
 }
 
 /// A variable and the object that it stands for.
 type Named = (String, usize);
 
-impl Walk<'_> {
+impl<'a> Walk<'a> {
+    /// A walk that has not begun.
+    fn new(text: &'a Text, m: &'a Model) -> Walk<'a> {
+        Walk { text, m, db: Vec::new(), carried: Carried::default() }
+    }
+
     /// Plays some guessed pairs.
     fn go_on(&mut self, r: &mut Random, pairs: usize) {
         for _ in 0..pairs {
@@ -35,9 +40,10 @@ impl Walk<'_> {
         after.filter(|db| db.len() == self.db.len() && db[object] != self.db[object] && db[object] != 0).collect()
     }
 
-    /// Relabels the carried object, if a line changes it.
+    /// Relabels a carried object, if a line changes it.
     fn move_carried(&mut self, r: &mut Random) {
-        let mut after = self.carried.map_or(Vec::new(), |object| self.changes(object));
+        let carried: Vec<usize> = self.carried.iter().copied().flatten().collect();
+        let mut after = if carried.is_empty() { Vec::new() } else { self.changes(r.pick(&carried)) };
         if !after.is_empty() {
             self.db = after.swap_remove(r.below(after.len()));
         }
@@ -85,29 +91,29 @@ impl Walk<'_> {
         all
     }
 
-    /// Some objects that are not wiped, each with a variable.
-    fn named(&mut self, r: &mut Random, number: usize, carry: bool) -> Vec<Named> {
+    /// Some objects that are not wiped, each with a variable, and these carried ones.
+    fn named(&mut self, r: &mut Random, number: usize, carry: &[usize]) -> Vec<Named> {
         let objects: Vec<usize> = (0..self.db.len()).filter(|o| self.db[*o] != 0).collect();
         let mut named = Vec::new();
         if objects.is_empty() {
             return named;
         }
-        for letter in &["a", "b"][..r.below(3)] {
+        for letter in &["a", "b"][..r.below(3.min(4 - carry.len()))] {
             named.push((format!("{letter}{number}"), r.pick(&objects)));
         }
-        if carry {
-            let object = self.carried.unwrap_or_else(|| self.to_carry(r, &objects));
-            self.carried = Some(object);
+        for c in carry {
+            let object = self.carried[*c].unwrap_or_else(|| self.to_carry(r, &objects));
+            self.carried[*c] = Some(object);
             if self.db[object] != 0 {
-                named.insert(r.below(named.len() + 1), ("w".into(), object));
+                named.insert(r.below(named.len() + 1), (CARRIED[*c].into(), object));
             }
         }
         named
     }
 
-    /// Says of the carried object, if it is named, all that is true of it.
-    fn describe_carried(&self, named: &[Named], body: &mut Vec<String>) {
-        let carried: Vec<Named> = named.iter().filter(|(v, _)| v == "w").cloned().collect();
+    /// Says of a carried object, if it is named, all that is true of it.
+    fn describe_carried(&self, named: &[Named], carried: usize, body: &mut Vec<String>) {
+        let carried: Vec<Named> = named.iter().filter(|(v, _)| v == CARRIED[carried]).cloned().collect();
         let (plain, negated) = self.state_literals(&carried);
         body.extend(plain.into_iter().chain(negated));
         body.sort();
@@ -115,7 +121,7 @@ impl Walk<'_> {
     }
 
     /// A stage of literals that hold now.
-    fn stage(&mut self, r: &mut Random, number: usize, carry: bool) -> Option<String> {
+    fn stage(&mut self, r: &mut Random, number: usize, carry: &[usize]) -> Option<String> {
         let named = self.named(r, number, carry);
         let (mut plain, mut negated) = self.state_literals(&named);
         plain.extend(self.fact_literals(&self.m.facts(&self.db), &named));
@@ -131,8 +137,10 @@ impl Walk<'_> {
             }
         }
         body.extend(negated.into_iter().take(r.below(3)));
-        if r.chance(85) {
-            self.describe_carried(&named, &mut body);
+        for c in carry {
+            if r.chance(85) {
+                self.describe_carried(&named, *c, &mut body);
+            }
         }
         (!body.is_empty() && body.len() <= 8).then(|| format!("({})", body.join(" ")))
     }
@@ -142,7 +150,21 @@ fn has_variable(literal: &str, variable: &str) -> bool {
     literal.contains(&format!(" {variable})")) || literal.contains(&format!(" {variable} "))
 }
 
-/// Changes two stages for each other, drops a `not`, or puts one variable for another.
+/// A stage with the two carried variables changed for each other.
+fn crossed(stage: &str) -> String {
+    let other = |c: char| CARRIED.iter().position(|v| c.to_string() == *v).map(|i| CARRIED[1 - i]);
+    let mut out = String::new();
+    for (i, c) in stage.char_indices() {
+        let alone = stage[..i].ends_with(' ') && stage[i + 1..].starts_with([' ', ')']);
+        match other(c).filter(|_| alone) {
+            Some(v) => out += v,
+            None => out.push(c),
+        }
+    }
+    out
+}
+
+/// Changes two stages for each other, drops a `not`, puts one variable for another, or changes the carried ones for each other in a stage.
 fn near_miss(r: &mut Random, stages: &mut [String]) {
     if stages.len() > 1 && r.chance(50) {
         let i = r.below(stages.len() - 1);
@@ -150,9 +172,10 @@ fn near_miss(r: &mut Random, stages: &mut [String]) {
         return;
     }
     let i = r.below(stages.len());
-    stages[i] = match r.below(3) {
+    stages[i] = match r.below(5) {
         0 => stages[i].replacen("(not (", "(", 1).replacen("))", ")", 1),
         1 => stages[i].replace('b', "a"),
+        2..=3 => crossed(&stages[i]),
         _ => stages[i].replacen('a', "b", 1),
     };
 }
@@ -169,7 +192,7 @@ fn is_accepted(text: &str) -> bool {
 
 /// Whether a walk meets several atomic states.
 fn is_lively(r: &mut Random, text: &Text, m: &Model) -> bool {
-    let mut walk = Walk { text, m, db: Vec::new(), carried: None };
+    let mut walk = Walk::new(text, m);
     let mut states = BTreeSet::new();
     for _ in 0..16 {
         walk.go_on(r, 1);
@@ -180,13 +203,13 @@ fn is_lively(r: &mut Random, text: &Text, m: &Model) -> bool {
 
 /// The stages that a walk meets.
 fn stages(r: &mut Random, text: &Text, m: &Model) -> Vec<String> {
-    let mut walk = Walk { text, m, db: Vec::new(), carried: None };
-    let carries = r.chance(85);
+    let mut walk = Walk::new(text, m);
+    let carries = r.pick(&[0, 1, 1, 2, 2, 2, 2]);
     let mut stages = Vec::new();
     walk.go_on(r, 14);
     for number in 0..r.pick(&[1, 2, 3, 4]) {
-        let carry = carries && r.chance(90);
-        stages.extend(walk.stage(r, number, carry));
+        let carry: Vec<usize> = (0..carries).filter(|_| r.chance(90)).collect();
+        stages.extend(walk.stage(r, number, &carry));
         let pairs = r.below(3);
         walk.go_on(r, pairs);
         for _ in 0..r.pick(&[0, 1, 1, 2]) {

@@ -4,7 +4,7 @@ use crate::calls::{self, Answer, RUN, WORK};
 use crate::damage;
 use crate::guess;
 use crate::guided;
-use crate::meaning::{play, Action, Model, Place};
+use crate::meaning::{play, Action, Model, Place, Session};
 use crate::random::{model, Random, Shape};
 use crate::reader::{self, Form, Kind, Literal, Outcome};
 use crate::report::Report;
@@ -149,6 +149,19 @@ fn marked(report: &mut Report, subject: &Subject, reached: bool, bytes: &[u8]) {
     }
 }
 
+/// Which of the carried variables a meeting has another object for.
+fn others(m: &Model, session: &Session, place: Place) -> &'static str {
+    let Place::Meeting(_, os) = place else { return "none" };
+    let seats = m.stages[session.met].carried;
+    let other = |c: usize| seats[c].is_some_and(|x| session.carried[c].is_some_and(|o| o != os[x]));
+    match (other(0), other(1)) {
+        (true, true) => "both of a pair",
+        (true, false) => "the first",
+        (false, true) => "the second of a pair",
+        (false, false) => "none",
+    }
+}
+
 /// Compares the reason for which a run breaks with the plain one.
 fn reasons(report: &mut Report, subject: &Subject, m: &Model, run: &[u32]) {
     let played = play(m, run);
@@ -159,6 +172,9 @@ fn reasons(report: &mut Report, subject: &Subject, m: &Model, run: &[u32]) {
             let place = Place::decode(run[k]).expect("a place of a hand-in has a form");
             let (kind, literal) = played.sessions[k].why(m, place).expect("the place is not allowed");
             report.cover(&format!("reason: {kind}"));
+            if kind == 7 {
+                report.cover(&format!("reason: 7 for {}", others(m, &played.sessions[k], place)));
+            }
             4 << 32 | (k as u64) << 16 | u64::from(kind) << 8 | literal as u64
         }
     };
@@ -387,5 +403,8 @@ pub fn all(report: &mut Report) {
     }
     for kind in 1..=8 {
         report.met_often(&format!("reason: {kind}"), 10);
+    }
+    for who in ["the first", "the second of a pair"] {
+        report.met_often(&format!("reason: 7 for {who}"), 10);
     }
 }

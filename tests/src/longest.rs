@@ -1,4 +1,4 @@
-//! The longest run that document 01 counts: 127 states, each only from the one before, and a carried object that goes round between stages.
+//! The longest runs that documents 01 and 02 count: 127 states, each only from the one before, and carried objects that go round between stages.
 
 use crate::calls::Answer;
 use crate::report::Report;
@@ -21,24 +21,28 @@ fn carry(bit: usize, beside: &str) -> String {
     format!("(next x ({}) ({}) {below}{beside})\n", NAMES[bit], NAMES[..bit].join(" "))
 }
 
-/// A counter from 1 to 127 that goes on with 1, asked for an object that is 127, then 126, then 125, then 124.
-fn text() -> String {
+/// A counter from 1 to 127 that goes on with 1, asked for objects that are 127, then 126, then 125, then 124.
+fn text(carried: &[&str]) -> String {
     let mut text: String = NAMES.iter().map(|n| format!("(state {n})\n")).collect();
     text += "(new (A))\n";
     text.extend(NAMES[1..].iter().map(|n| carry(0, &format!(" ({n} x)"))));
     text.extend((1..7).map(|bit| carry(bit, "")));
     text += &format!("(next x () (B C D E F G) {})\n", literals(&NAMES, 127));
-    let stages = [127, 126, 125, 124].map(|n| format!("({})", literals(&NAMES, n)));
-    text + &format!("(ask {})\n", stages.join(" "))
+    let asked = [127, 126, 125, 124];
+    text.extend(asked.map(|n| format!("(rel Is{n} 1)\n(rule (Is{n} x) {})\n", literals(&NAMES, n))));
+    let stage = |n: u32| carried.iter().map(|v| format!("(Is{n} {v})")).collect::<Vec<String>>().join(" ");
+    text + &format!("(ask {})\n", asked.map(|n| format!("({})", stage(n))).join(" "))
 }
 
-/// The counter is reached, all its states are listed, and its run is kept.
+/// The counter is reached, all its states are listed, and its run is kept. One object of each state is made in 8,128 steps, and each carried one goes
+/// the longest way, so the run has exactly as many places as are counted.
 pub fn run(report: &mut Report) {
-    let subject = Subject::new(text().as_bytes());
-    let a = subject.analyze(report);
-    report.check(matches!(a.answer, Answer::Reached(_)), || format!("the counter: {:?}", a.answer));
-    report.check(a.states.iter().copied().eq(1..=127), || format!("states of the counter: {:?}", a.states));
-    let kept = subject.replay(report, &a.run);
-    report.check(kept == Answer::Kept, || format!("the counter's run: {kept:?}"));
-    println!("the longest shown run has {} places", a.run.len());
+    for (carried, places) in [(&["x"][..], 8_637), (&["x", "y"], 9_142)] {
+        let subject = Subject::new(text(carried).as_bytes());
+        let a = subject.analyze(report);
+        report.check(a.answer == Answer::Reached(places), || format!("the counter with {carried:?}: {:?}", a.answer));
+        report.check(a.states.iter().copied().eq(1..=127), || format!("states of the counter: {:?}", a.states));
+        let kept = subject.replay(report, &a.run);
+        report.check(kept == Answer::Kept, || format!("the counter's run: {kept:?}"));
+    }
 }

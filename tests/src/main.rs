@@ -11,6 +11,7 @@ mod lent;
 mod longest;
 mod meaning;
 mod models;
+mod paired;
 mod playing;
 mod random;
 mod reader;
@@ -42,9 +43,18 @@ fn covered_enough(report: &mut Report) {
     report.met_often("empty state: unreachable, with a line that would create it", 10);
     report.met_often("empty state: unreachable, with lines that clear", 100);
     report.met_often("empty state: unreachable, with no line for it", 10);
-    report.met_often("models reached with a carried variable", 100);
-    report.met_often("models unreached with a carried variable", 40);
-    report.met_often("shown runs that change the carried object between stages", 50);
+    for carried in ["a carried variable", "a carried pair"] {
+        report.met_often(&format!("models reached with {carried}"), 50);
+        report.met_often(&format!("models unreached with {carried}"), 40);
+    }
+    report.met_often("search: certain and reached with a pair", 150);
+    report.met_often("search: certain and unreached with a pair", 100);
+    report.met_often("search: no pair, though each variable by itself", 15);
+    report.met_often("shown runs that change one carried object between stages", 30);
+    report.met_often("shown runs that change both carried objects between stages", 10);
+    report.met_often("random lent states with a pair that meets", 10);
+    report.met_often("kept runs whose pair is one object", 80);
+    report.met_often("kept runs whose pair is two objects", 80);
     report.met_often("played on after other objects", 400);
     for who in ["nobody", "one object", "two objects", "three objects"] {
         report.met_often(&format!("stood by: {who}"), 300);

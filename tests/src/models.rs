@@ -1,6 +1,6 @@
 //! Models checked by hand: document 01's own, and those that a good reader of the paper gets wrong.
 
-use crate::calls::Answer;
+use crate::calls::{Answer, OBJECTS};
 use crate::meaning::Place;
 use crate::report::Report;
 use crate::seeded::place_by_place;
@@ -95,7 +95,7 @@ fn set_then_clear(report: &mut Report) {
     for state in [2, 3] {
         let subject = Subject::new(text.as_bytes());
         let mut lent = fresh();
-        (lent[0], lent[255]) = (state, 1);
+        (lent[0], lent[OBJECTS]) = (state, 1);
         let kept = subject.place(report, &mut lent, step(4, 0).encode());
         report.check(kept == Answer::Kept && lent[0] == 2, || format!("{state} goes to {}", lent[0]));
     }
@@ -148,6 +148,97 @@ fn readings(report: &mut Report) {
     verdict(report, &format!("{carried}(ask ((A x)) ((B x)) ((A y)))\n"), true, &[0, 1, 2]);
     verdict(report, &format!("{carried}(ask ((A x)) ((B x)) ((A x)))\n"), false, &[0, 1, 2]);
     verdict(report, &format!("{carried}(ask ((A x)) ((B y)) ((A x)) ((B x)))\n"), true, &[0, 1, 2]);
+}
+
+/// The paper's section 5.1.1: is an object that a Low process wrote executed by a process that was High and is Med? Its derivation is a run, and a
+/// process that was never High is not the one.
+fn privilege(report: &mut Report) {
+    let text = include_str!("../../examples/vista-escalation.eon");
+    let line = |form: &str| 1 + text.lines().position(|l| l == form).expect("a line of the example") as u32;
+    let [low, med, high] = ["(new (Low))", "(new (Med))", "(new (High))"].map(line);
+    let process = line("(next x (P) () (Obj x))");
+    let raise = line("(next y (Med) (Low) (Low y) (not (P y)) (ByMed))");
+    let fall = line("(next x (Med) (High) (High x) (P x))");
+    verdict(report, text, true, &[2, 3, 4, 5, 8, 9]);
+    let wrote = [step(low, 0), step(low, 1), step(process, 1), meet(1, &[1, 0])];
+    let raised = [step(med, 2), step(process, 2), step(raise, 0)];
+    let fell = [step(high, 3), step(process, 3), meet(2, &[3]), step(fall, 3)];
+    let before = [&wrote[..], &raised, &fell].concat();
+    answer(report, text, &[&before[..], &[meet(3, &[3, 0])]].concat(), Answer::Kept);
+    answer(report, text, &[&before[..], &[meet(3, &[2, 0])]].concat(), Answer::Broken(11));
+    answer(report, text, &[&before[..], &[meet(3, &[3, 2])]].concat(), Answer::Broken(11));
+}
+
+/// Pairs of objects that stay what they are: alike or not.
+const ALIKE: &str = "(state A)\n(state B)\n(rel W 2)\n(rel V 2)\n(new (A))\n(new (B))\n(rule (W x y) (A x) (A y))\n(rule (W x y) (B x) (B y))\n(rule (V x y) (A x) (B y))\n(rule (V x y) (B x) (A y))\n";
+
+/// The pair that met one stage is the pair that meets the next, also where a stage between has one of the two or neither.
+fn pairs(report: &mut Report) {
+    let states = &[1, 2];
+    for (ask, reached) in [
+        ("((V x y)) ((V x y))", true),
+        ("((V x y)) ((V y x))", true),
+        ("((W x y)) ((V x y))", false),
+        ("((W x y)) ((V x z))", true),
+        ("((W x y)) ((V z y))", true),
+        ("((W x y)) ((A x)) ((A y))", true),
+        ("((W x y)) ((A x)) ((B y))", false),
+        ("((V x y)) ((A x)) ((A y))", false),
+        ("((W x y)) ((V a b)) ((A x) (B y))", false),
+        ("((W x y)) ((V a b)) ((A x) (A y))", true),
+        ("((A x)) ((B y)) ((V x y))", true),
+        ("((A x)) ((B y)) ((V y x))", true),
+        ("((A x)) ((B y)) ((W x y))", false),
+        ("((A x)) ((W x y)) ((B y))", false),
+        ("((W x y)) ((V y z)) ((B x))", true),
+        ("((W x y)) ((V y z) (A z)) ((A x))", false),
+        ("((A x) (B y)) ((A y)) ((A x))", false),
+        ("((A x) (B y)) ((B y)) ((A x))", true),
+    ] {
+        verdict(report, &format!("{ALIKE}(ask {ask})\n"), reached, states);
+    }
+    let moving = format!("{ALIKE}(next x (B) (A) (A x))\n");
+    for (ask, reached) in [
+        ("((W x y)) ((V x y))", true),
+        ("((V x y) (A x)) ((W x y))", true),
+        ("((V x y) (A x)) ((V y x) (A y))", false),
+        ("((W x y) (A x)) ((V x y)) ((V y x) (A y))", true),
+        ("((W x y) (A x)) ((V x y) (A y)) ((A x))", false),
+        ("((A x)) ((B y)) ((W x y))", true),
+        ("((B x)) ((A y)) ((V x y)) ((W x y))", true),
+        ("((B x)) ((A y)) ((W x y)) ((V x y))", false),
+    ] {
+        verdict(report, &format!("{moving}(ask {ask})\n"), reached, states);
+    }
+}
+
+/// Runs that carry a pair: two objects, one object for both, and objects that are not the pair that met.
+fn runs_of_pairs(report: &mut Report) {
+    let made = [step(5, 0), step(6, 1), step(5, 2)];
+    let asked = |ask: &str| format!("{ALIKE}(ask {ask})\n");
+    let mut tried = |ask: &str, first: &[usize], second: &[usize], wanted: Answer| {
+        answer(report, &asked(ask), &[&made[..], &[meet(1, first), meet(2, second)]].concat(), wanted);
+    };
+    let alike = "((W x y)) ((W y x))";
+    tried(alike, &[0, 2], &[2, 0], Answer::Kept);
+    tried(alike, &[0, 2], &[0, 2], Answer::Broken(4));
+    tried(alike, &[0, 2], &[2, 2], Answer::Broken(4));
+    tried(alike, &[0, 2], &[0, 0], Answer::Broken(4));
+    tried(alike, &[2, 2], &[2, 2], Answer::Kept);
+    tried(alike, &[2, 2], &[2, 0], Answer::Broken(4));
+    tried(alike, &[2, 2], &[0, 2], Answer::Broken(4));
+    let apart = "((V x y)) ((V x y))";
+    tried(apart, &[0, 1], &[0, 1], Answer::Kept);
+    tried(apart, &[0, 1], &[2, 1], Answer::Broken(4));
+    tried(apart, &[0, 1], &[1, 0], Answer::Broken(4));
+    tried(apart, &[0, 0], &[0, 0], Answer::Broken(3));
+    let late = asked("((A x)) ((A y)) ((W y x))");
+    let run = |objects: [usize; 4]| [&made[..], &[meet(1, &objects[..1]), meet(2, &objects[1..2]), meet(3, &objects[2..])]].concat();
+    answer(report, &late, &run([0, 2, 2, 0]), Answer::Kept);
+    answer(report, &late, &run([0, 0, 0, 0]), Answer::Kept);
+    answer(report, &late, &run([0, 2, 0, 2]), Answer::Broken(5));
+    answer(report, &late, &run([0, 2, 2, 2]), Answer::Broken(5));
+    answer(report, &late, &run([0, 2, 0, 0]), Answer::Broken(5));
 }
 
 /// The empty state is listed first where an object comes to it, by creation or by clearing, and nowhere else; such an object does nothing more.
@@ -232,20 +323,20 @@ fn many_objects(report: &mut Report) {
     report.check(broken == Answer::Broken(255), || format!("256 objects: {broken:?}"));
 }
 
-/// A run of 8,640 places is replayed, one of 8,641 is not.
+/// A run of 9,344 places is replayed, one of 9,345 is not.
 fn long_runs(report: &mut Report) {
     let text = format!("{AB}(new (A))\n(next x () () (A x))\n(ask ((A x)))\n");
     let subject = Subject::new(text.as_bytes());
-    let mut run = vec![step(4, 0).encode(); 8_640];
+    let mut run = vec![step(4, 0).encode(); 9_344];
     run[0] = step(3, 0).encode();
-    run[8_639] = meet(1, &[0]).encode();
-    for (places, wanted) in [(8_640, Answer::Kept), (8_639, Answer::Broken(8_639))] {
+    run[9_343] = meet(1, &[0]).encode();
+    for (places, wanted) in [(9_344, Answer::Kept), (9_343, Answer::Broken(9_343))] {
         let given = subject.replay(report, &run[..places]);
         report.check(given == wanted, || format!("{places} places: {given:?}"));
     }
     run.insert(1, step(4, 0).encode());
     let refused = subject.replay(report, &run);
-    report.check(refused == Answer::Refused(14, 0), || format!("8,641 places: {refused:?}"));
+    report.check(refused == Answer::Refused(14, 0), || format!("9,345 places: {refused:?}"));
     let bad = Subject::new(b"(state A!)\n").replay(report, &run);
     report.check(bad == Answer::Refused(14, 0), || format!("14 comes before the lines: {bad:?}"));
 }
@@ -258,6 +349,9 @@ pub fn all(report: &mut Report) {
     errors_of_readers(report);
     handed_down(report);
     readings(report);
+    privilege(report);
+    pairs(report);
+    runs_of_pairs(report);
     empty_state(report);
     places(report);
     many_objects(report);

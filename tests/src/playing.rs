@@ -1,7 +1,7 @@
 //! Playing on (demand 3): the shown run follows after any list of pairs that somebody played before.
 
 use crate::guess::pair;
-use crate::meaning::{play, Model, Place, NONE};
+use crate::meaning::{play, Carried, Model, Place, NONE};
 use crate::random::Random;
 use crate::report::Report;
 use crate::subject::Subject;
@@ -25,7 +25,7 @@ struct Playing<'a> {
     k: usize,
     db: Vec<u32>,
     met: usize,
-    carried: Option<usize>,
+    carried: Carried,
 }
 
 impl Playing<'_> {
@@ -57,9 +57,9 @@ impl Playing<'_> {
         if !good {
             return false;
         }
-        let object = self.m.stages[self.met].carried.map(|x| named[x]);
-        let agrees = self.carried.is_none() || object.is_none() || self.carried == object;
-        self.carried = object.or(self.carried);
+        let carried = self.m.stages[self.met].carry(&self.carried, &named);
+        let agrees = carried.is_some();
+        self.carried = carried.unwrap_or_default();
         self.met += 1;
         agrees
     }
@@ -68,7 +68,7 @@ impl Playing<'_> {
 /// The first place at which the run cannot be played on, or its length if stages are left.
 fn fault(m: &Model, before: &[u32], run: &[u32]) -> Option<usize> {
     let alone = play(m, run).sessions;
-    let mut p = Playing { m, k: before.len(), db: before.to_vec(), met: 0, carried: None };
+    let mut p = Playing { m, k: before.len(), db: before.to_vec(), met: 0, carried: Carried::default() };
     for (i, n) in run.iter().enumerate() {
         let allowed = p.place(*n);
         let right = allowed && p.db.starts_with(before) && alone.get(i + 1).is_some_and(|s| s.db == p.db[before.len()..]);

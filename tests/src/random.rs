@@ -54,6 +54,8 @@ pub struct Shape {
 /// Names of relations, some spelled like words of the language or like variables.
 const NAMES: [&str; 14] = ["A", "B", "C", "D", "R", "P", "Q", "N", "state", "x", "new", "Not", "ask1", "Sixteen16letters"];
 const VARIABLES: [&str; 3] = ["x", "y", "z"];
+/// The variables that stand in several stages.
+pub const CARRIED: [&str; 2] = ["w", "v"];
 
 /// The names that a random text declares; derived relations have their arities.
 struct Names {
@@ -153,13 +155,12 @@ impl Names {
         }
     }
 
-    /// A stage with variables of its own, and with the carried one.
-    fn stage(&self, r: &mut Random, number: usize, carried: bool) -> String {
+    /// A stage with variables of its own, and with these carried ones.
+    fn stage(&self, r: &mut Random, number: usize, carried: &[&'static str]) -> String {
         let own = [format!("a{number}"), format!("b{number}"), format!("c{number}")];
-        let most = if carried { 2 } else { 3 };
-        let mut variables: Vec<&str> = own[..r.below(most + 1)].iter().map(|v| v.as_str()).collect();
-        if carried {
-            variables.insert(r.below(variables.len() + 1), "w");
+        let mut variables: Vec<&str> = own[..r.below(4 - carried.len())].iter().map(|v| v.as_str()).collect();
+        for v in carried {
+            variables.insert(r.below(variables.len() + 1), v);
         }
         if variables.is_empty() && self.of_arity(0).is_empty() {
             variables.push(&own[0]);
@@ -172,11 +173,11 @@ impl Names {
     }
 
     fn question(&self, r: &mut Random, most: usize) -> String {
-        let carries = r.chance(70);
+        let carries = &CARRIED[..r.pick(&[0, 1, 2, 2])];
         let mut stages = Vec::new();
         for i in 0..1 + r.below(most) {
-            let carried = carries && r.chance(80);
-            stages.push(self.stage(r, i, carried));
+            let carried: Vec<&str> = carries.iter().copied().filter(|_| r.chance(80)).collect();
+            stages.push(self.stage(r, i, &carried));
         }
         format!("(ask {})", stages.join(" "))
     }

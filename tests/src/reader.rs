@@ -2,6 +2,9 @@
 
 use std::collections::{HashMap, HashSet};
 
+/// The most variables that a question carries: document 02, R-5.
+pub const CARRIED: usize = 2;
+
 /// A word, or a bracket of items.
 #[derive(Clone, Debug, PartialEq)]
 enum Tree {
@@ -225,7 +228,7 @@ impl Before {
                 *stands.entry(v).or_insert(0) += 1;
             }
         }
-        if stands.values().filter(|n| **n >= 2).count() >= 2 {
+        if stands.values().filter(|n| **n >= 2).count() > CARRIED {
             rows.push(11);
         }
     }

@@ -13,13 +13,14 @@ pub struct Found {
     pub whole: bool,
 }
 
-/// A session up to the order of its objects: the others' states sorted, the carried object's state, and the stages met.
-type Key = (Vec<u32>, Option<u32>, usize);
+/// A session up to the order of its objects: each object's state with the carried variables that it stands for, sorted, and the stages met.
+type Key = (Vec<(u32, Vec<usize>)>, usize);
 
 fn key(s: &Session) -> Key {
-    let mut others: Vec<u32> = s.db.iter().enumerate().filter(|(o, _)| Some(*o) != s.carried).map(|(_, state)| *state).collect();
-    others.sort_unstable();
-    (others, s.carried.map(|o| s.db[o]), s.met)
+    let stands_for = |o: usize| (0..s.carried.len()).filter(|c| s.carried[*c] == Some(o)).collect();
+    let mut objects: Vec<(u32, Vec<usize>)> = s.db.iter().enumerate().map(|(o, state)| (*state, stands_for(o))).collect();
+    objects.sort_unstable();
+    (objects, s.met)
 }
 
 /// Every place that may be tried in a session with at most so many objects.

@@ -5,6 +5,7 @@ use crate::damage;
 use crate::guess;
 use crate::guided;
 use crate::meaning::{play, Action, Clause, Model};
+use crate::paired;
 use crate::playing::play_on;
 use crate::random::{model, Random, Shape};
 use crate::report::Report;
@@ -14,6 +15,8 @@ use std::collections::BTreeSet;
 
 /// How many models are tried.
 const MODELS: u64 = 500;
+/// How many models are tried whose questions join two carried variables.
+const PAIRED_MODELS: u64 = 300;
 /// How many larger models are tried.
 const LARGE_MODELS: u64 = 30;
 /// The most objects that the plain search takes.
@@ -29,16 +32,18 @@ struct Known {
 }
 
 /// Searches with more and more objects, until nothing can have been missed. By document 01's count the reachable states can be put in an order in which
-/// each is made with one object of each state before it; and a run needs one object of each state, and the carried one. So a search of all sessions with
-/// n objects that finds fewer than n states is certain: the first state that it missed would have needed n objects at most. The empty state helps to make
-/// no other, so it is not counted here; it is made from one object of each of the others, with one object more at most.
+/// each is made with one object of each state before it. So a search of all sessions with n objects that finds fewer than n states has found them all:
+/// the first state that it missed would have needed n objects at most. And a run needs one object of each state and one for each carried variable, so
+/// the search is certain of the verdict too where n is at least the sum of these. The empty state helps to make no other, so it is not counted here; it
+/// is made from one object of each of the others, with one object more at most.
 fn known(m: &Model) -> Known {
     let mut known = Known { run: None, states: BTreeSet::new(), certain: false };
     for objects in 2..=OBJECTS {
         let found = search(m, objects, SESSIONS);
         known.run = known.run.or(found.run);
         known.states.extend(found.states);
-        known.certain = found.whole && known.states.iter().filter(|s| **s != 0).count() < objects;
+        let needed = known.states.iter().filter(|s| **s != 0).count() + m.carried.max(1);
+        known.certain = found.whole && needed <= objects;
         if known.certain || !found.whole {
             break;
         }
@@ -59,6 +64,18 @@ fn emptied(m: &Model, states: &BTreeSet<u32>) -> &'static str {
     }
 }
 
+/// Whether each of two carried variables could be carried by itself, the other standing for any object in each stage.
+fn each_alone(m: &Model) -> bool {
+    (0..2).all(|other| {
+        let mut one = m.clone();
+        one.carried = 1;
+        for stage in &mut one.stages {
+            stage.carried[other] = None;
+        }
+        known(&one).run.is_some()
+    })
+}
+
 /// Compares the verdict and the states with what the plain search knows.
 fn compare(report: &mut Report, subject: &Subject, m: &Model, answer: Answer, states: &[u32]) {
     let known = known(m);
@@ -70,7 +87,14 @@ fn compare(report: &mut Report, subject: &Subject, m: &Model, answer: Answer, st
     if known.certain {
         report.check(reached == known.run.is_some(), about);
         report.check(listed == known.states, about);
-        report.cover(if reached { "search: certain and reached" } else { "search: certain and unreached" });
+        let verdict = if reached { "reached" } else { "unreached" };
+        report.cover(&format!("search: certain and {verdict}"));
+        if m.carried == 2 {
+            report.cover(&format!("search: certain and {verdict} with a pair"));
+            if !reached && each_alone(m) {
+                report.cover("search: no pair, though each variable by itself");
+            }
+        }
         report.cover(&format!("empty state: {}", emptied(m, &known.states)));
     } else {
         report.cover("search: certain in one direction only");
@@ -78,6 +102,7 @@ fn compare(report: &mut Report, subject: &Subject, m: &Model, answer: Answer, st
     if let Some(run) = &known.run {
         let kept = subject.replay(report, run) == Answer::Kept;
         report.check(kept, || format!("the plain run is not kept: {}", about()));
+        cover_pair(report, m, run);
     }
 }
 
@@ -104,10 +129,21 @@ fn replay_both_ways(report: &mut Report, subject: &Subject, run: &[u32]) {
     report.check(agree, || format!("whole {whole:?}, place by place {broken:?}: {run:?} in\n{}", subject.show()));
 }
 
-/// Whether a run changes the carried object after it was met first.
-fn moves_carried(m: &Model, run: &[u32]) -> bool {
+/// How many of the carried objects a run changes after they were met first.
+fn moved(m: &Model, run: &[u32]) -> usize {
     let all = play(m, run).sessions;
-    all.windows(2).any(|pair| pair[0].carried.is_some_and(|o| pair[0].db[o] != pair[1].db[o]))
+    let moves = |c: usize| all.windows(2).any(|two| two[0].carried[c].is_some_and(|o| two[0].db[o] != two[1].db[o]));
+    (0..m.carried).filter(|c| moves(*c)).count()
+}
+
+/// Counts a kept run that carries a pair, by whether the two are one object.
+fn cover_pair(report: &mut Report, m: &Model, run: &[u32]) {
+    let played = play(m, run);
+    let carried = played.sessions.last().expect("a session before the first place").carried;
+    if played.broken_at(m, run).is_none() && m.carried == 2 {
+        let one = carried[0] == carried[1];
+        report.cover(if one { "kept runs whose pair is one object" } else { "kept runs whose pair is two objects" });
+    }
 }
 
 /// Replays a shown run, the run damaged in one place, and plays it on.
@@ -115,8 +151,10 @@ fn runs(report: &mut Report, r: &mut Random, subject: &Subject, m: &Model, run: 
     let kept = subject.replay(report, run) == Answer::Kept;
     report.check(kept, || format!("the shown run is not kept: {run:?} in\n{}", subject.show()));
     replay_both_ways(report, subject, run);
-    if moves_carried(m, run) {
-        report.cover("shown runs that change the carried object between stages");
+    match moved(m, run) {
+        0 => {}
+        1 => report.cover("shown runs that change one carried object between stages"),
+        _ => report.cover("shown runs that change both carried objects between stages"),
     }
     for i in 0..12 {
         let damaged = damage::run(r, run);
@@ -164,7 +202,7 @@ fn features(report: &mut Report, text: &str, m: &Model, reached: bool) {
     count("recursion through pairs", text.contains(" x z) (") && text.contains(" z y))"));
     count("not", text.contains("(not "));
     count("several stages", m.stages.len() > 1);
-    count("a carried variable", m.stages.iter().any(|s| s.carried.is_some()));
+    count(["no carried variable", "a carried variable", "a carried pair"][m.carried], true);
 }
 
 /// A model that the plain search can mostly settle, or a larger one.
@@ -176,16 +214,13 @@ fn shape(r: &mut Random, large: bool) -> Shape {
 }
 
 /// One seeded model: the verdict, the states, the shown run.
-fn seeded(report: &mut Report, r: &mut Random, large: bool) -> String {
-    let shape = shape(r, large);
-    let text = if r.chance(60) { guided::model(r, shape) } else { model(r, shape) };
+fn seeded(report: &mut Report, r: &mut Random, text: &str) {
     let subject = Subject::new(text.as_bytes());
     let a = subject.analyze(report);
     let Ok(m) = &subject.read else {
-        report.check(false, || format!("a random model is refused:\n{text}"));
-        return text;
+        return report.check(false, || format!("a random model is refused:\n{text}"));
     };
-    features(report, &text, m, matches!(a.answer, Answer::Reached(_)));
+    features(report, text, m, matches!(a.answer, Answer::Reached(_)));
     report.cover(&format!("models with {:2} reachable states", a.states.len()));
     compare(report, &subject, m, a.answer, &a.states);
     for _ in 0..3 {
@@ -194,17 +229,33 @@ fn seeded(report: &mut Report, r: &mut Random, large: bool) -> String {
     if !a.run.is_empty() {
         runs(report, r, &subject, m, &a.run);
     }
-    text
+}
+
+/// A random model with a question of its own or one that a run meets or nearly meets.
+fn any_model(r: &mut Random, large: bool) -> String {
+    let shape = shape(r, large);
+    if r.chance(60) {
+        return guided::model(r, shape);
+    }
+    model(r, shape)
 }
 
 /// Runs all seeded models.
 pub fn models(report: &mut Report) {
     for seed in 1..=MODELS {
         let mut r = Random::new(seed);
-        let text = seeded(report, &mut r, false);
+        let text = any_model(&mut r, false);
+        seeded(report, &mut r, &text);
         texts(report, &mut r, &text);
     }
     for seed in 1..=LARGE_MODELS {
-        seeded(report, &mut Random::new(seed + 1_000), true);
+        let mut r = Random::new(seed + 1_000);
+        let text = any_model(&mut r, true);
+        seeded(report, &mut r, &text);
+    }
+    for seed in 1..=PAIRED_MODELS {
+        let mut r = Random::new(seed + 4_000_000);
+        let text = paired::model(&mut r);
+        seeded(report, &mut r, &text);
     }
 }

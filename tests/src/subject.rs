@@ -1,6 +1,6 @@
 //! A text under test: each call on it is compared with the plain reader and the plain meaning.
 
-use crate::calls::{self, Analysis, Answer, Lent, RUN, WORK};
+use crate::calls::{self, Analysis, Answer, Lent, CARRIED_OBJECTS, KEPT, MET, OBJECTS, RUN, WORK};
 use crate::meaning::{broken_at, play, Action, Clause, Model, Place, Session};
 use crate::reader::{self, Outcome};
 use crate::report::Report;
@@ -11,8 +11,10 @@ pub struct Subject {
     pub read: Result<Model, (u32, u32)>,
 }
 
-/// The most places that a shown run has, by document 01's count.
-const LONGEST: usize = 8_637;
+/// The most places that a shown run has: by document 02's count 8,128 steps and 505 for each carried object, and the meetings.
+fn longest(m: &Model) -> usize {
+    8_128 + 505 * m.carried + m.stages.len()
+}
 
 impl Subject {
     pub fn new(text: &[u8]) -> Subject {
@@ -63,7 +65,7 @@ impl Subject {
         report.cover(&format!("analysis: {}", covered(&a.answer)));
         match (refusal, &self.read, a.answer) {
             (None, Ok(m), Answer::Reached(n)) => {
-                report.check(n == a.run.len() && n <= LONGEST, || format!("{n} places: {}", about()));
+                report.check(n == a.run.len() && n <= longest(m), || format!("{n} places: {}", about()));
                 report.check(broken_at(m, &a.run).is_none(), || format!("shown run {:?}: {}", a.run, about()));
                 report.check(matches!(a.run.last().and_then(|p| Place::decode(*p)), Some(Place::Meeting(s, _)) if s == m.stages.len()), || {
                     format!("last place: {}", about())
@@ -115,7 +117,7 @@ impl Subject {
 
     /// Puts a place to a lent state with a work area of this size, and compares the answer and the whole state with the plain ones.
     pub fn place_with(&self, report: &mut Report, lent: &mut Lent, place: u32, work: usize) -> Answer {
-        let (plain, after, stood) = match (self.refusal(&[(12, work < WORK), (14, lent[258] == 8_640)]), &self.read) {
+        let (plain, after, stood) = match (self.refusal(&[(12, work < WORK), (14, lent[KEPT] as usize == RUN)]), &self.read) {
             (None, Ok(m)) => placed(m, lent, place),
             (refusal, _) => (refused(refusal), *lent, None),
         };
@@ -173,20 +175,23 @@ fn line_and_kind(clause: &Clause) -> u64 {
 
 /// A state before the first place.
 pub fn fresh() -> Lent {
-    let mut lent = [0; 259];
-    lent[257] = 255;
+    let mut lent = [0; 260];
+    for cell in CARRIED_OBJECTS {
+        lent[cell] = 255;
+    }
     lent
 }
 
 /// The session that a lent state has, if it fits the text.
 fn session_of(m: &Model, lent: &Lent) -> Option<Session> {
-    let [objects, met, carried, kept] = [255, 256, 257, 258].map(|i| lent[i] as usize);
-    if objects > 255 || met > m.stages.len() || kept > 8_640 || carried != 255 && carried >= objects {
+    let [objects, met, kept] = [OBJECTS, MET, KEPT].map(|i| lent[i] as usize);
+    let carried = CARRIED_OBJECTS.map(|i| lent[i] as usize);
+    if objects > 255 || met > m.stages.len() || kept > RUN || carried.iter().any(|o| *o != 255 && *o >= objects) {
         return None;
     }
     let db = lent[..objects].to_vec();
     let declared = db.iter().all(|state| state >> m.states == 0);
-    declared.then_some(Session { db, met, carried: (carried != 255).then_some(carried) })
+    declared.then_some(Session { db, met, carried: carried.map(|o| (o != 255).then_some(o)) })
 }
 
 /// The plain answer to a place put to a lent state, the state after it, and beside kept the number of those who stood by.
@@ -194,14 +199,16 @@ fn placed(m: &Model, lent: &Lent, n: u32) -> (Answer, Lent, Option<u32>) {
     let Some(session) = session_of(m, lent) else { return (Answer::Broken(0), *lent, None) };
     let facts = m.facts(&session.db);
     let Some((place, after)) = Place::decode(n).and_then(|p| Some((p, session.after(m, &facts, p)?))) else {
-        return (Answer::Broken(lent[258] as usize), *lent, None);
+        return (Answer::Broken(lent[KEPT] as usize), *lent, None);
     };
     let stood = m.stood_by(&session.db, &facts, place);
     let mut left = *lent;
     left[..after.db.len()].copy_from_slice(&after.db);
-    left[255] = after.db.len() as u32;
-    left[256] = after.met as u32;
-    left[257] = after.carried.map_or(255, |o| o as u32);
-    left[258] += 1;
+    left[OBJECTS] = after.db.len() as u32;
+    left[MET] = after.met as u32;
+    for (cell, object) in CARRIED_OBJECTS.into_iter().zip(after.carried) {
+        left[cell] = object.map_or(255, |o| o as u32);
+    }
+    left[KEPT] += 1;
     (Answer::Kept, left, Some(stood))
 }

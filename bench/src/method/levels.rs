@@ -62,10 +62,10 @@ fn seats(s: &Stage) -> ([usize; 3], usize) {
     (p, carried)
 }
 
-/// The entries of a level after the walkers have walked. A variable that is not chosen yet has the number 0 alone.
-fn walked(l: &Matrix, chosen: [bool; 2], w: &Matrix) -> Matrix {
+/// The entries of a level after these walkers have walked. A variable that is not chosen yet has the number 0 alone.
+fn walked(l: &Matrix, walks: [bool; 2], w: &Matrix) -> Matrix {
     let mut m = *l;
-    if chosen[1] {
+    if walks[1] {
         for row in m.iter_mut() {
             let mut r = *row;
             while r.any() {
@@ -75,7 +75,7 @@ fn walked(l: &Matrix, chosen: [bool; 2], w: &Matrix) -> Matrix {
             }
         }
     }
-    if chosen[0] {
+    if walks[0] {
         let from = m;
         for a in 0..N {
             if from[a].any() {
@@ -167,7 +167,8 @@ pub fn analyze(m: &Model) -> Answer {
         let (p, carried) = seats(s);
         let b = s.body.renamed(p);
         chosen[i + 1] = [chosen[i][0] || s.seat[0] != 255, chosen[i][1] || s.seat[1] != 255];
-        let pre = walked(&level[i], chosen[i], &w);
+        let walks = [0, 1].map(|c| chosen[i][c] && s.seat[c] != 255);
+        let pre = walked(&level[i], walks, &w);
         let mut next = [R::ZERO; N];
         if carried == 2 {
             e.t.fwd[6] = [R::ZERO; N];
@@ -235,9 +236,12 @@ pub fn analyze(m: &Model) -> Answer {
         }
     }
     for i in (0..last).rev() {
-        let [a, b] = at[i + 1];
-        let mut rows = if chosen[i][0] { into[a] } else { R::one(0) };
-        let cols = if chosen[i][1] { into[b] } else { R::one(0) };
+        let from = |c: usize| match (chosen[i][c], m.stages[i].seat[c]) {
+            (false, _) => R::one(0),
+            (true, 255) => R::one(at[i + 1][c]),
+            (true, _) => into[at[i + 1][c]],
+        };
+        let (mut rows, cols) = (from(0), from(1));
         while rows.any() {
             let x = rows.pop();
             let r = level[i][x].and(cols);

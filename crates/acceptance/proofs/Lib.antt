@@ -11,3 +11,4 @@ pub mod Stages
 pub mod Records
 pub mod Office
 pub mod Growth
+pub mod Pair

@@ -15,7 +15,6 @@ use Rattle.grammar.specs.Declarations.{Declared, lookup, count, extend, place, 
 use Rattle.grammar.specs.Rows.{lower, listFault, bodyFault, stagesFault, fault}
 use Rattle.grammar.specs.Models.{declare, clause}
 use Rattle.grammar.specs.Texts.{accepted, judge, effect, step, finish, readLines, outcome}
-use Rattle.acceptance.specs.Sound.{carriedOf}
 use Rattle.acceptance.specs.Represents.{HoldsClause, HoldsStage, Represents}
 use Rattle.acceptance.proofs.WellFormed.{accepted-well-formed}
 
@@ -50,7 +49,7 @@ held-stage (suc zero) h = record { within = omega arith; few = omega arith; numb
 held-stage (suc (suc i)) h = absurd (omega arith)
 
 pub represented : Represents 8 D P Q office
-unfolding carriedOf shared
+unfolding shared firsts
 represented = record {
   declared = refl;
   relations = refl;

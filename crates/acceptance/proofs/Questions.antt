@@ -1,31 +1,32 @@
 -- THE QUESTION of an `ask` line without fault is good.
 use mathlib.Core.Path.{_≡_, refl, sym, ap, _∙_, subst}
-use mathlib.Core.Logic.{_⊎_, inl, inr, ⊎-elim}
-use mathlib.Core.Bool.{true, false, _&&_, false≢true}
-use mathlib.Core.List.{List, [], _∷_, map, map-append}
-use Prim.Native.Nat.{ℕ, zero, suc, _*_, _≤_, _<_}
+use mathlib.Core.Logic.{⊎-elim}
+use mathlib.Core.Bool.{Bool, true, false, _&&_, _||_, false≢true}
+use mathlib.Core.List.{List, [], _∷_, _++_, map, map-append}
+use Prim.Native.Nat.{ℕ, zero, suc, _*_, _≤_}
 use native.Mathlib.Omega.{arith}
 use lib.Dec.{eqb, leb, ltb}
-use lib.ListN.{length, getD, length-map}
-use borrow.Author.Tests.{eqb-true, eq-eqb, ne-eqb, leb-true, leb-false, le-leb, ltb-true}
+use lib.ListN.{length, length-map}
+use borrow.Author.Tests.{eq-eqb, ne-eqb, leb-true, ltb-true, ltb-false}
+use Rattle.limits.specs.Limits as limit
 use Rattle.semantics.specs.Models as meaning
-use Rattle.semantics.specs.Models.{elem, Question, vars, shared, SafeQuestion, CarriesOnly}
-use Rattle.semantics.proofs.Tools.{or-true-cases, or-right, elem-left, elem-right}
-use Rattle.model.specs.WellFormed.{uncarried}
+use Rattle.semantics.specs.Models.{elem, shared, firsts, standing, only, carriers, SafeQuestion}
+use Rattle.semantics.proofs.Tools.{or-right}
+use Rattle.model.specs.Records.{upFrom}
 use Rattle.grammar.specs.Bytes.{Word, same}
 use Rattle.grammar.specs.Forms.{Literal, askForm, all, properBody, properStage, proper}
 use Rattle.grammar.specs.Declarations as words
 use Rattle.grammar.specs.Declarations.{Declared, member, extend, place, variables, allVariables}
 use Rattle.grammar.specs.Rows.{row, lower, bodyFault, scopeFault, stagesFault, carried, carriesMany, fault}
 use Rattle.grammar.specs.Models.{bodyOf, questionOf}
-use Rattle.grammar.proofs.Words.{same-refl, same-eq, member-left, member-right, place-below, extend-new}
+use Rattle.grammar.proofs.Words.{same-refl, same-eq, member-append, member-left, member-right, place-below, extend-new}
 use Rattle.grammar.proofs.Lower.{lower-none}
 use Rattle.grammar.proofs.Tests.{either, clash, and-left, and-right}
-use Rattle.acceptance.specs.Sound.{Each, GoodDeclarations, GoodStage, GoodQuestion, askVars, firstShared, carriedOf}
+use Rattle.acceptance.specs.Sound.{Each, GoodDeclarations, GoodStage, GoodQuestion}
 use Rattle.acceptance.proofs.Words.{member-here, news, extend-news, news-both, place-injective}
 use Rattle.acceptance.proofs.Declarations.{row-none}
 use Rattle.acceptance.proofs.Bodies.{vars-body}
-use Rattle.acceptance.proofs.Scopes.{elem-mapped, few-in-order, at-most-three, safe-body, few-numbers}
+use Rattle.acceptance.proofs.Scopes.{elem-mapped, in-order, few-in-order, at-most-three, safe-body, few-numbers}
 use Rattle.acceptance.proofs.Clauses.{good-body}
 
 -- numbers are equal where the words are
@@ -36,13 +37,13 @@ module _ (vs : List Word) where
   pub within-rest : (w : Word) (ws : List Word) → Within (w ∷ ws) → Within ws
   within-rest w ws k u e = k u (or-right (same u w) (member u ws) e)
 
-  pub number-same : (w v : Word) → member w vs ≡ true → member v vs ≡ true → eqb (place vs w) (place vs v) ≡ same w v
+  number-same : (w v : Word) → member w vs ≡ true → member v vs ≡ true → eqb (place vs w) (place vs v) ≡ same w v
   number-same w v h k = ⊎-elim
       (λ (q : same w v ≡ true). rw q (eq-eqb (place vs w) (place vs v) (ap (place vs) (same-eq w v q))))
       (λ (q : same w v ≡ false). rw q (ne-eqb (place vs w) (place vs v) (λ z. clash (subst (λ (u : Word). same w u ≡ true) (place-injective vs w v h k z) (same-refl w)) q)))
       (either (same w v))
 
-  number-member : (w : Word) (ws : List Word) → member w vs ≡ true → Within ws → elem (place vs w) (map (place vs) ws) ≡ member w ws
+  pub number-member : (w : Word) (ws : List Word) → member w vs ≡ true → Within ws → elem (place vs w) (map (place vs) ws) ≡ member w ws
   number-member w [] h k = refl
   number-member w (v ∷ ws) h k = rw (number-same w v h (k v (member-here v ws)), number-member w ws h (within-rest v ws k))
 
@@ -50,51 +51,42 @@ module _ (vs : List Word) where
 abbrev pub askWords : List (List Literal) → List Word
 askWords qs = extend [] (allVariables qs)
 
-pub within-asked : (qs : List (List Literal)) → Within (askWords qs) (allVariables qs)
+within-asked : (qs : List (List Literal)) → Within (askWords qs) (allVariables qs)
 within-asked qs w e = extend-new w [] (allVariables qs) e
 
--- AT MOST ONE
-same-one : (xs : List Word) (v w : Word) → length xs < 2 → member v xs ≡ true → member w xs ≡ true → v ≡ w
-same-one [] v w l h k = absurd (false≢true h)
-same-one (x ∷ []) v w l h k = let p = only v h in let q = only w k in cc
-  where
-    only : (u : Word) → member u (x ∷ []) ≡ true → u ≡ x
-    only u e = ⊎-elim (λ q. same-eq u x q) (λ q. absurd (false≢true q)) (or-true-cases (same u x) false e)
-same-one (x ∷ y ∷ xs) v w l h k = absurd (omega arith)
+-- words in order of first appearance are numbers in that order
+swap : (a b : Bool) → (a || b) ≡ (b || (a || false))
+swap true true = refl
+swap true false = refl
+swap false true = refl
+swap false false = refl
 
-carried-member : (qs : List (List Literal)) (xs : List Word) (w : Word) → member w xs ≡ true → leb 2 (words.stands w qs) ≡ true → member w (carried qs xs) ≡ true
-carried-member qs [] w e h = e
-carried-member qs (x ∷ xs) w e h = ⊎-elim
-    (λ (q : same w x ≡ true). rw (subst (λ (u : Word). leb 2 (words.stands u qs) ≡ true) (same-eq w x q) h, q))
-    (λ (q : same w x ≡ false). ⊎-elim
-    (λ (p : leb 2 (words.stands x qs) ≡ true). rw (p, q) (carried-member qs xs w (rw q at e) h))
-    (λ (p : leb 2 (words.stands x qs) ≡ false). rw p (carried-member qs xs w (rw q at e) h))
-    (either (leb 2 (words.stands x qs))))
-    (either (same w x))
+module _ (vs : List Word) where
+  pub firsts-numbers : (seen ws : List Word) (S : List ℕ) → Within vs ws → ((w : Word) → member w vs ≡ true → elem (place vs w) S ≡ member w seen)
+      → firsts S (map (place vs) ws) ≡ map (place vs) (news seen ws)
+  unfolding firsts
+  firsts-numbers seen [] S k h = refl
+  firsts-numbers seen (w ∷ ws) S k h =
+      let m = k w (member-here w ws) in
+      let rest = within-rest vs w ws k in
+      rw (h w m) (⊎-elim
+      (λ (q : member w seen ≡ true). rw q (firsts-numbers seen ws S rest h))
+      (λ (q : member w seen ≡ false). rw q (ap {B = List ℕ} (λ (l : List ℕ). place vs w ∷ l) (firsts-numbers (seen ++ (w ∷ [])) ws (place vs w ∷ S) rest
+      (λ u e. rw (number-same vs u w e m, h u e, member-append u seen (w ∷ [])) (swap (same u w) (member u seen))))))
+      (either (member w seen)))
 
--- THE CARRIED VARIABLE
-stands-elem : (x : ℕ) (Q : Question) → 0 < meaning.stands x Q → elem x (askVars Q) ≡ true
-stands-elem x [] h = absurd (omega arith)
-stands-elem x (q ∷ Q) h = ⊎-elim
-    (λ (e : elem x (vars q) ≡ true). elem-left x (vars q) (askVars Q) e)
-    (λ (e : elem x (vars q) ≡ false). elem-right x (vars q) (askVars Q) (stands-elem x Q (rw e at h)))
-    (either (elem x (vars q)))
+-- the words of a line have the numbers 0, 1 .. in order
+pub places-rise : (ws : List Word) → map (place (extend [] ws)) (extend [] ws) ≡ upFrom 0 (length (extend [] ws))
+places-rise ws = ap (map (place (extend [] ws))) (extend-news [] ws) ∙ sym (firsts-numbers (extend [] ws) [] ws [] (λ w e. extend-new w [] ws e) (λ w m. refl)) ∙ in-order ws
 
-module _ (Q : Question) where
-  shared-first : (x : ℕ) (xs : List ℕ) → elem x xs ≡ true → shared Q x ≡ true → shared Q (firstShared Q xs) ≡ true
-  shared-first x [] e h = absurd (false≢true e)
-  shared-first x (y ∷ xs) e h = ⊎-elim
-      (λ (q : shared Q y ≡ true). rw q q)
-      (λ (q : shared Q y ≡ false). rw q (⊎-elim (λ p. clash (subst (λ (z : ℕ). shared Q z ≡ true) (eqb-true x y p) h) q) (λ p. shared-first x xs p h) (or-true-cases (eqb x y) (elem x xs) e)))
-      (either (shared Q y))
-
-  none-or-shared : (xs : List ℕ) → (firstShared Q xs ≡ uncarried) ⊎ (shared Q (firstShared Q xs) ≡ true)
-  none-or-shared [] = inl refl
-  none-or-shared (x ∷ xs) = ⊎-elim (λ (q : shared Q x ≡ true). rw q (inr q)) (λ (q : shared Q x ≡ false). rw q (none-or-shared xs)) (either (shared Q x))
-
-  pub carried-or-none : (carriedOf Q ≡ uncarried) ⊎ (shared Q (carriedOf Q) ≡ true)
-  unfolding carriedOf
-  carried-or-none = none-or-shared (askVars Q)
+-- what a test leaves of the numbers of words, where it tells the carried words
+pub only-carried : (vs : List Word) (f : ℕ → Bool) (qs : List (List Literal)) → ((w : Word) → member w vs ≡ true → f (place vs w) ≡ leb 2 (words.stands w qs))
+    → (ws : List Word) → Within vs ws → only f (map (place vs) ws) ≡ map (place vs) (carried qs ws)
+only-carried vs f qs h [] k = refl
+only-carried vs f qs h (w ∷ ws) k = ⊎-elim
+    (λ (e : leb 2 (words.stands w qs) ≡ true). rw (h w (k w (member-here w ws)), e, only-carried vs f qs h ws (within-rest vs w ws k)))
+    (λ (e : leb 2 (words.stands w qs) ≡ false). rw (h w (k w (member-here w ws)), e) (only-carried vs f qs h ws (within-rest vs w ws k)))
+    (either (leb 2 (words.stands w qs)))
 
 stage-right : (D : Declared) (q : List Literal) (qs : List (List Literal)) → stagesFault D (q ∷ qs) ≡ 0 → (bodyFault D q ≡ 0) × (scopeFault [] q ≡ 0) × (stagesFault D qs ≡ 0)
 unfolding stagesFault
@@ -102,11 +94,6 @@ stage-right D q qs e =
     let f = lower-none (lower (bodyFault D q) (scopeFault [] q)) (stagesFault D qs) e in
     let g = lower-none (bodyFault D q) (scopeFault [] q) (f .0) in
     (g .0, g .1, f .1)
-
-small-at : (D : Declared) (Q : Question) → Each (GoodStage D) Q → (i x : ℕ) → elem x (vars (getD Q i [])) ≡ true → x < 12
-small-at D [] h i x e = absurd (false≢true e)
-small-at D (q ∷ Q) h zero x e = h .0 .small x e
-small-at D (q ∷ Q) h (suc i) x e = small-at D Q (h .1) i x e
 
 -- THE STAGES, their variables numbered by vs
 module _ (D : Declared) where
@@ -122,7 +109,7 @@ module _ (D : Declared) where
       omega arith
 
   module _ (vs : List Word) where
-    vars-all : (qs : List (List Literal)) → stagesFault D qs ≡ 0 → askVars (map (bodyOf D vs) qs) ≡ map (place vs) (allVariables qs)
+    vars-all : (qs : List (List Literal)) → stagesFault D qs ≡ 0 → standing (map (bodyOf D vs) qs) ≡ map (place vs) (allVariables qs)
     unfolding stagesFault allVariables
     vars-all [] e = refl
     vars-all (q ∷ qs) e =
@@ -136,7 +123,7 @@ module _ (D : Declared) where
     safe-all (q ∷ qs) e (suc i) x h = safe-all qs (stage-right D q qs e .2) i x h
 
     -- a variable stands in as many stages as its word
-    pub stands-all : (qs : List (List Literal)) → stagesFault D qs ≡ 0 → Within vs (allVariables qs) → (w : Word) → member w vs ≡ true
+    stands-all : (qs : List (List Literal)) → stagesFault D qs ≡ 0 → Within vs (allVariables qs) → (w : Word) → member w vs ≡ true
         → meaning.stands (place vs w) (map (bodyOf D vs) qs) ≡ words.stands w qs
     unfolding stagesFault allVariables words.stands
     stands-all [] e k w h = refl
@@ -172,37 +159,14 @@ module _ (D : Declared) where
     few-asked : length qs ≤ 4 → length (news [] (allVariables qs)) ≤ 12
     few-asked h = let z = few-all qs faultless in omega arith
 
-    -- a carried variable's word
-    pub word-of : (x : ℕ) → shared (questionOf D qs) x ≡ true → (w : Word) × (member w (carried qs (askWords qs)) ≡ true) × (x ≡ place (askWords qs) w)
+    -- the carried variables have the numbers of the carried words
+    pub carriers-words : carriers (questionOf D qs) ≡ map (place (askWords qs)) (carried qs (askWords qs))
     unfolding shared
-    word-of x h =
+    carriers-words =
         let vs = askWords qs in
-        let s = ltb-true 1 (meaning.stands x (questionOf D qs)) h in
-        let w = elem-mapped (place vs) x (allVariables qs) (rw (vars-all vs qs faultless) at (stands-elem x (questionOf D qs) (omega arith))) in
-        let m = within-asked qs (w .0) (w .1) in
-        let e = stands-all vs qs faultless (within-asked qs) (w .0) m in
-        let t = ap (λ (y : ℕ). meaning.stands y (questionOf D qs)) (w .2) in
-        (w .0, carried-member qs vs (w .0) m (le-leb 2 (words.stands (w .0) qs) (omega arith)), w .2)
-
-    module _ (one : carriesMany qs ≡ false) where
-      pub only-carried : (x : ℕ) → shared (questionOf D qs) x ≡ true → x ≡ carriedOf (questionOf D qs)
-      unfolding carriedOf shared
-      only-carried x h =
-          let Q = questionOf D qs in
-          let s = ltb-true 1 (meaning.stands x Q) h in
-          let v = shared-first Q x (askVars Q) (stands-elem x Q (omega arith)) h in
-          let a = word-of x h in
-          let b = word-of (carriedOf Q) v in
-          let e = same-one (carried qs (askWords qs)) (a .0) (b .0) (leb-false 2 (length (carried qs (askWords qs))) one) (a .1) (b .1) in
-          a .2 ∙ ap (place (askWords qs)) e ∙ sym (b .2)
-
-      carries : Each (GoodStage D) (questionOf D qs) → CarriesOnly (questionOf D qs) (carriedOf (questionOf D qs))
-      carries stages =
-          let Q = questionOf D qs in
-          record {
-            only = only-carried;
-            own = λ i e. ⊎-elim (λ q. absurd (let z = small-at D Q stages i (carriedOf Q) e in omega arith)) (λ q. q) (carried-or-none Q);
-          }
+        let inside = within-asked qs in
+        rw (vars-all vs qs faultless, firsts-numbers vs [] (allVariables qs) [] inside (λ w m. refl), ← extend-news [] (allVariables qs))
+        (only-carried vs (shared (questionOf D qs)) qs (λ w m. rw (stands-all vs qs faultless inside w m)) vs (λ w m. m))
 
   pub good-question : GoodDeclarations D → (clauses : ℕ) (qs : List (List Literal)) → proper (askForm qs) ≡ true → fault D clauses (askForm qs) ≡ 0 → GoodQuestion D (questionOf D qs)
   unfolding fault
@@ -220,6 +184,5 @@ module _ (D : Declared) where
         stage = stages;
         variables = rw (vars-all vs qs (f .0)) (few-in-order 12 (allVariables qs) few);
         safe = safe-all vs qs (f .0);
-        carries = carries qs (f .0) (row-none 11 (carriesMany qs) (omega arith) (f .1)) stages;
-        carried = carried-or-none (questionOf D qs);
+        carries = rw (carriers-words qs (f .0), length-map (carried qs vs) (place vs)) (ltb-false limit.carried (length (carried qs vs)) (row-none 11 (carriesMany qs) (omega arith) (f .1)));
       }

@@ -11,7 +11,7 @@ use lib.Seq.{getD-take, getD-drop, take-take, length-take-le}
 use borrow.Author.Tests.{ltb-true, ltb-false, ne-eqb}
 use Rattle.semantics.specs.Models as models
 use Rattle.semantics.specs.Models.{elem, is, isnt, fact, Body, Line, Program, Question, other, vars, firsts, names, Distinct}
-use Rattle.semantics.proofs.Tools.{either, same?, or-right, elem-here, clash}
+use Rattle.semantics.proofs.Tools.{either, same?, or-right, elem-here, clash, firsts-among}
 use Rattle.model.specs.declared.Action.{Action}
 use Rattle.model.specs.declared.Action.the-variants.{Rule, New, Next}
 use Rattle.model.specs.declared.Clause.{Clause}
@@ -25,7 +25,6 @@ use Rattle.model.specs.WellFormed.{classOf, indexOf, inClass, declaredIn, Numbe
 use Rattle.model.proofs.Encoding.{decoded-is, decoded-isnot, decoded-nullary, decoded-single, decoded-pair}
 use Rattle.model.proofs.Lines.{stage-at}
 use Rattle.model.proofs.Numbering.{length-upFrom}
-use Rattle.model.proofs.Renaming.{firsts-from}
 use Rattle.grammar.specs.Bytes.{Word, lines}
 use Rattle.grammar.specs.Declarations.{Declared, class, count}
 use Rattle.grammar.specs.Texts.{accepted, outcome}
@@ -256,7 +255,7 @@ module _ (n : ℕ) (D : Declared) (P : Program) (Q : Question) (m : Model) (s : 
         some = rw (len, size) at (g .some);
         numbered = held .numbered;
         different = λ x y k l e. distinct-at all (firsts-distinct [] (vars (stageOf (m .literals) t))) x y (rw count k) (rw count l) (sym (at x k) ∙ e ∙ at y l);
-        small = λ x l. rw (at x l) (g .small (getD all x 0) (firsts-from (getD all x 0) [] (vars (stageOf (m .literals) t)) (elem-at all x (rw count l))));
+        small = λ x l. rw (at x l) (g .small (getD all x 0) (firsts-among (getD all x 0) [] (vars (stageOf (m .literals) t)) (elem-at all x (rw count l))));
       }
 
   -- THE THEOREM
@@ -271,8 +270,8 @@ module _ (n : ℕ) (D : Declared) (P : Program) (Q : Question) (m : Model) (s : 
     stages = rw (r .stages) (s .question .stages);
     stage = good-stage;
     safely = rw (r .question) (s .question .safe);
-    carries = rw (r .question, r .carried) (s .question .carries);
-    carried = rw (r .question, r .carried) (s .question .carried);
+    carries = rw (r .question) (s .question .carries);
+    carried = rw (r .question) (r .carried);
     lines = rw (r .lines) (s .most);
     literalcount = r .literalcount;
     codes = r .codes;

@@ -4,14 +4,13 @@ use mathlib.Core.List.{List, _++_, map}
 use Prim.Native.Nat.{ℕ, _+_, _≤_, _<_}
 use lib.ListN.{length, take}
 use Rattle.limits.specs.Limits as limit
-use Rattle.semantics.specs.Models.{Program, Question, vars, names}
+use Rattle.semantics.specs.Models.{Program, Question, vars, names, carriers}
 use Rattle.model.specs.declared.Clause.{Clause}
 use Rattle.model.specs.declared.Stage.{Stage}
 use Rattle.model.specs.declared.Model.{Model}
-use Rattle.model.specs.Records.{headOf, clauseBody, stageBody, stageOf, programOf, questionOf, clauseAt, stageAt}
+use Rattle.model.specs.Records.{headOf, clauseBody, stageBody, stageOf, programOf, questionOf, clauseAt, stageAt, padded}
 use Rattle.model.specs.WellFormed.{Numbered}
 use Rattle.grammar.specs.Declarations.{Declared}
-use Rattle.acceptance.specs.Sound.{carriedOf}
 
 -- the codes of the declared relations, in order
 abbrev pub codesOf : Declared → List ℕ
@@ -40,7 +39,7 @@ pub record Represents (n : ℕ) (D : Declared) (P : Program) (Q : Question) (m :
   pub stages : m .stagecount ≡ length Q
   pub question : questionOf m ≡ Q
   pub stage : (i : ℕ) → i < m .stagecount → HoldsStage m (stageAt m i)
-  pub carried : m .carried ≡ carriedOf Q
+  pub carried : m .carried ≡ padded limit.carried (carriers Q)
   pub lines : m .lines ≡ n
   -- the sizes of the rows
   pub literalcount : m .literalcount ≤ limit.literals

@@ -1,14 +1,14 @@
 -- SOUND MODELS: what the table's rows leave of an accepted text, so that no later call checks it again.
 use mathlib.Core.Path.{_≡_}
-use mathlib.Core.Logic.{_⊎_, _≢_}
-use mathlib.Core.Bool.{true, cond}
+use mathlib.Core.Logic.{_≢_}
+use mathlib.Core.Bool.{true}
 use mathlib.Core.List.{List, [], _∷_, _++_}
 use Prim.Native.Nat.{ℕ, suc, _+_, _^_, _≤_, _<_}
 use lib.ListN.{length, take, getD}
 use Rattle.limits.specs.Limits as limit
-use Rattle.semantics.specs.Models.{elem, Literal, is, isnt, fact, Body, Line, rule, new, next, other, Program, Question, vars, shared, firsts, names, SafeLine, Safe, SafeQuestion, CarriesOnly}
+use Rattle.semantics.specs.Models.{elem, Literal, is, isnt, fact, Body, Line, rule, new, next, other, Program, Question, vars, firsts, names, standing, carriers, SafeLine, Safe, SafeQuestion}
 use Rattle.model.specs.Records.{upFrom}
-use Rattle.model.specs.WellFormed.{indexOf, Numbered, uncarried}
+use Rattle.model.specs.WellFormed.{indexOf, Numbered}
 use Rattle.grammar.specs.Bytes.{Word, isName}
 use Rattle.grammar.specs.Declarations.{class, Declared, count}
 
@@ -102,20 +102,7 @@ pub record GoodLines (n : ℕ) (D : Declared) (P : Program) : Type 0 where
   pub clause : Each (GoodClause n D) P
   pub rising : (i j : ℕ) → i < j → j < length P → lineAt P i < lineAt P j
 
--- THE QUESTION. The variables of the `ask` line, as they stand in it
-abbrev pub askVars : Question → List ℕ
-askVars [] = []
-askVars (q ∷ Q) = vars q ++ askVars Q
-
--- the CARRIED variable: the first that stands "in two or more stages", and 255 where there is none
-abbrev pub firstShared : Question → List ℕ → ℕ
-firstShared Q [] = uncarried
-firstShared Q (x ∷ xs) = cond (shared Q x) x (firstShared Q xs)
-
-unfoldable pub carriedOf : Question → ℕ
-carriedOf Q = firstShared Q (askVars Q)
-
--- a stage of "1 to 8 literals" has at most 3 variables; those of the `ask` line are numbered below 12
+-- THE QUESTION. A stage of "1 to 8 literals" has at most 3 variables; those of the `ask` line are numbered below 12
 pub record GoodStage (D : Declared) (q : Body) : Type 0 where
   pub some : 1 ≤ length q
   pub body : GoodBody D q
@@ -127,11 +114,10 @@ pub record GoodQuestion (D : Declared) (Q : Question) : Type 0 where
   pub one : 1 ≤ length Q
   pub stages : length Q ≤ limit.stages
   pub stage : Each (GoodStage D) Q
-  pub variables : InOrder limit.asked (askVars Q)
+  pub variables : InOrder limit.asked (standing Q)
   pub safe : SafeQuestion Q
-  -- no other variable is carried (row 11)
-  pub carries : CarriesOnly Q (carriedOf Q)
-  pub carried : (carriedOf Q ≡ uncarried) ⊎ (shared Q (carriedOf Q) ≡ true)
+  -- document 02, R-5: "three or more are refused 11"
+  pub carries : length (carriers Q) ≤ limit.carried
 
 -- A SOUND MODEL of a text of n lines, the last of which is `ask`
 pub record Sound (n : ℕ) (D : Declared) (P : Program) (Q : Question) : Type 0 where

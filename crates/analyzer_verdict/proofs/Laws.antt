@@ -28,7 +28,7 @@ parts k = refl
 module _ (m : Model) (wf : WellFormed m) where
   module _ (w : List ℕ) (r : Found) (h : Searched m w r) where
     -- what the search recorded
-    pub recorded : Recorded m w (r .states) (r .levels) (r .moves .table) (r .moves .steps) (r .moves .ways)
+    pub recorded : Recorded m w (r .states) (r .levels .rows) (r .moves .table) (r .moves .steps) (r .moves .ways)
     recorded =
         record {
           known = record { model = wf; proper = h .proper; found = h .found; agree = h .agree; exact = h .exact };

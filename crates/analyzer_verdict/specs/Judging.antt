@@ -29,7 +29,7 @@ pub record Shown (P : Program) (Q : Question) (run run′ : List ℕ) (n : ℕ) 
   pub written : take n run′ ≡ map numberOf places
   pub decoded : map placeOf (take n run′) ≡ map some places
   pub rest : drop n run′ ≡ drop n run
-  -- a shown run needs at most 8,633 steps; "with 4 meetings, 8,637 places"
+  -- "a run may need 8,128 + 2 × 505 steps"; with 4 meetings, 9,142 places
   pub fits : n ≤ limit.shown
   -- demand 2: the replay keeps it
   pub kept : Kept P Q places

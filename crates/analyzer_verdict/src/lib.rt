@@ -36,11 +36,12 @@ fn conclude(m: Model, work: &[u8], run: &mut [u32], found: Found) -> Answer
     }
     let states = found.states;
     let levels = found.levels;
+    let rows = levels.rows;
     let moves = found.moves;
     let table = moves.table;
     let steps = moves.steps;
     let ways = moves.ways;
-    let places = witness::witness(run, work, m, states, levels, &table, &steps, &ways);
+    let places = witness::witness(run, work, m, states, &rows, &table, &steps, &ways);
     let last = model::place_of(run[places - 1]);
     Answer::Reached { places, last }
 }

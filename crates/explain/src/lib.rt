@@ -48,10 +48,11 @@ fn why(m: Model, s: Session, n: u32, work: &mut [u8]) -> Reason
     let literals = m.literals;
     let need = replay_places::needs(&numbers, &literals, n);
     replay_runs::derive(m, need, v.count, work);
+    let carried = s.carried;
     let at = Position {
         objects: count,
         met: s.met,
-        carried: s.carried,
+        carried,
         kept: s.kept,
     };
     reasons::why_place(&numbers, &literals, &v.slots, work, at, n)

@@ -30,7 +30,7 @@ unkept-state : (o : Outcome) (s : Session) (place : ℕ) (work : List ℕ) (a : 
 unkept-state (refused k l) s place work a t work′ not h = h .1
 unkept-state (accepted D P Q) s place work a t work′ not h = ⊎-elim (λ w. w .left) (λ w. ⊎-elim (λ k. absurd (not (k .stood) (k .answer))) (λ b. b .left) (w .1)) (h .0)
 
-pub unkept-left : (text lent : List ℕ) (place : ℕ) (work : List ℕ) (n : ℕ) (lent′ work′ : List ℕ) → length lent ≡ 259 → (h : Placed text lent place work n lent′ work′)
+pub unkept-left : (text lent : List ℕ) (place : ℕ) (work : List ℕ) (n : ℕ) (lent′ work′ : List ℕ) → length lent ≡ 260 → (h : Placed text lent place work n lent′ work′)
     → ((stood : ℕ) → h .answer ≡ Kept stood → ⊥) → lent′ ≡ lent
 unkept-left text lent place work n lent′ work′ size h not =
     h .cells ∙ ap cellsOf (unkept-state (placeOutcome text (stateOf lent) work) (stateOf lent) place work (h .answer) (h .after) work′ not (h .puts)) ∙ cells-left lent size

@@ -21,20 +21,26 @@ pub zero-beside-refusal : (n l : ℕ) → table (analyzing.refusal n l) 0 ≡ re
 zero-beside-refusal n l = refl
 
 -- a replay's state
-pub cells-filled : (s : Session) → length (s .states) ≡ 255
-    → paste (set (set (set (set (replicate 259 0) 255 (s .objects)) 256 (s .met)) 257 (s .carried)) 258 (s .kept)) 0 (s .states) (length (s .states)) ≡ cellsOf s
-cells-filled s h = rw (take-all (length (s .states)) (s .states) (omega arith), h) refl
+pub cells-filled : (s : Session) → length (s .states) ≡ 255 → length (s .carried) ≡ 2
+    → paste (set (set (set (set (set (replicate 260 0) 255 (s .objects)) 256 (s .met)) 257 (getD (s .carried) 0 0)) 258 (getD (s .carried) 1 0)) 259 (s .kept)) 0 (s .states) (length (s .states)) ≡ cellsOf s
+cells-filled s h e = rw (take-all (length (s .states)) (s .states) (omega arith), h) (ap (λ (r : List ℕ). s .states ++ (s .objects ∷ s .met ∷ (r ++ (s .kept ∷ [])))) (both (s .carried) e))
+  where
+    both : (l : List ℕ) → length l ≡ 2 → getD l 0 0 ∷ getD l 1 0 ∷ [] ≡ l
+    both [] q = absurd (omega arith)
+    both (a ∷ []) q = absurd (omega arith)
+    both (a ∷ b ∷ []) q = refl
+    both (a ∷ b ∷ c ∷ l) q = absurd (omega arith)
 
-pub states-copied : (cells : List ℕ) → length cells ≡ 259 → paste (replicate 255 0) 0 (take 255 cells) (length (take 255 cells)) ≡ take 255 cells
+pub states-copied : (cells : List ℕ) → length cells ≡ 260 → paste (replicate 255 0) 0 (take 255 cells) (length (take 255 cells)) ≡ take 255 cells
 states-copied cells h =
     let n : length (take 255 cells) ≡ 255 = length-take-le 255 cells (omega arith) in
     rw (take-all (length (take 255 cells)) (take 255 cells) (omega arith), n) (append-nil (take 255 cells))
 
 -- a state that is left leaves its cells
-pub cells-left : (cells : List ℕ) → length cells ≡ 259 → cellsOf (stateOf cells) ≡ cells
+pub cells-left : (cells : List ℕ) → length cells ≡ 260 → cellsOf (stateOf cells) ≡ cells
 cells-left cells h = sym (ap (λ (r : List ℕ). take 255 cells ++ r) rest) ∙ take-append-drop 255 cells
   where
-    rest : drop 255 cells ≡ getD cells 255 0 ∷ getD cells 256 0 ∷ getD cells 257 0 ∷ getD cells 258 0 ∷ []
+    rest : drop 255 cells ≡ getD cells 255 0 ∷ getD cells 256 0 ∷ getD cells 257 0 ∷ getD cells 258 0 ∷ getD cells 259 0 ∷ []
     rest =
-        rw (drop-cons cells 255 0 (omega arith), drop-cons cells 256 0 (omega arith), drop-cons cells 257 0 (omega arith), drop-cons cells 258 0 (omega arith))
-        (rw h at (ap (λ (r : List ℕ). getD cells 255 0 ∷ getD cells 256 0 ∷ getD cells 257 0 ∷ getD cells 258 0 ∷ r) (drop-length cells)))
+        rw (drop-cons cells 255 0 (omega arith), drop-cons cells 256 0 (omega arith), drop-cons cells 257 0 (omega arith), drop-cons cells 258 0 (omega arith), drop-cons cells 259 0 (omega arith))
+        (rw h at (ap (λ (r : List ℕ). getD cells 255 0 ∷ getD cells 256 0 ∷ getD cells 257 0 ∷ getD cells 258 0 ∷ getD cells 259 0 ∷ r) (drop-length cells)))

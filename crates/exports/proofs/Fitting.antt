@@ -94,21 +94,21 @@ stepped-small Q d s f h o (new t b) = record { objects = omega (arith, f .object
 stepped-small Q d s f h o (next x plus minus b) = record { objects = h .objects; met = h .met; kept = omega (arith, f .places) }
 stepped-small Q d s f h o other = h
 
-taken-small : (P : Program) (Q : Question) (d c : ℕ) (s : Session) → length Q ≤ 4 → Fits d Q s → Small s → (p : runs.Place) → Small (taken P Q c s p)
-taken-small P Q d c s few f h (step ℓ o) = stepped-small Q d s f h o (line P ℓ)
-taken-small P Q d c s few f h (meet i os) = record { objects = h .objects; met = omega (arith, f .stages); kept = omega (arith, f .places) }
+taken-small : (P : Program) (Q : Question) (d : ℕ) (s : Session) → length Q ≤ 4 → Fits d Q s → Small s → (p : runs.Place) → Small (taken P Q s p)
+taken-small P Q d s few f h (step ℓ o) = stepped-small Q d s f h o (line P ℓ)
+taken-small P Q d s few f h (meet i os) = record { objects = h .objects; met = omega (arith, f .stages); kept = omega (arith, f .places) }
 
-number-small : (P : Program) (Q : Question) (d c : ℕ) (s : Session) → Fits d Q s → (p : runs.Place) (k : ℕ) → Stands P (sessionOf c s) p k → k < 4294967296
-number-small P Q d c s f p k h =
-    omega (arith, standing-small P (sessionOf c s) p k (omega (arith, f .objects, length-take (s .objects) (s .states))) h)
+number-small : (P : Program) (Q : Question) (d : ℕ) (s : Session) → Fits d Q s → (p : runs.Place) (k : ℕ) → Stands P (sessionOf Q s) p k → k < 4294967296
+number-small P Q d s f p k h =
+    omega (arith, standing-small P (sessionOf Q s) p k (omega (arith, f .objects, length-take (s .objects) (s .states))) h)
 
-reply-fits : (P : Program) (Q : Question) (d c : ℕ) (s : Session) (n : ℕ) (a : PlaceAnswer) (t : Session) → length Q ≤ 4 → Small s → PlaceReply d P Q c s n a t → LowNumber a × Small t
-reply-fits P Q d c s n a t few h r = ⊎-elim (λ w. (rw (w .answer) (omega arith), rw (w .left) h))
-    (λ w. ⊎-elim (λ k. (rw (k .answer) (number-small P Q d c s (w .0) (k .place) (k .stood) (k .stands)), rw (k .taken) (taken-small P Q d c s few (w .0) h (k .place))))
+reply-fits : (P : Program) (Q : Question) (d : ℕ) (s : Session) (n : ℕ) (a : PlaceAnswer) (t : Session) → length Q ≤ 4 → Small s → PlaceReply d P Q s n a t → LowNumber a × Small t
+reply-fits P Q d s n a t few h r = ⊎-elim (λ w. (rw (w .answer) (omega arith), rw (w .left) h))
+    (λ w. ⊎-elim (λ k. (rw (k .answer) (number-small P Q d s (w .0) (k .place) (k .stood) (k .stands)), rw (k .taken) (taken-small P Q d s few (w .0) h (k .place))))
     (λ b. (rw (b .answer) (h .kept), rw (b .left) h)) (w .1)) r
 
 pub place-fits : (text : List ℕ) (short long : Bool) (s : Session) (n : ℕ) (work : List ℕ) (a : PlaceAnswer) (t : Session) (work′ : List ℕ) → Small s
     → (o : Outcome) → called text short long ≡ o → Put o s n work a t work′ → LowNumber a × Small t
 place-fits text short long s n work a t work′ h (refused k l) e w = (rw (w .0) tt, rw (w .1) h)
 place-fits text short long s n work a t work′ h (accepted D P Q) e w =
-    reply-fits P Q _ _ s n a t (accepted-sound text D P Q (called-taken text short long D P Q e .text-accepted) .question .stages) h (w .0)
+    reply-fits P Q _ s n a t (accepted-sound text D P Q (called-taken text short long D P Q e .text-accepted) .question .stages) h (w .0)

@@ -18,9 +18,16 @@ lastNumber (Refused n l) run = 0
 abbrev pub table : Analysis → ℕ → List ℕ
 table a last = a .count ∷ (a .states ++ (last ∷ []))
 
--- THE REPLAY'S STATE: 255 atomic states, the number of objects, the stages met, the carried object, the places kept
+-- THE REPLAY'S STATE: 255 atomic states, the number of objects, the stages met, the first and the second carried object, the places kept
 abbrev pub stateOf : List ℕ → Session
-stateOf cells = record { states = take limit.objects cells; objects = getD cells limit.objects 0; met = getD cells (limit.objects + 1) 0; carried = getD cells (limit.objects + 2) 0; kept = getD cells (limit.objects + 3) 0 }
+stateOf cells =
+    record {
+      states = take limit.objects cells;
+      objects = getD cells limit.objects 0;
+      met = getD cells (limit.objects + 1) 0;
+      carried = getD cells (limit.objects + 2) 0 ∷ getD cells (limit.objects + 3) 0 ∷ [];
+      kept = getD cells (limit.objects + 4) 0;
+    }
 
 abbrev pub cellsOf : Session → List ℕ
-cellsOf s = s .states ++ (s .objects ∷ s .met ∷ s .carried ∷ s .kept ∷ [])
+cellsOf s = s .states ++ (s .objects ∷ s .met ∷ (s .carried ++ (s .kept ∷ [])))

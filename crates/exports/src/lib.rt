@@ -27,14 +27,16 @@ const LAST: usize = LISTED + 1;
 
 const OUT: usize = LISTED + 2;
 
-// The cells of a replay's state: behind the objects' states their number, the stages met, the carried object and the places kept.
+// The cells of a replay's state: behind the objects' states their number, the stages met, the first and the second carried object and the places kept.
 const MET: usize = OBJECTS + 1;
 
-const CARRIED: usize = OBJECTS + 2;
+const FIRST: usize = OBJECTS + 2;
 
-const KEPT: usize = OBJECTS + 3;
+const SECOND: usize = OBJECTS + 3;
 
-const SESSION: usize = OBJECTS + 4;
+const KEPT: usize = OBJECTS + 4;
+
+const SESSION: usize = OBJECTS + 5;
 
 // Copies the numbers into the cells from place `at` on.
 fn copy(cells: &mut [u32], at: usize, numbers: &[u32])
@@ -122,11 +124,12 @@ fn unpack(cells: [u32; SESSION]) -> Session
 {
     let mut states = [0u32; OBJECTS];
     copy(&mut states, 0, &cells[..OBJECTS]);
+    let carried = [cells[FIRST], cells[SECOND]];
     Session {
         states,
         objects: cells[OBJECTS] as usize,
         met: cells[MET] as usize,
-        carried: cells[CARRIED],
+        carried,
         kept: cells[KEPT] as usize,
     }
 }
@@ -137,10 +140,12 @@ fn pack(s: Session) -> [u32; SESSION]
     ensures { λ r. ⌜ r ≡ cellsOf s ⌝ }
 {
     let states = s.states;
+    let carried = s.carried;
     let mut cells = [0u32; SESSION];
     cells[OBJECTS] = s.objects as u32;
     cells[MET] = s.met as u32;
-    cells[CARRIED] = s.carried;
+    cells[FIRST] = carried[0];
+    cells[SECOND] = carried[1];
     cells[KEPT] = s.kept as u32;
     copy(&mut cells, 0, &states);
     cells

@@ -1,4 +1,4 @@
--- WORKED EXAMPLES of document 01, computed from the definitions.
+-- WORKED EXAMPLES of documents 01 and 02, computed from the definitions.
 use mathlib.Core.Path.{_≡_, refl}
 use mathlib.Core.Bool.{Bool, true, _&&_}
 use mathlib.Core.List.{List, [], _∷_}
@@ -26,7 +26,7 @@ abbrev pub right : List Example → Bool
 right [] = true
 right (e ∷ es) = answers (outcome (bytes (e .0))) (e .1) (e .2) && right es
 
--- the small examples of the table, rows 1 to 11
+-- the small examples of the table, rows 1 to 11, row 11 as document 02 (R-5) has it
 unfoldable pub examples : List Example
 examples =
     ("", 1, 0) ∷
@@ -39,7 +39,8 @@ examples =
     ("(state A)\n(rel R 1)\n(ask ((A x) (not (R x))))\n", 8, 3) ∷
     ("(state A)\n(rel R 1)\n(rule (R x) (A y))\n", 9, 3) ∷
     ("(state A)\n", 10, 2) ∷
-    ("(rel W 2)\n(ask ((W x y)) ((W x y)))\n", 11, 2) ∷
+    ("(state A)\n(rel W 2)\n(ask ((W x y) (A z)) ((W x y) (A z)))\n", 11, 3) ∷
+    ("(rel W 2)\n(ask ((W x y)) ((W x y)))\n", 0, 0) ∷
     ("(state A)\n(ask ((A x)))\n!", 10, 3) ∷
     ("(state A)\n(ask ((A x)))", 2, 2) ∷
     ("(state abcdefghijklmnop)\n(ask ((abcdefghijklmnop x)))\n", 0, 0) ∷

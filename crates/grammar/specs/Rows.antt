@@ -3,7 +3,7 @@ use mathlib.Core.Bool.{Bool, true, false, cond, not, _&&_, _||_}
 use mathlib.Core.List.{List, [], _∷_, _++_}
 use mathlib.Core.Option.{Option, none, some}
 use Prim.Native.Nat.{ℕ, _+_, min}
-use lib.Dec.{eqb, leb}
+use lib.Dec.{eqb, leb, ltb}
 use lib.ListN.{length}
 use Rattle.limits.specs.Limits as limit
 use Rattle.grammar.specs.Bytes.{Word}
@@ -84,13 +84,13 @@ unfoldable pub stagesFault : Declared → List (List Literal) → ℕ
 stagesFault D [] = 0
 stagesFault D (q ∷ qs) = lower (lower (bodyFault D q) (scopeFault [] q)) (stagesFault D qs)
 
--- row 11, "two or more carried variables": variables that stand in two or more stages
+-- row 11, variables that stand in two or more stages are carried; document 02, R-5: "Two variables may now be carried; three or more are refused 11"
 abbrev pub carried : List (List Literal) → List Word → List Word
 carried qs [] = []
 carried qs (x ∷ xs) = cond (leb 2 (stands x qs)) (x ∷ carried qs xs) (carried qs xs)
 
 abbrev pub carriesMany : List (List Literal) → Bool
-carriesMany qs = leb 2 (length (carried qs (extend [] (allVariables qs))))
+carriesMany qs = ltb limit.carried (length (carried qs (extend [] (allVariables qs))))
 
 -- THE LINE'S NUMBER, after the declarations D and so many clauses
 unfoldable pub fault : Declared → ℕ → Form → ℕ

@@ -1,4 +1,4 @@
--- Every place of a run that is read has a number, and there are at most 8,640.
+-- Every place of a run that is read has a number, and there are at most 9,344.
 use mathlib.Core.Path.{_≡_, refl, subst}
 use mathlib.Core.Bool.{Bool, true, false}
 use mathlib.Core.Logic.{⊎-elim}

@@ -40,14 +40,18 @@ stages = 4
 abbrev pub variables : ℕ
 variables = 3
 
--- WHAT IS LENT. Row 12: "work area under 32,768 bytes, or a run table lent for writing under 8,640 places"; row 14 has the same 8,640
+-- document 02, R-5: "Two variables may now be carried"
+abbrev pub carried : ℕ
+carried = 2
+
+-- WHAT IS LENT. Row 12: "work area under 32,768 bytes"; document 02, R-5: the run table and "the longest replayed run .. become 9,344, as do the figures in rows 12 and 14"
 abbrev pub work : ℕ
 work = 32768
 
 abbrev pub run : ℕ
-run = 8640
+run = 9344
 
--- A HAND-IN: 8,640 places of at most 24 bytes, and the lines before them
+-- A HAND-IN: 9,344 places of at most 24 bytes, and the lines before them
 abbrev pub handin : ℕ
 handin = 262144
 
@@ -63,12 +67,15 @@ none = 255
 abbrev pub atomic : ℕ
 atomic = 127
 
--- "A shown run needs at most 8,633 steps: 1 + 2 + .. + 127 = 8,128 for one object of each state, 127 for the carried object, and 3 × 126 between stages; with 4 meetings, 8,637 places."
+-- document 02, R-5: "A run may need 8,128 + 2 × 505 steps": 1 + 2 + .. + 127 = 8,128 for one object of each state, and for each carried object 127 and 3 × 126 between stages; with 4 meetings, 9,142 places
 abbrev pub built : ℕ
 built = atomic * (atomic + 1) / 2
 
+abbrev pub walked : ℕ
+walked = atomic + (stages - 1) * (atomic - 1)
+
 abbrev pub shown : ℕ
-shown = built + atomic + (stages - 1) * (atomic - 1) + stages
+shown = built + carried * walked + stages
 
 -- document 02: the empty state "counts" too
 abbrev pub listed : ℕ

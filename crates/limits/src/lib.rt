@@ -29,10 +29,13 @@ pub const STAGES: usize = 4;
 // The variables of a line's body with its head, or of a stage.
 pub const VARIABLES: usize = 3;
 
+// The variables that are carried.
+pub const CARRIED: usize = 2;
+
 // The bytes of the work area, and the places of a run.
 pub const WORK: usize = 32_768;
 
-pub const RUN: usize = 8_640;
+pub const RUN: usize = 9_344;
 
 // The bytes of a hand-in.
 pub const HANDIN: usize = 262_144;

@@ -4,5 +4,6 @@ pub mod Renaming
 pub mod Numbering
 pub mod Declarations
 pub mod Accepted
+pub mod Carried
 pub mod Office
 pub mod Places

@@ -7,7 +7,7 @@ use Prim.Native.Nat.{ℕ, zero, suc, _+_, _≤_, _<_}
 use native.Mathlib.Omega.{arith}
 use borrow.Author.Tests.{ne-eqb}
 use lib.ListN.{length, getD, replicate}
-use Rattle.semantics.specs.Models.{elem, vars, is, isnt, fact, rule, new, next, firsts, shared, Safe, SafeLine, SafeQuestion}
+use Rattle.semantics.specs.Models.{elem, vars, is, isnt, fact, rule, new, next, firsts, shared, carriers, Safe, SafeLine, SafeQuestion}
 use Rattle.semantics.proofs.Tools.{same?, clash, each-cons}
 use Rattle.model.specs.declared.Action.the-variants.{Rule, New, Next}
 use Rattle.model.specs.declared.Clause.{Clause}
@@ -46,7 +46,7 @@ office =
       literalcount = 6;
       stages = stages;
       stagecount = 2;
-      carried = 0;
+      carried = 0 ∷ 255 ∷ [];
       lines = 8;
     }
 
@@ -82,10 +82,6 @@ unfolding questionOf literalOf decoded
 safely zero = all-in (0 ∷ 0 ∷ []) (0 ∷ []) refl
 safely (suc zero) = λ x e. e
 safely (suc (suc i)) = λ x e. e
-
-only : (x : ℕ) → shared (questionOf office) x ≡ true → x ≡ 0
-unfolding questionOf literalOf decoded shared
-only x e = ⊎-elim (λ q. q) (λ n. clash e (rw (ne-eqb x 0 n))) (same? x 0)
 
 relations : GoodRelations office
 unfolding declaredIn
@@ -148,8 +144,8 @@ stage =
     each (λ i. GoodStage office (stageAt office i)) 2
     (one-variable 3 2 (omega arith) (omega arith) (omega arith) refl, (one-variable 5 1 (omega arith) (omega arith) (omega arith) refl, tt))
 
-carried : shared (questionOf office) 0 ≡ true
-unfolding questionOf literalOf decoded shared
+carried : carriers (questionOf office) ≡ 0 ∷ []
+unfolding questionOf literalOf decoded shared firsts
 carried = refl
 
 pub well-formed : WellFormed office
@@ -164,8 +160,8 @@ well-formed =
       stages = omega arith;
       stage = stage;
       safely = safely;
-      carries = record { only = only; own = λ i e. carried };
-      carried = inr carried;
+      carries = rw carried (omega arith);
+      carried = rw carried;
       lines = omega arith;
       literalcount = omega arith;
       codes = refl;

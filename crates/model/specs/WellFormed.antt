@@ -1,20 +1,19 @@
 -- WELL-FORMED MODELS: what acceptance guarantees of a model record, so that no later call checks it again.
 use mathlib.Core.Path.{_≡_}
-use mathlib.Core.Logic.{_⊎_}
 use mathlib.Core.Bool.{true, cond}
 use mathlib.Core.List.{List, [], _∷_, _++_}
 use Prim.Native.Nat.{ℕ, suc, _+_, _/_, _%_, _^_, _≤_, _<_}
 use lib.Dec.{eqb}
 use lib.ListN.{length, take, getD}
 use Rattle.limits.specs.Limits as limit
-use Rattle.semantics.specs.Models.{vars, firsts, shared, Safe, SafeQuestion, CarriesOnly}
+use Rattle.semantics.specs.Models.{vars, firsts, carriers, Safe, SafeQuestion}
 use Rattle.model.specs.declared.Action.{Action}
 use Rattle.model.specs.declared.Action.the-variants.{Rule, New, Next}
 use Rattle.model.specs.declared.Clause.{Clause}
 use Rattle.model.specs.declared.Stage.{Stage}
 use Rattle.model.specs.declared.Model.{Model}
 use Rattle.model.specs.Literals.{relationOf}
-use Rattle.model.specs.Records.{upFrom, headOf, clauseBody, stageBody, numberIn, programOf, questionOf, clauseAt, stageAt}
+use Rattle.model.specs.Records.{upFrom, headOf, clauseBody, stageBody, numberIn, programOf, questionOf, clauseAt, stageAt, padded}
 
 -- RELATIONS. The class of a code: 0 of a state relation, n + 1 of a derived relation of arity n; and its index in its class
 abbrev pub classOf : ℕ → ℕ
@@ -78,10 +77,6 @@ pub record GoodStage (m : Model) (s : Stage) : Type 0 where
   pub different : (x y : ℕ) → x < s .variables → y < s .variables → numberIn s x ≡ numberIn s y → x ≡ y
   pub small : (x : ℕ) → x < s .variables → numberIn s x < limit.asked
 
--- what the record of a text that carries no variable has for the carried one
-abbrev pub uncarried : ℕ
-uncarried = limit.none
-
 pub record WellFormed (m : Model) : Type 0 where
   pub relations : GoodRelations m
   -- "together at most 64" clauses, in the order of their lines
@@ -94,9 +89,9 @@ pub record WellFormed (m : Model) : Type 0 where
   pub stages : m .stagecount ≤ limit.stages
   pub stage : (i : ℕ) → i < m .stagecount → GoodStage m (stageAt m i)
   pub safely : SafeQuestion (questionOf m)
-  -- at most one variable is carried, and the record has it
-  pub carries : CarriesOnly (questionOf m) (m .carried)
-  pub carried : (m .carried ≡ uncarried) ⊎ (shared (questionOf m) (m .carried) ≡ true)
+  -- document 02, R-5: two variables may be carried, and the record has them in order of first appearance
+  pub carries : length (carriers (questionOf m)) ≤ limit.carried
+  pub carried : m .carried ≡ padded limit.carried (carriers (questionOf m))
   -- the sizes of the rows
   pub lines : m .lines ≤ limit.text
   pub literalcount : m .literalcount ≤ limit.literals

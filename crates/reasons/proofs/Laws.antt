@@ -12,8 +12,7 @@ use Rattle.semantics.specs.Models.{elem, Line, rule, new, next, other, Program,
 use Rattle.semantics.specs.Facts.{Database}
 use Rattle.semantics.specs.Steps.{Enabled}
 use Rattle.semantics.specs.Runs.{Place, step, meet, pick, named, Session, stage, Allowed}
-use Rattle.semantics.proofs.Tools.{either, clash, or-true-cases, or-right, elem-here}
-use Rattle.model.proofs.Renaming.{firsts-from}
+use Rattle.semantics.proofs.Tools.{either, clash, or-true-cases, or-right, elem-here, firsts-among}
 use Rattle.reasons_bodies.proofs.Orders.{blame-refutes}
 use Rattle.reasons.specs.declared.Reason.{Reason}
 use Rattle.reasons.specs.declared.Reason.the-variants.{Ends, Done, NoLine, NotNext, NoObject, OtherStage, Variables, Carried, Literal}
@@ -93,7 +92,7 @@ module _ (P : Program) (Q : Question) (s : Session) where
   meeting-not i os NotNext h a = h
   meeting-not i os NoObject h a =
       let w = named-for (names (stage P Q s)) os (a .2) (firsts-distinct [] (vars (stage P Q s))) (h .1 .0) (h .1 .1) in
-      let l = a .3 .0 (w .0) (firsts-from (w .0) [] (vars (stage P Q s)) (w .1)) in
+      let l = a .3 .0 (w .0) (firsts-among (w .0) [] (vars (stage P Q s)) (w .1)) in
       let e = w .2 in let g = h .1 .2 in omega arith
   meeting-not i os OtherStage h a = h (a .1)
   meeting-not i os Variables h a = h .1 (a .2)

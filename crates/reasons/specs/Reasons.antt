@@ -4,8 +4,8 @@ use mathlib.Core.Logic.{_≢_}
 use mathlib.Core.Bool.{true}
 use mathlib.Core.List.{List}
 use mathlib.Core.Option.{some}
-use Prim.Native.Nat.{ℕ, suc, _≤_, _<_}
-use lib.ListN.{length}
+use Prim.Native.Nat.{ℕ, suc, _+_, _≤_, _<_}
+use lib.ListN.{length, getD}
 use Rattle.limits.specs.Limits as limit
 use Rattle.semantics.specs.Models.{elem, Line, rule, new, next, other, Program, line, Question, vars, names}
 use Rattle.semantics.specs.Facts.{Database}
@@ -103,6 +103,10 @@ Explains m s p r = (Allowed (programOf m) (questionOf m) (sessionOf m s) p → �
 -- an object is carried, and the choice has another for the stage's variable of that number
 abbrev pub Swapped : Stage → ℕ → ℕ → Choice → Type 0
 Swapped g number carried c = (carried ≢ limit.none) × ((x : ℕ) × (x < g .variables) × (numberIn g x ≡ number) × (chosen c x ≢ carried))
+
+-- the choice has another object than the carried one for some carried variable, which the row of a model has from number 2 on
+abbrev pub AnySwapped : List ℕ → Stage → List ℕ → Choice → Type 0
+AnySwapped ns g carried c = (v : ℕ) × (v < limit.carried) × Swapped g (getD ns (2 + v) 0) (getD carried v 0) c
 
 -- one of the n objects that a choice has is beyond the objects of a database
 abbrev pub Beyond : Choice → ℕ → ℕ → Type 0

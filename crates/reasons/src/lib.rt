@@ -1,6 +1,7 @@
 // Why a place is not allowed.
 use facts_candidates::Choice;
 use facts_find::FREE;
+use limits::CARRIED;
 use limits::NONE;
 use model::Action;
 use model::Clause;
@@ -23,7 +24,7 @@ ghost use Rattle.replay_session.specs.Sessions.{Says, sessionIn};
 ghost use Rattle.replay_numbers.specs.Numbers.{clausePlace, clauseFrom};
 ghost use Rattle.replay_view.specs.declared.View.{View};
 ghost use Rattle.replay_steps.specs.Tries.{Lent, Open, Stepping};
-ghost use Rattle.reasons.specs.Reasons.{Explains, Swapped, Beyond};
+ghost use Rattle.reasons.specs.Reasons.{Explains, Swapped, AnySwapped, Beyond};
 
 // Why a place of a run is not allowed: the run ended with a stage left; all stages are met; the line is no `new` or `next` line; the object is not the next one; it is not there; another stage is next; the stage has another number of variables; a carried variable stands for another object; or the literal at a place of the body is to blame.
 pub enum Reason {
@@ -202,6 +203,21 @@ fn swapped(g: Stage, number: u32, carried: u32, c: Choice) -> bool
     false
 }
 
+// Does a choice have another object than the carried one for some carried variable?
+fn any_swapped(numbers: &[u32], g: Stage, carried: [u32; CARRIED], c: Choice) -> bool
+    requires { ⌜ (g .variables ≤ limit.variables) × (552 ≤ length (now numbers)) ⌝ }
+    ensures { λ r. ⌜ Says (AnySwapped (now (numbers .entry)) g carried c) r ⌝ }
+{
+    let mut v = 0;
+    while v < CARRIED {
+        if swapped(g, numbers[2 + v], carried[v], c) {
+            return true;
+        }
+        v += 1;
+    }
+    false
+}
+
 // Why the meeting of a stage with objects, the named ones first, is not allowed.
 fn why_meeting(
     numbers: &[u32],
@@ -234,7 +250,8 @@ fn why_meeting(
     if beyond(fixed, g.variables as usize, n) {
         return Reason::NoObject;
     }
-    if swapped(g, numbers[2], at.carried, fixed) {
+    let carried = at.carried;
+    if any_swapped(numbers, g, carried, fixed) {
         return Reason::Carried;
     }
     let part = g.first;

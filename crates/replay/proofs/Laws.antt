@@ -45,7 +45,7 @@ module _ (text : List ℕ) (r : Reading) (h : Reads (outcome text) text r) (e : 
   replayed run work table work′ table′ a g n w = rw (says .3) (rw (← says .4 .program, ← says .4 .question) g, rw (← says .4 .program, ← says .4 .question) n, w)
 
   -- ONE PLACE
-  pub placed : (s t : Session) (n : ℕ) (work after : List ℕ) (a : PlaceAnswer) → PlaceReply (declaredIn m 0) (programOf m) (questionOf m) (m .carried) s n a t → after ≡ wiped work → Put (outcome text) s n work a t after
+  pub placed : (s t : Session) (n : ℕ) (work after : List ℕ) (a : PlaceAnswer) → PlaceReply (declaredIn m 0) (programOf m) (questionOf m) s n a t → after ≡ wiped work → Put (outcome text) s n work a t after
   placed s t n work after a g w =
       let states : declaredIn m 0 ≡ count 0 (says .0) = declared-in (length (lines text)) (says .0) (says .1) (says .2) m (accepted-sound text (says .0) (says .1) (says .2) (says .3)) (says .4) 0 in
-      rw (says .3) (rw (← says .4 .carried, ← states, ← says .4 .program, ← says .4 .question) g, w)
+      rw (says .3) (rw (← states, ← says .4 .program, ← says .4 .question) g, w)

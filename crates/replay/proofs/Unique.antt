@@ -9,7 +9,6 @@ use Rattle.semantics.specs.Runs as runs
 use Rattle.semantics.specs.Runs.{start}
 use Rattle.grammar.specs.Declarations.{Declared, count}
 use Rattle.grammar.specs.Texts.{Outcome, accepted, refused}
-use Rattle.acceptance.specs.Sound.{carriedOf}
 use Rattle.replay_session.specs.declared.Answer.{Answer}
 use Rattle.replay_session.specs.declared.Answer.the-variants.{Kept}
 use Rattle.replay_session.specs.declared.PlaceAnswer.{PlaceAnswer}
@@ -39,22 +38,22 @@ kept-exactly D P Q run work table work′ table′ a h = (
 )
 
 -- ONE PLACE
-one-reply : (declared : ℕ) (P : Program) (Q : Question) (c : ℕ) (s : Session) (n : ℕ) (a b : PlaceAnswer) (t u : Session)
-    → PlaceReply declared P Q c s n a t → PlaceReply declared P Q c s n b u → (a ≡ b) × (t ≡ u)
-one-reply declared P Q c s n a b t u (inl g) (inl h) = (g .answer ∙ sym (h .answer), g .left ∙ sym (h .left))
-one-reply declared P Q c s n a b t u (inl g) (inr h) = absurd (g .misfit (h .0))
-one-reply declared P Q c s n a b t u (inr g) (inl h) = absurd (h .misfit (g .0))
-one-reply declared P Q c s n a b t u (inr (f, inl g)) (inr (e, inl h)) =
+one-reply : (declared : ℕ) (P : Program) (Q : Question) (s : Session) (n : ℕ) (a b : PlaceAnswer) (t u : Session)
+    → PlaceReply declared P Q s n a t → PlaceReply declared P Q s n b u → (a ≡ b) × (t ≡ u)
+one-reply declared P Q s n a b t u (inl g) (inl h) = (g .answer ∙ sym (h .answer), g .left ∙ sym (h .left))
+one-reply declared P Q s n a b t u (inl g) (inr h) = absurd (g .misfit (h .0))
+one-reply declared P Q s n a b t u (inr g) (inl h) = absurd (h .misfit (g .0))
+one-reply declared P Q s n a b t u (inr (f, inl g)) (inr (e, inl h)) =
     let same = Option·some-injective (g .place) (h .place) (sym (g .form) ∙ h .form) in
-    let stood = one-standing P (sessionOf c s) (h .place) (g .stood) (h .stood) (subst (λ (p : runs.Place). Stands P (sessionOf c s) p (g .stood)) same (g .stands)) (h .stands) in
-    (g .answer ∙ ap place.Kept stood ∙ sym (h .answer), g .taken ∙ ap (taken P Q c s) same ∙ sym (h .taken))
-one-reply declared P Q c s n a b t u (inr (f, inl g)) (inr (e, inr h)) = absurd (h .disallowed (g .place, g .form, g .allowed))
-one-reply declared P Q c s n a b t u (inr (f, inr g)) (inr (e, inl h)) = absurd (g .disallowed (h .place, h .form, h .allowed))
-one-reply declared P Q c s n a b t u (inr (f, inr g)) (inr (e, inr h)) = (g .answer ∙ sym (h .answer), g .left ∙ sym (h .left))
+    let stood = one-standing P (sessionOf Q s) (h .place) (g .stood) (h .stood) (subst (λ (p : runs.Place). Stands P (sessionOf Q s) p (g .stood)) same (g .stands)) (h .stands) in
+    (g .answer ∙ ap place.Kept stood ∙ sym (h .answer), g .taken ∙ ap (taken P Q s) same ∙ sym (h .taken))
+one-reply declared P Q s n a b t u (inr (f, inl g)) (inr (e, inr h)) = absurd (h .disallowed (g .place, g .form, g .allowed))
+one-reply declared P Q s n a b t u (inr (f, inr g)) (inr (e, inl h)) = absurd (g .disallowed (h .place, h .form, h .allowed))
+one-reply declared P Q s n a b t u (inr (f, inr g)) (inr (e, inr h)) = (g .answer ∙ sym (h .answer), g .left ∙ sym (h .left))
 
 pub one-place : (o : Outcome) (s : Session) (n : ℕ) (work after other : List ℕ) (a b : PlaceAnswer) (t u : Session)
     → Put o s n work a t after → Put o s n work b u other → (a ≡ b) × (t ≡ u) × (after ≡ other)
 one-place (refused r l) s n work after other a b t u g h = (g .0 ∙ sym (h .0), g .1 ∙ sym (h .1), g .2 ∙ sym (h .2))
 one-place (accepted D P Q) s n work after other a b t u g h =
-    let e = one-reply (count 0 D) P Q (carriedOf Q) s n a b t u (g .0) (h .0) in
+    let e = one-reply (count 0 D) P Q s n a b t u (g .0) (h .0) in
     (e .0, e .1, g .1 ∙ sym (h .1))

@@ -1,43 +1,47 @@
 -- The meeting of a stage: whether it is allowed, and the state after it.
 use mathlib.Core.Path.{_≡_, refl, sym, ap, _∙_, subst}
 use mathlib.Core.Logic.{_⊎_, inl, inr, ⊎-elim, _≢_}
-use mathlib.Core.Bool.{true, false}
+use mathlib.Core.Bool.{true, false, cond}
 use mathlib.Core.List.{List, [], _∷_}
-use mathlib.Core.Option.{some, Option·none-ne-some, Option·some-injective}
+use mathlib.Core.Option.{some}
 use Prim.Native.Nat.{ℕ, suc, _≤_, _<_}
 use native.Mathlib.Omega.{arith}
-use borrow.Author.Tests.{eqb-true, eq-eqb, ne-eqb}
-use lib.Dec.{eqb}
+use borrow.Author.Tests.{eq-eqb, ne-eqb}
 use lib.ListN.{length, take, drop, set, getD}
 use lib.Seq.{set-out}
 use Rattle.limits.specs.Limits as limit
-use Rattle.semantics.specs.Models.{elem, Body, vars, supported, names, Supported}
+use Rattle.semantics.specs.Models.{elem, Body, vars, supported, names, carriers, Supported}
 use Rattle.semantics.specs.Facts.{Derived, Meets}
 use Rattle.semantics.specs.Runs as runs
 use Rattle.semantics.specs.Runs.{meet, pick, named, Allowed}
-use Rattle.semantics.proofs.Tools.{either, same?, clash}
+use Rattle.semantics.proofs.Tools.{either, clash}
 use Rattle.semantics.proofs.Bodies.{holds-agree, supported-vars}
 use Rattle.model.specs.declared.Model.{Model}
 use Rattle.model.specs.declared.Stage.{Stage}
 use Rattle.model.specs.Literals.{GoodBody}
-use Rattle.model.specs.Records.{programOf, questionOf, stageBody, stageOf, numberIn, stageAt}
+use Rattle.model.specs.Records.{programOf, questionOf, stageBody, stageOf, numberIn, stageAt, carriedAt}
 use Rattle.model.specs.Places.{objects}
 use Rattle.model.proofs.Renaming.{elem-map, elem-of-map, vars-renamed, supported-renamed, meets-renamed, named-renamed}
 use Rattle.model.proofs.Accepted.{stages, stage-here, stage-vars, stage-body, stage-different, stage-count}
+use Rattle.facts_candidates.specs.declared.Choice.{Choice}
 use Rattle.facts_candidates.specs.Choices.{chosen}
 use Rattle.replay_session.specs.declared.Position.{Position}
 use Rattle.replay_session.specs.declared.Session.{Session}
-use Rattle.replay_session.specs.Sessions.{sessionIn, met}
-use Rattle.replay_session.specs.Records.{sessionOf, carriedBy}
-use Rattle.replay_numbers.specs.Numbers.{stagePlace, stageFrom}
+use Rattle.replay_session.specs.Sessions.{sessionIn, carriedIn, carriedBy, met}
+use Rattle.replay_session.specs.Records.{sessionOf}
+use Rattle.replay_session.proofs.Carrying.{stands-cell, cell-stands, carried-left}
+use Rattle.replay_numbers.specs.Numbers.{stagePlace, stageFrom, Numbered}
 use Rattle.replay_view.specs.declared.View.{View}
 use Rattle.replay_steps.specs.Tries.{Plain, Ready, Open, Holding, Tried}
-use Rattle.replay_meetings.specs.Carried.{Named, Agrees, carriedOn}
-use Rattle.replay_meetings.proofs.Objects.{pick-place, choice, objects-chosen, chosen-small}
+use Rattle.replay_meetings.specs.Carried.{Named, carriedOn, AllNamed, AllAgree, AllCarried}
+use Rattle.replay_meetings.proofs.Objects.{pick-place, choice, objects-chosen}
 
--- the object named for the carried variable fits a byte
-pub named-small : (g : Stage) (v a b c r : ℕ) → a < 256 → b < 256 → c < 256 → Named g v (choice a b c) r → r < 256
-named-small g v a b c r ha hb hc = ⊎-elim (λ f. rw (f .3) (chosen-small a b c (f .0) ha hb hc)) (λ f. rw (f .1) (omega arith))
+-- the objects named for the carried variables
+pub named-small : (g : Stage) (v : ℕ) (c : Choice) (r : ℕ) → ((x : ℕ) → chosen c x < 256) → Named g v c r → r < 256
+named-small g v c r h = ⊎-elim (λ f. rw (f .3) (h (f .0))) (λ f. rw (f .1) (omega arith))
+
+pub named-row : (m : Model) (ns : List ℕ) (g : Stage) (c : Choice) (held : List ℕ) → Numbered m ns → AllNamed ns g c held → (v : ℕ) → v < limit.carried → Named g (carriedAt m v) c (getD held v 0)
+named-row m ns g c held n f v l = subst (λ (k : ℕ). Named g k c (getD held v 0)) (n .carried v l) (f v l)
 
 -- STAGE i among the numbers of a model
 module _ (m : Model) (ns row : List ℕ) (plain : Plain m ns row) (i : ℕ) (here : i < m .stagecount) (g : Stage) (e : g ≡ stageFrom ns (stagePlace i)) where
@@ -146,15 +150,15 @@ module _ (m : Model) (s : Session) (v : View) (w : List ℕ) (ready : Ready m s 
     pub not-held : ((σ : ℕ → ℕ) → Held σ → ⊥) → Tried m s (meet i os) false s 0
     not-held n = ((λ h. n (λ x. named stage os (numberIn g x)) (to-held (to-meeting i h .3))), refl)
 
-    -- THE CARRIED VARIABLE
-    module _ (o : ℕ) (found : Named g (m .carried) (choice a b c) o) where
-      -- the stage has the carried variable, and o is its object; or it has not, and o is 255
-      abbrev Has : Type 0
-      Has = ((elem (m .carried) (vars stage) ≡ true) × (named stage os (m .carried) ≡ o) × (o ≢ 255)) ⊎ ((elem (m .carried) (vars stage) ≡ false) × (o ≡ 255))
+    -- THE CARRIED VARIABLES
+    module _ (held : List ℕ) (found : (v : ℕ) → v < limit.carried → Named g (carriedAt m v) (choice a b c) (getD held v 0)) where
+      -- the stage has the variable of a cell, whose object is held; or it has not, and 255 is
+      abbrev Has : ℕ → Type 0
+      Has v = ((elem (carriedAt m v) (vars stage) ≡ true) × (named stage os (carriedAt m v) ≡ getD held v 0) × (getD held v 0 ≢ 255)) ⊎ ((elem (carriedAt m v) (vars stage) ≡ false) × (getD held v 0 ≡ 255))
 
-      has : Has
-      has = ⊎-elim
-          (λ (f : (x : ℕ) × (x < g .variables) × (numberIn g x ≡ m .carried) × (o ≡ chosen (choice a b c) x)).
+      has : (v : ℕ) → v < limit.carried → Has v
+      has v h = ⊎-elim
+          (λ (f : (x : ℕ) × (x < g .variables) × (numberIn g x ≡ carriedAt m v) × (getD held v 0 ≡ chosen (choice a b c) x)).
           inl (
             subst (λ (y : ℕ). elem y (vars stage) ≡ true) (f .2) (rw (vars-renamed (numberIn g) local) (elem-map (numberIn g) (f .0) (vars local) (stage-vars m (ready .accepted) (s .met) left (f .0) .1 (f .1)))),
             ap (named stage os) (sym (f .2)) ∙ object (f .0) (f .1) ∙ sym (f .3),
@@ -162,44 +166,39 @@ module _ (m : Model) (s : Session) (v : View) (w : List ℕ) (ready : Ready m s 
           ))
           (λ f. inr (
             ⊎-elim
-                (λ e. let y = elem-of-map (numberIn g) (m .carried) (vars local) (rw (vars-renamed (numberIn g) local) at e) in
+                (λ e. let y = elem-of-map (numberIn g) (carriedAt m v) (vars local) (rw (vars-renamed (numberIn g) local) at e) in
                 absurd (f .0 (y .0) (stage-vars m (ready .accepted) (s .met) left (y .0) .0 (y .1)) (sym (y .2))))
                 (λ e. e)
-                (either (elem (m .carried) (vars stage))),
+                (either (elem (carriedAt m v) (vars stage))),
             f .1,
           ))
-          found
+          (found v h)
 
       -- a carried object that differs
-      pub disagrees : (Agrees (s .carried) o → ⊥) → Tried m s (meet i os) false s 0
-      disagrees n = ((λ h. n (λ p q. ⊎-elim (λ f. sym (f .1) ∙ to-meeting i h .4 (m .carried) (s .carried) (carries p) (f .0)) (λ f. absurd (q (f .1))) has)), refl)
+      pub disagrees : (AllAgree (s .carried) held → ⊥) → Tried m s (meet i os) false s 0
+      disagrees n = ((λ h. n (λ v l p q. ⊎-elim (λ f. sym (f .1) ∙ to-meeting i h .4 (carriedAt m v) (carriedIn s v) (carries v l p (f .0)) (f .0)) (λ f. absurd (q (f .1))) (has v l))), refl)
         where
-          carries : s .carried ≢ 255 → sessionOf m s .carried (m .carried) ≡ some (s .carried)
-          carries p = rw (eq-eqb (m .carried) (m .carried) refl, ne-eqb (s .carried) 255 p)
+          carries : (v : ℕ) → v < limit.carried → carriedIn s v ≢ 255 → elem (carriedAt m v) (vars stage) ≡ true → sessionOf m s .carried (carriedAt m v) ≡ some (carriedIn s v)
+          carries v l p e = cell-stands m (ready .accepted) s (ready .cells) v (s .met) l (subst (λ (body : Body). elem (carriedAt m v) (vars body) ≡ true) (sym here) e) p
 
-      -- the carried object is the one that the meeting names
-      one-object : Agrees (s .carried) o → (x d : ℕ) → sessionOf m s .carried x ≡ some d → elem x (vars stage) ≡ true → named stage os x ≡ d
-      one-object agree x d e h = go (either (eqb x (m .carried))) (same? (s .carried) 255)
-        where
-          go : (eqb x (m .carried) ≡ true) ⊎ (eqb x (m .carried) ≡ false) → (s .carried ≡ 255) ⊎ (s .carried ≢ 255) → named stage os x ≡ d
-          go (inr q) c = absurd (Option·none-ne-some d (rw q at e))
-          go (inl q) (inl c) = absurd (Option·none-ne-some d (rw (q, eq-eqb (s .carried) 255 c) at e))
-          go (inl q) (inr c) =
-              let p = eqb-true x (m .carried) q in
-              let f = Option·some-injective (s .carried) d (rw (q, ne-eqb (s .carried) 255 c) at e) in
-              ⊎-elim
-              (λ k. ap (named stage os) p ∙ k .1 ∙ agree c (k .2) ∙ f)
-              (λ k. clash (subst (λ (y : ℕ). elem y (vars stage) ≡ true) p h) (k .0))
-              has
+      -- each carried object is the one that the meeting names
+      one-object : AllAgree (s .carried) held → (x d : ℕ) → sessionOf m s .carried x ≡ some d → elem x (vars stage) ≡ true → named stage os x ≡ d
+      one-object agree x d e h =
+          let r = stands-cell m (ready .accepted) s (ready .cells) x d e in
+          ⊎-elim
+          (λ k. ap (named stage os) (sym (r .2)) ∙ k .1 ∙ agree (r .0) (r .1) (λ z. r .4 (sym (r .3) ∙ z)) (k .2) ∙ r .3)
+          (λ k. clash (subst (λ (y : ℕ). elem y (vars stage) ≡ true) (sym (r .2)) h) (k .0))
+          (has (r .0) (r .1))
 
-      carried-after : carriedOn (s .carried) o ≡ carriedBy m s stage os
-      carried-after = ⊎-elim
-          (λ f. rw (f .0, ne-eqb o 255 (f .2)) (sym (f .1)))
-          (λ f. rw (f .0, eq-eqb o 255 (f .1)))
-          has
+      carried-after : (after : List ℕ) → AllCarried (s .carried) held after → after ≡ carriedBy (carriers (questionOf m)) (getD (questionOf m) (s .met) []) os (s .carried)
+      carried-after after (long, each) = carried-left m (ready .accepted) s (ready .cells) (s .met) os after long
+          (λ v l. each v l ∙ subst (λ (body : Body). carriedOn (carriedIn s v) (getD held v 0) ≡ cond (elem (carriedAt m v) (vars body)) (named body os (carriedAt m v)) (carriedIn s v)) (sym here) (⊎-elim
+          (λ f. rw (f .0, ne-eqb (getD held v 0) 255 (f .2)) (sym (f .1)))
+          (λ f. rw (f .0, eq-eqb (getD held v 0) 255 (f .1)))
+          (has v l)))
 
-      pub meeting-kept : Agrees (s .carried) o → (σ : ℕ → ℕ) → Held σ → Tried m s (meet i os) true (met s (carriedOn (s .carried) o)) 0
-      meeting-kept agree σ h = (
+      pub meeting-kept : AllAgree (s .carried) held → (after : List ℕ) → AllCarried (s .carried) held after → (σ : ℕ → ℕ) → Held σ → Tried m s (meet i os) true (met s after) 0
+      meeting-kept agree after e σ h = (
         from-meeting i (
           (let q = stages m (ready .accepted) in omega arith),
           next,
@@ -207,7 +206,7 @@ module _ (m : Model) (s : Session) (v : View) (w : List ℕ) (ready : Ready m s 
           from-held σ h,
           one-object agree,
         ),
-        ap (met s) (carried-after ∙ ap (λ (y : Body). carriedBy m s y os) (sym here)),
+        ap (met s) (carried-after after e),
         refl,
       )
 

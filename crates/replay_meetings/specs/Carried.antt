@@ -1,9 +1,11 @@
--- THE CARRIED VARIABLE at a meeting: "a carried object .. is the one that a meeting must name, and where it has none the next meeting with the carried variable sets it".
+-- THE CARRIED VARIABLES at a meeting, each by itself: "a carried object .. is the one that a meeting must name, and where it has none the next meeting with the carried variable sets it".
 use mathlib.Core.Path.{_≡_}
 use mathlib.Core.Logic.{_⊎_, _≢_}
 use mathlib.Core.Bool.{cond}
-use Prim.Native.Nat.{ℕ, _<_}
+use mathlib.Core.List.{List}
+use Prim.Native.Nat.{ℕ, _+_, _<_}
 use lib.Dec.{eqb}
+use lib.ListN.{length, getD}
 use Rattle.limits.specs.Limits as limit
 use Rattle.model.specs.declared.Stage.{Stage}
 use Rattle.model.specs.Records.{numberIn}
@@ -21,3 +23,15 @@ Agrees c o = (c ≢ limit.none) → (o ≢ limit.none) → o ≡ c
 -- the carried object afterwards
 abbrev pub carriedOn : ℕ → ℕ → ℕ
 carriedOn c o = cond (eqb o limit.none) c o
+
+-- os are the objects that the choice has for the carried variables, which the row of a model has from number 2 on
+abbrev pub AllNamed : List ℕ → Stage → Choice → List ℕ → Type 0
+AllNamed ns g c os = (v : ℕ) → v < limit.carried → Named g (getD ns (2 + v) 0) c (getD os v 0)
+
+-- each of the objects os may be met where those of cs are carried
+abbrev pub AllAgree : List ℕ → List ℕ → Type 0
+AllAgree cs os = (v : ℕ) → v < limit.carried → Agrees (getD cs v 0) (getD os v 0)
+
+-- left are the carried objects afterwards
+abbrev pub AllCarried : List ℕ → List ℕ → List ℕ → Type 0
+AllCarried cs os left = (length left ≡ limit.carried) × ((v : ℕ) → v < limit.carried → getD left v 0 ≡ carriedOn (getD cs v 0) (getD os v 0))

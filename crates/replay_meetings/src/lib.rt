@@ -1,6 +1,7 @@
 // The meeting of a stage put to the replay's state.
 use facts_candidates::Choice;
 use facts_find::Found;
+use limits::CARRIED;
 use limits::NONE;
 use model::Stage;
 use replay_session::Position;
@@ -13,10 +14,11 @@ ghost use Rattle.limits.specs.Limits as limit;
 ghost use Rattle.semantics.specs.Runs.{meet};
 ghost use Rattle.model.specs.declared.Model.{Model};
 ghost use Rattle.model.specs.Places.{objects};
+ghost use Rattle.facts_candidates.specs.Choices.{chosen};
 ghost use Rattle.replay_session.specs.Sessions.{Says, sessionIn};
 ghost use Rattle.replay_view.specs.declared.View.{View};
 ghost use Rattle.replay_steps.specs.Tries.{Rests, Plain, Open, Gives, TriedBy};
-ghost use Rattle.replay_meetings.specs.Carried.{Named, Agrees, carriedOn};
+ghost use Rattle.replay_meetings.specs.Carried.{Named, Agrees, carriedOn, AllNamed, AllAgree, AllCarried};
 
 // How many objects a meeting names.
 fn count(first: u32, second: u32, third: u32) -> u32
@@ -73,6 +75,39 @@ fn carry(carried: u32, object: u32) -> u32
     if object == NONE { carried } else { object }
 }
 
+// The objects that a choice has for the carried variables, NONE for one that the stage does not have.
+fn all_named(numbers: &[u32], g: Stage, c: Choice) -> [u32; CARRIED]
+    requires { ⌜ (g .variables ≤ limit.variables) × (552 ≤ length (now numbers)) × ((x : ℕ) → chosen c x < 256) ⌝ }
+    ensures { λ r. ⌜ AllNamed (now (numbers .entry)) g c r ⌝ }
+{
+    let first = named(g, numbers[2], c);
+    let second = named(g, numbers[3], c);
+    [first as u32, second as u32]
+}
+
+// Whether the objects may be met where these, or none, are carried.
+fn all_agree(carried: [u32; CARRIED], objects: [u32; CARRIED]) -> bool
+    ensures { λ r. ⌜ Says (AllAgree carried objects) r ⌝ }
+{
+    let mut v = 0;
+    while v < CARRIED {
+        if !agrees(carried[v], objects[v]) {
+            return false;
+        }
+        v += 1;
+    }
+    true
+}
+
+// The carried objects after the meeting.
+fn carry_all(carried: [u32; CARRIED], objects: [u32; CARRIED]) -> [u32; CARRIED]
+    ensures { λ r. ⌜ AllCarried carried objects r ⌝ }
+{
+    let first = carry(carried[0], objects[0]);
+    let second = carry(carried[1], objects[1]);
+    [first, second]
+}
+
 // The derived relations that a meeting of a stage rests on, as a row of bits.
 pub fn needs(numbers: &[u32], literals: &[u32], stage: u32) -> [u8; 16]
     requires { ⌜ ((m : Model) × Plain m (now numbers) (now literals)) ⌝ }
@@ -119,8 +154,9 @@ pub fn meet_place(
         second: second as usize,
         third: third as usize,
     };
-    let object = named(g, numbers[2], fixed) as u32;
-    if !agrees(at.carried, object) {
+    let carried = at.carried;
+    let objects = all_named(numbers, g, fixed);
+    if !all_agree(carried, objects) {
         return replay_steps::disallow(at);
     }
     let n = at.objects;
@@ -128,11 +164,10 @@ pub fn meet_place(
     let Found::At(_) = found else {
         return replay_steps::disallow(at);
     };
-    let carried = carry(at.carried, object);
     let after = Position {
         objects: n,
         met: i + 1,
-        carried,
+        carried: carry_all(carried, objects),
         kept: at.kept + 1,
     };
     Outcome {

@@ -1,20 +1,22 @@
 -- A part of the numbers is read back as it was written, and is the same where the numbers are.
-use mathlib.Core.Path.{_≡_, refl, _∙_, subst}
+use mathlib.Core.Path.{_≡_, refl, sym, ap, _∙_, subst}
 use mathlib.Core.Logic.{⊎-elim, _≢_}
 use mathlib.Core.List.{List, [], _∷_}
-use Prim.Native.Nat.{ℕ, _+_, _≤_, _<_}
+use Prim.Native.Nat.{ℕ, zero, suc, _+_, _≤_, _<_}
 use native.Mathlib.Omega.{arith}
 use native.Mathlib.Nat.{not-suc-le-zero, add-zero}
 use lib.ListN.{length, set, getD, length-set}
-use lib.Seq.{getD-set-same, getD-set-other}
+use lib.Seq.{drop-cons, getD-set-same, getD-set-other}
+use Rattle.limits.specs.Limits as limit
 use Rattle.semantics.proofs.Tools.{same?}
 use Rattle.model.specs.declared.Action.{Action}
 use Rattle.model.specs.declared.Action.the-variants.{Rule, New, Next}
 use Rattle.model.specs.declared.Clause.{Clause}
 use Rattle.model.specs.declared.Stage.{Stage}
 use Rattle.model.specs.declared.Model.{Model}
-use Rattle.model.specs.Records.{clauseAt, stageAt}
+use Rattle.model.specs.Records.{clauseAt, stageAt, carriedAt}
 use Rattle.model.specs.WellFormed.{WellFormed}
+use Rattle.model.proofs.Carried.{carried-cells}
 use Rattle.replay_numbers.specs.Numbers.{clauseFrom, stageFrom, actionNumbers, clauseNumbers, stageNumbers, clausePlace, stagePlace, Numbered, Written, StagesIn, ClausesIn}
 
 module _ (ns ns′ : List ℕ) (k : ℕ) (h : (x : ℕ) → k ≤ x → x < k + 8 → getD ns′ x 0 ≡ getD ns x 0) where
@@ -97,15 +99,28 @@ module _ (m : Model) (n : ℕ) (ns ns′ ns″ : List ℕ) where
         before = λ x l. w .before x (omega arith) ∙ h .before x l;
       }
 
+-- WHAT HOLDS OF EACH CELL of the carried variables
+pub each-cell : (P : ℕ → Type 0) → P 0 → P 1 → (v : ℕ) → v < limit.carried → P v
+each-cell P a b zero l = a
+each-cell P a b (suc zero) l = b
+each-cell P a b (suc (suc v)) l = absurd (omega arith)
+
+-- the carried variables, each in its cell
+pub carried-row : (m : Model) → WellFormed m → (ns : List ℕ) → getD ns 2 0 ≡ getD (m .carried) 0 0 → getD ns 3 0 ≡ getD (m .carried) 1 0 → (v : ℕ) → v < limit.carried → getD ns (2 + v) 0 ≡ carriedAt m v
+carried-row m w ns a b v h = each-cell (λ (u : ℕ). getD ns (2 + u) 0 ≡ getD (m .carried) u 0) a b v h ∙ ap (λ (l : List ℕ). getD l 0 0) (sym (drop-cons (m .carried) v 0 there) ∙ drop-cons (m .carried) v limit.none there)
+  where
+    there : v < length (m .carried)
+    there = let e = carried-cells m w in omega arith
+
 -- the counts, then the stages, then the clauses
-pub numbered : (m : Model) → WellFormed m → (ns ns′ ns″ : List ℕ) → 552 ≤ length ns → getD ns 0 0 ≡ m .clausecount → getD ns 1 0 ≡ m .stagecount → getD ns 2 0 ≡ m .carried
+pub numbered : (m : Model) → WellFormed m → (ns ns′ ns″ : List ℕ) → 552 ≤ length ns → getD ns 0 0 ≡ m .clausecount → getD ns 1 0 ≡ m .stagecount → ((v : ℕ) → v < limit.carried → getD ns (2 + v) 0 ≡ carriedAt m v)
     → StagesIn m (m .stagecount) ns ns′ → ClausesIn m (m .clausecount) ns′ ns″ → Numbered m ns″
 numbered m w ns ns′ ns″ long a b c s t =
     record {
       long = omega (arith, s .long, t .long);
       clauses = t .before 0 (omega arith) ∙ s .before 0 (omega arith) ∙ a;
       stages = t .before 1 (omega arith) ∙ s .before 1 (omega arith) ∙ b;
-      carried = t .before 2 (omega arith) ∙ s .before 2 (omega arith) ∙ c;
+      carried = λ v l. t .before (2 + v) (omega arith) ∙ s .before (2 + v) (omega arith) ∙ c v l;
       clause = t .there;
       stage = λ i l. same-stage ns′ ns″ (stagePlace i) (λ x p q. t .before x (let h = w .stages in omega arith)) ∙ s .there i l;
     }

@@ -5,12 +5,13 @@ use mathlib.Core.List.{List, [], _∷_}
 use Prim.Native.Nat.{ℕ, _+_, _*_, _≤_, _<_}
 use lib.Dec.{eqb}
 use lib.ListN.{length, getD}
+use Rattle.limits.specs.Limits as limit
 use Rattle.model.specs.declared.Action.{Action}
 use Rattle.model.specs.declared.Action.the-variants.{Rule, New, Next}
 use Rattle.model.specs.declared.Clause.{Clause}
 use Rattle.model.specs.declared.Stage.{Stage}
 use Rattle.model.specs.declared.Model.{Model}
-use Rattle.model.specs.Records.{numberIn, clauseAt, stageAt}
+use Rattle.model.specs.Records.{numberIn, clauseAt, stageAt, carriedAt}
 
 -- an action by its kind: 0 a rule, 1 a `new` line, any other a `next` line
 abbrev pub actionFrom : ℕ → ℕ → ℕ → Action
@@ -48,7 +49,7 @@ pub record Numbered (m : Model) (ns : List ℕ) : Type 0 where
   pub long : 552 ≤ length ns
   pub clauses : getD ns 0 0 ≡ m .clausecount
   pub stages : getD ns 1 0 ≡ m .stagecount
-  pub carried : getD ns 2 0 ≡ m .carried
+  pub carried : (v : ℕ) → v < limit.carried → getD ns (2 + v) 0 ≡ carriedAt m v
   pub clause : (i : ℕ) → i < m .clausecount → clauseFrom ns (clausePlace i) ≡ clauseAt m i
   pub stage : (i : ℕ) → i < m .stagecount → stageFrom ns (stagePlace i) ≡ stageAt m i
 

@@ -1,5 +1,5 @@
 // An accepted model's clauses, stages and counts as plain numbers, which are lent from call to call where the record would be copied.
-// Number 0 is the count of clauses, 1 that of stages, 2 the carried variable; stage i has the 8 numbers from 8 + 8 i on, clause i those from 40 + 8 i on.
+// Number 0 is the count of clauses, 1 that of stages, 2 and 3 the carried variables; stage i has the 8 numbers from 8 + 8 i on, clause i those from 40 + 8 i on.
 use model::Action;
 use model::Clause;
 use model::Model;
@@ -159,7 +159,12 @@ pub fn numbers(m: Model) -> [u32; NUMBERS]
     let mut out = [0u32; NUMBERS];
     let clauses = m.clausecount as u32;
     let stages = m.stagecount as u32;
-    write(&mut out, 0, [clauses, stages, m.carried, 0, 0, 0, 0, 0]);
+    let carried = m.carried;
+    write(
+        &mut out,
+        0,
+        [clauses, stages, carried[0], carried[1], 0, 0, 0, 0],
+    );
     write_stages(m, &mut out);
     write_clauses(m, &mut out);
     out

@@ -1,22 +1,21 @@
 -- A run, place by place.
 use mathlib.Core.Path.{_≡_, refl, sym, ap, _∙_, subst, fun-ext}
 use mathlib.Core.Logic.{inl, inr, _≢_}
-use mathlib.Core.Bool.{Bool, true, false, cond}
+use mathlib.Core.Bool.{true, false}
 use mathlib.Core.List.{List, [], _∷_}
-use mathlib.Core.Option.{Option, none, some}
+use mathlib.Core.Option.{some}
 use Prim.Native.Nat.{ℕ, zero, suc, _+_, _≤_, _<_}
 use native.Mathlib.Omega.{arith}
 use native.Mathlib.Numerals.{add-one}
 use native.Mathlib.Nat.{not-suc-le-zero}
-use lib.Dec.{eqb}
-use lib.ListN.{length, take, drop, getD, length-set, length-replicate, drop-of-length-le}
+use lib.ListN.{length, take, drop, getD, length-set, length-replicate, getD-replicate, drop-of-length-le}
 use lib.Seq.{drop-cons, length-take-le}
 use Rattle.limits.specs.Limits as limit
-use Rattle.semantics.specs.Models.{Line, rule, new, next, other, Program, line, Question}
+use Rattle.semantics.specs.Models.{Line, rule, new, next, other, Program, line, Question, carriers}
 use Rattle.semantics.specs.Facts.{Database}
 use Rattle.semantics.specs.Steps.{Enabled}
 use Rattle.semantics.specs.Runs as runs
-use Rattle.semantics.specs.Runs.{step, meet, start, nobody, Allowed, after}
+use Rattle.semantics.specs.Runs.{step, meet, start, Allowed, after}
 use Rattle.model.specs.declared.Model.{Model}
 use Rattle.model.specs.Records.{programOf, questionOf}
 use Rattle.model.specs.Places.{placeOf, Numerable}
@@ -34,6 +33,7 @@ use Rattle.replay_session.specs.declared.Session.{Session}
 use Rattle.replay_session.specs.Sessions.{sessionIn, stepped}
 use Rattle.replay_session.specs.Records.{sessionOf, Fits, taken}
 use Rattle.replay_session.specs.Replays.{Replays}
+use Rattle.replay_session.proofs.Carrying.{nobody-carried, cells-stay}
 use Rattle.replay_session.proofs.Effects.{taken-after, taken-fits}
 use Rattle.replay_numbers.specs.Numbers.{Numbered}
 use Rattle.replay_view.specs.declared.View.{View}
@@ -45,14 +45,7 @@ use Rattle.replay_runs.specs.Endings.{Leads, Stopped}
 
 -- THE START
 pub fresh-session : (m : Model) → sessionOf m fresh ≡ start []
-fresh-session m = λ i. record { db = []; met = 0; carried = fun-ext none-carried i }
-  where
-    either-none : (b : Bool) → _≡_ {A = Option ℕ} (cond b none none) none
-    either-none true = refl
-    either-none false = refl
-
-    none-carried : (x : ℕ) → sessionOf m fresh .carried x ≡ nobody x
-    none-carried x = either-none (eqb x (m .carried))
+fresh-session m = λ i. record { db = []; met = 0; carried = fun-ext (nobody-carried (carriers (questionOf m)) limit.carried) i }
 
 fresh-fits : (m : Model) → Fits m fresh
 fresh-fits m =
@@ -60,14 +53,14 @@ fresh-fits m =
       objects = omega arith;
       relations = λ o a l. absurd (not-suc-le-zero l);
       stages = omega arith;
-      carried = inl refl;
+      carried = λ v l. inl (getD-replicate limit.carried v limit.none 0 l);
       places = omega arith;
     }
 
 fresh-long : length (fresh .states) ≡ 255
 fresh-long = length-replicate {A = ℕ} 255 0
 
--- WHAT A PLACE LEAVES: the array's length, and one more place kept
+-- WHAT A PLACE LEAVES: the arrays' lengths, and one more place kept
 stepped-long : (s : Session) (o : ℕ) (L : Line) → length (stepped s o L .states) ≡ length (s .states)
 stepped-long s o (rule r xs b) = refl
 stepped-long s o (new t b) = length-set (s .states) (s .objects) t
@@ -77,6 +70,16 @@ stepped-long s o other = refl
 taken-long : (m : Model) (s : Session) (p : runs.Place) → length (taken m s p .states) ≡ length (s .states)
 taken-long m s (step ℓ o) = stepped-long s o (line (programOf m) ℓ)
 taken-long m s (meet i os) = refl
+
+stepped-cells : (s : Session) (o : ℕ) (L : Line) → stepped s o L .carried ≡ s .carried
+stepped-cells s o (rule r xs b) = refl
+stepped-cells s o (new t b) = refl
+stepped-cells s o (next x plus minus b) = refl
+stepped-cells s o other = refl
+
+taken-cells : (m : Model) (s : Session) (p : runs.Place) → length (taken m s p .carried) ≡ length (s .carried)
+taken-cells m s (step ℓ o) = ap length (stepped-cells s o (line (programOf m) ℓ))
+taken-cells m s (meet i os) = cells-stay (carriers (questionOf m)) (getD (questionOf m) (s .met) []) os (s .carried)
 
 stepped-kept : (m : Model) (db : Database) (s : Session) (o : ℕ) (L : Line) → Enabled (programOf m) db o L → stepped s o L .kept ≡ s .kept + 1
 stepped-kept m db s o (rule r xs b) e = absurd e
@@ -99,11 +102,12 @@ pub record Running (m : Model) (run : List ℕ) (i : ℕ) (s : Session) : Type 0
   pub kept : s .kept ≡ i
   pub fits : Fits m s
   pub long : length (s .states) ≡ 255
+  pub cells : length (s .carried) ≡ limit.carried
   pub rest : (a : Answer) → Replays (programOf m) (questionOf m) (sessionOf m s) (drop i run) i a → Replays (programOf m) (questionOf m) (start []) run 0 a
   pub leads : Leads (programOf m) (questionOf m) (start []) run i (sessionOf m s)
 
 pub running-start : (m : Model) (run : List ℕ) → Running m run 0 fresh
-running-start m run = record { kept = refl; fits = fresh-fits m; long = fresh-long; rest = λ a h. rw (← fresh-session m) h; leads = fresh-session m }
+running-start m run = record { kept = refl; fits = fresh-fits m; long = fresh-long; cells = length-replicate {A = ℕ} limit.carried limit.none; rest = λ a h. rw (← fresh-session m) h; leads = fresh-session m }
 
 module _ (m : Model) (w : WellFormed m) (run : List ℕ) (i : ℕ) (s : Session) (r : Running m run i s) where
   module _ (l : i < length run) (few : length run ≤ limit.run) where
@@ -117,14 +121,15 @@ module _ (m : Model) (w : WellFormed m) (run : List ℕ) (i : ℕ) (s : Session)
           kept = let k = taken-kept m s p allowed in let j = r .kept in omega arith;
           fits = taken-fits m w s (r .long) (r .fits) p numerable (let j = r .kept in omega arith) allowed;
           long = taken-long m s p ∙ r .long;
+          cells = taken-cells m s p ∙ r .cells;
           rest = λ a h. r .rest a (rw (drop-cons run i 0 l) (inl (
             p,
             e,
             allowed,
             subst (λ (x : runs.Session). Replays (programOf m) (questionOf m) x (drop (suc i) run) (suc i) a)
-                (taken-after m w s (r .long) (r .fits) p numerable allowed) (rw add-one at h),
+                (taken-after m w s (r .long) (r .fits) p numerable (r .cells) allowed) (rw add-one at h),
           )));
-          leads = rw (add-one i, taken-after m w s (r .long) (r .fits) p numerable allowed) (leads-more (programOf m) (questionOf m) (start []) run i (sessionOf m s) (r .leads) l p e allowed);
+          leads = rw (add-one i, taken-after m w s (r .long) (r .fits) p numerable (r .cells) allowed) (leads-more (programOf m) (questionOf m) (start []) run i (sessionOf m s) (r .leads) l p e allowed);
         })
       where
         numerable : Numerable p
@@ -142,7 +147,7 @@ module _ (m : Model) (w : WellFormed m) (run : List ℕ) (i : ℕ) (s : Session)
 
 -- where the run ends or breaks
 pub running-ends : (m : Model) (run : List ℕ) (i : ℕ) (s : Session) → Running m run i s → i ≤ length run → (t : Session) → t ≡ s → Stopped m run i t
-running-ends m run i s r l t e = subst (Stopped m run i) (sym e) (record { within = l; kept = r .kept; fits = r .fits; long = r .long; leads = r .leads })
+running-ends m run i s r l t e = subst (Stopped m run i) (sym e) (record { within = l; kept = r .kept; fits = r .fits; long = r .long; cells = r .cells; leads = r .leads })
 
 -- a place that is not allowed leaves the states
 pub states-left : (m : Model) (states states′ : List ℕ) (at after : Position) (n k : ℕ) → TriedAt m (sessionIn states at) n false (sessionIn states′ after) k → (t : Session) → t ≡ sessionIn states′ at → t ≡ sessionIn states at
@@ -185,7 +190,7 @@ pub running-lent : (m : Model) → WellFormed m → (run : List ℕ) (i : ℕ) (
     → ((p : runs.Place) → placeOf n ≡ some p → Rests m need p) → Numbered m ns → m .literals ≡ row → v .slots ≡ slots → Lent m v s ns row slots w n
 running-lent m wf run i s r l ns row slots w v need n sees rests numbered e q =
     record {
-      ready = record { accepted = wf; fits = r .fits; room = let k = r .kept in omega arith; relations = need; sees = sees; long = r .long };
+      ready = record { accepted = wf; fits = r .fits; room = let k = r .kept in omega arith; relations = need; sees = sees; long = r .long; cells = r .cells };
       rests = rests;
       numbered = numbered;
       literals = e;

@@ -28,6 +28,7 @@ pub record Stopped (m : Model) (run : List ℕ) (k : ℕ) (s : Session) : Type 0
   pub kept : s .kept ≡ k
   pub fits : Fits m s
   pub long : length (s .states) ≡ limit.objects
+  pub cells : length (s .carried) ≡ limit.carried
   pub leads : Leads (programOf m) (questionOf m) (start []) run k (sessionOf m s)
 
 -- the state where a run that is broken at place k broke

@@ -18,11 +18,11 @@ use Rattle.replay_session.specs.Notes.{Stands}
 
 -- the state before the first place: no objects, no stage met, none carried, no place kept
 abbrev pub fresh : Session
-fresh = record { states = replicate limit.objects 0; objects = 0; met = 0; carried = limit.none; kept = 0 }
+fresh = record { states = replicate limit.objects 0; objects = 0; met = 0; carried = replicate limit.carried limit.none; kept = 0 }
 
 -- ONE PLACE put to a lent state: "kept then means that one place, and a broken place is answered broken at the count of places kept and leaves it as before".
--- The text declares so many state relations, and c is its carried variable.
-module _ (declared : ℕ) (P : Program) (Q : Question) (c : ℕ) where
+-- The text declares so many state relations.
+module _ (declared : ℕ) (P : Program) (Q : Question) where
   -- a state that doesn't fit the text "is answered broken at 0 and left too"
   pub record Misfit (s : Session) (a : PlaceAnswer) (t : Session) : Type 0 where
     pub misfit : Fits declared Q s → ⊥
@@ -32,15 +32,15 @@ module _ (declared : ℕ) (P : Program) (Q : Question) (c : ℕ) where
   pub record KeptPlace (s : Session) (n : ℕ) (a : PlaceAnswer) (t : Session) : Type 0 where
     pub place : runs.Place
     pub form : placeOf n ≡ some place
-    pub allowed : Allowed P Q (sessionOf c s) place
+    pub allowed : Allowed P Q (sessionOf Q s) place
     -- "The place-by-place caller is answered the same number": the one that the replay of a whole run notes at that place
     pub stood : ℕ
-    pub stands : Stands P (sessionOf c s) place stood
+    pub stands : Stands P (sessionOf Q s) place stood
     pub answer : a ≡ Kept stood
-    pub taken : t ≡ taken P Q c s place
+    pub taken : t ≡ taken P Q s place
 
   pub record BrokenPlace (s : Session) (n : ℕ) (a : PlaceAnswer) (t : Session) : Type 0 where
-    pub disallowed : Allows P Q (sessionOf c s) n → ⊥
+    pub disallowed : Allows P Q (sessionOf Q s) n → ⊥
     pub answer : a ≡ Broken (s .kept)
     pub left : t ≡ s
 

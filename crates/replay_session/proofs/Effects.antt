@@ -1,24 +1,21 @@
 -- What a place makes of the replay's state is what the semantics make of it, and it fits the text again.
-use mathlib.Core.Path.{_≡_, sym, ap, _∙_, subst, fun-ext}
+use mathlib.Core.Path.{_≡_, sym, ap, _∙_, fun-ext}
 use mathlib.Core.Logic.{inl, inr, ⊎-elim, _≢_}
-use mathlib.Core.Bool.{true, false, cond, not, _&&_, _||_, and-eq-true-iff}
+use mathlib.Core.Bool.{true, not, _||_, and-eq-true-iff}
 use mathlib.Core.List.{List, [], _∷_, _++_}
-use mathlib.Core.Option.{none, some}
 use Prim.Native.Nat.{ℕ, _+_, _<_}
 use native.Mathlib.Omega.{arith}
 use native.Mathlib.Numerals.{add-one}
-use borrow.Author.Tests.{eqb-true, eqb-false, ne-eqb}
-use lib.Dec.{eqb}
 use lib.ListN.{length, take, set, getD}
 use lib.Seq.{length-take-le, take-suc-set, take-set-lt, getD-take, getD-set-same, getD-set-other}
 use Rattle.limits.specs.Limits as limit
 use Rattle.semantics.specs.Labels.{has, relabel}
-use Rattle.semantics.specs.Models.{elem, Body, Line, rule, new, next, other, line, vars, shared}
+use Rattle.semantics.specs.Models.{elem, Body, Line, rule, new, next, other, line, vars, carriers}
 use Rattle.semantics.specs.Facts.{Database, state}
 use Rattle.semantics.specs.Steps.{Enabled, execute}
 use Rattle.semantics.specs.Runs as runs
 use Rattle.semantics.specs.Runs.{step, meet, named, Allowed, after}
-use Rattle.semantics.proofs.Tools.{either, same?, or-true-cases, and-false}
+use Rattle.semantics.proofs.Tools.{same?, or-true-cases}
 use Rattle.semantics.proofs.Sets.{has-relabel}
 use Rattle.model.specs.declared.Action.{Action}
 use Rattle.model.specs.declared.Action.the-variants.{Rule, New, Next}
@@ -29,9 +26,10 @@ use Rattle.model.specs.WellFormed.{declaredIn, GoodAction, WellFormed}
 use Rattle.model.proofs.Lines.{every-line}
 use Rattle.model.proofs.Accepted.{stages}
 use Rattle.replay_session.specs.declared.Session.{Session}
-use Rattle.replay_session.specs.Sessions.{optional, stateIn, stepped}
-use Rattle.replay_session.specs.Records.{sessionOf, Fits, carriedBy, taken}
+use Rattle.replay_session.specs.Sessions.{stateIn, stepped}
+use Rattle.replay_session.specs.Records.{sessionOf, Fits, taken}
 use Rattle.replay_session.proofs.Relations.{Among, among-below}
+use Rattle.replay_session.proofs.Carrying.{cell-after, carried-after}
 
 -- the sets of a line have declared relations only
 abbrev Sets : ℕ → Line → Type 0
@@ -93,7 +91,7 @@ module _ (m : Model) (w : WellFormed m) (s : Session) (long : length (s .states)
             (λ (n : p ≢ s .objects). rw (getD-set-other (s .states) (s .objects) p t 0 n) (f .relations p a (omega arith)))
             (same? p (s .objects));
         stages = f .stages;
-        carried = ⊎-elim (λ i. inl i) (λ l. inr (omega arith)) (f .carried);
+        carried = λ v n. ⊎-elim (λ i. inl i) (λ l. inr (omega arith)) (f .carried v n);
         places = omega arith;
       }
   stepped-fits o (next x plus minus b) g h k e =
@@ -118,39 +116,12 @@ module _ (m : Model) (w : WellFormed m) (s : Session) (long : length (s .states)
     abbrev stage : Body
     stage = getD (questionOf m) (s .met) []
 
-    -- the object that stands for the carried variable was created
-    named-below : elem (m .carried) (vars stage) ≡ true → named stage os (m .carried) < s .objects
-    named-below e = let l = allowed .3 .0 (m .carried) e in let z = size in omega arith
+    -- the object that stands for a variable was created
+    named-below : (x : ℕ) → elem x (vars stage) ≡ true → named stage os x < s .objects
+    named-below x e = let l = allowed .3 .0 x e in let z = size in omega arith
 
-    carried-after : (x : ℕ) → cond (eqb x (m .carried)) (optional (carriedBy m s stage os)) none
-        ≡ cond (shared (questionOf m) x && elem x (vars stage)) (some (named stage os x)) (cond (eqb x (m .carried)) (optional (s .carried)) none)
-    carried-after x = ⊎-elim own another (either (eqb x (m .carried)))
-      where
-        Same : ℕ → Type 0
-        Same y = optional (carriedBy m s stage os) ≡ cond (shared (questionOf m) y && elem y (vars stage)) (some (named stage os y)) (optional (s .carried))
-
-        at : Same (m .carried)
-        at = ⊎-elim
-            (λ (e : elem (m .carried) (vars stage) ≡ true).
-            let l = named-below e in
-            let k = f .objects in
-            rw (e, w .carries .own (s .met) e, ne-eqb (named stage os (m .carried)) 255 (omega arith)))
-            (λ (e : elem (m .carried) (vars stage) ≡ false). rw (e, and-false (shared (questionOf m) (m .carried))))
-            (either (elem (m .carried) (vars stage)))
-
-        own : eqb x (m .carried) ≡ true → cond (eqb x (m .carried)) (optional (carriedBy m s stage os)) none
-            ≡ cond (shared (questionOf m) x && elem x (vars stage)) (some (named stage os x)) (cond (eqb x (m .carried)) (optional (s .carried)) none)
-        own q = rw q (subst Same (sym (eqb-true x (m .carried) q)) at)
-
-        another : eqb x (m .carried) ≡ false → cond (eqb x (m .carried)) (optional (carriedBy m s stage os)) none
-            ≡ cond (shared (questionOf m) x && elem x (vars stage)) (some (named stage os x)) (cond (eqb x (m .carried)) (optional (s .carried)) none)
-        another q = rw (q, unshared)
-          where
-            unshared : shared (questionOf m) x ≡ false
-            unshared = ⊎-elim (λ h. absurd (eqb-false x (m .carried) q (w .carries .only x h))) (λ h. h) (either (shared (questionOf m) x))
-
-    met-after : sessionOf m (taken m s (meet i os)) ≡ after (programOf m) (questionOf m) (sessionOf m s) (meet i os)
-    met-after = λ j. record { db = db; met = add-one (s .met) j; carried = fun-ext carried-after j }
+    met-after : length (s .carried) ≡ limit.carried → sessionOf m (taken m s (meet i os)) ≡ after (programOf m) (questionOf m) (sessionOf m s) (meet i os)
+    met-after cells = λ j. record { db = db; met = add-one (s .met) j; carried = fun-ext (carried-after m w s cells (s .met) os (λ y e q. let l = named-below y e in let k = f .objects in absurd (omega arith))) j }
 
     met-fits : s .kept < limit.run → Fits m (taken m s (meet i os))
     met-fits k =
@@ -160,18 +131,18 @@ module _ (m : Model) (w : WellFormed m) (s : Session) (long : length (s .states)
           objects = f .objects;
           relations = f .relations;
           stages = omega arith;
-          carried = ⊎-elim
-              (λ (e : elem (m .carried) (vars stage) ≡ true). rw e (inr (named-below e)))
-              (λ (e : elem (m .carried) (vars stage) ≡ false). rw e (f .carried))
-              (either (elem (m .carried) (vars stage)));
+          carried = λ v n. ⊎-elim
+              (λ e. rw e (f .carried v n))
+              (λ r. inr (rw (r .2) (named-below (r .0) (r .1))))
+              (cell-after (carriers (questionOf m)) stage os (s .carried) v);
           places = omega arith;
         }
 
   -- ANY PLACE
-  pub taken-after : (p : runs.Place) → Numerable p → Allowed (programOf m) (questionOf m) (sessionOf m s) p
+  pub taken-after : (p : runs.Place) → Numerable p → length (s .carried) ≡ limit.carried → Allowed (programOf m) (questionOf m) (sessionOf m s) p
       → sessionOf m (taken m s p) ≡ after (programOf m) (questionOf m) (sessionOf m s) p
-  taken-after (step ℓ o) n a = stepped-after o (line (programOf m) ℓ) (n .1) (a .1)
-  taken-after (meet i os) n a = met-after i os a
+  taken-after (step ℓ o) n cells a = stepped-after o (line (programOf m) ℓ) (n .1) (a .1)
+  taken-after (meet i os) n cells a = met-after i os a cells
 
   pub taken-fits : (p : runs.Place) → Numerable p → s .kept < limit.run → Allowed (programOf m) (questionOf m) (sessionOf m s) p → Fits m (taken m s p)
   taken-fits (step ℓ o) n k a = stepped-fits o (line (programOf m) ℓ) (sets m w ℓ) (n .1) k (a .1)

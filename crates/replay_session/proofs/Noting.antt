@@ -16,10 +16,9 @@ use Rattle.semantics.specs.Facts.{Database}
 use Rattle.semantics.specs.Runs.{Place, step, meet, Session, Allowed, after}
 use Rattle.semantics.specs.Building.{Leads}
 use Rattle.semantics.specs.StandingBy.{lineNames, EnabledBy}
-use Rattle.semantics.proofs.Tools.{or-true-cases, or-right, elem-here}
+use Rattle.semantics.proofs.Tools.{or-true-cases, or-right, elem-here, firsts-among}
 use Rattle.semantics.proofs.StandingBy.{one-stood-by}
 use Rattle.model.specs.Places.{placeOf}
-use Rattle.model.proofs.Renaming.{firsts-from}
 use Rattle.replay_session.specs.Replays.{Decodes}
 use Rattle.replay_session.specs.Notes.{standing, Stands, Notes}
 
@@ -36,11 +35,11 @@ objects-small k σ (x ∷ xs) few h (suc i) = objects-small k σ xs few (λ y e.
 
 objects-there : (P : Program) (db : Database) (o : ℕ) (L : Line) (σ : ℕ → ℕ) → EnabledBy P db o L σ → (x : ℕ) → elem x (lineNames L) ≡ true → σ x < length db
 objects-there P db o (rule r xs b) σ g x e = absurd g
-objects-there P db o (new t b) σ g x e = g .1 .0 x (firsts-from x [] (vars b) e)
+objects-there P db o (new t b) σ g x e = g .1 .0 x (firsts-among x [] (vars b) e)
 objects-there P db o (next y plus minus b) σ g x e = ⊎-elim
     (λ q. rw (eqb-true x y q) (omega (arith, g .0, g .1)))
     (λ q. g .2 .0 x q)
-    (or-true-cases (eqb x y) (elem x (vars b)) (firsts-from x [] (y ∷ vars b) e))
+    (or-true-cases (eqb x y) (elem x (vars b)) (firsts-among x [] (y ∷ vars b) e))
 objects-there P db o other σ g x e = absurd g
 
 pub standing-small : (P : Program) (s : Session) (p : Place) (k : ℕ) → length (s .db) ≤ limit.objects → Stands P s p k → k < 16777216

@@ -1,7 +1,4 @@
 -- THE REPLAY'S STATE over the record of a text.
-use mathlib.Core.List.{List}
-use Prim.Native.Nat.{ℕ}
-use Rattle.semantics.specs.Models.{Body}
 use Rattle.semantics.specs.Runs as runs
 use Rattle.model.specs.declared.Model.{Model}
 use Rattle.model.specs.Records.{programOf, questionOf}
@@ -11,16 +8,12 @@ use Rattle.replay_session.specs.Sessions as sessions
 
 -- where a run over the record stands
 abbrev pub sessionOf : Model → Session → runs.Session
-sessionOf m = sessions.sessionOf (m .carried)
+sessionOf m = sessions.sessionOf (questionOf m)
 
 -- the state fits the record's text
 abbrev pub Fits : Model → Session → Type 0
 Fits m = sessions.Fits (declaredIn m 0) (questionOf m)
 
--- the carried object after the meeting of a stage with the objects os
-abbrev pub carriedBy : Model → Session → Body → List ℕ → ℕ
-carriedBy m = sessions.carriedBy (m .carried)
-
 -- the state after a place
 abbrev pub taken : Model → Session → runs.Place → Session
-taken m = sessions.taken (programOf m) (questionOf m) (m .carried)
+taken m = sessions.taken (programOf m) (questionOf m)

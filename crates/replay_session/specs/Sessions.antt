@@ -1,15 +1,15 @@
--- THE REPLAY'S STATE: "a database, the stages met, the carried object and the count of places kept".
+-- THE REPLAY'S STATE: "a database, the stages met, the carried object and the count of places kept"; document 02, R-5: "A lent state has a carried object for each, in order of first appearance."
 use mathlib.Core.Path.{_≡_}
 use mathlib.Core.Logic.{_⊎_}
 use mathlib.Core.Bool.{Bool, true, false, cond}
-use mathlib.Core.List.{List, []}
+use mathlib.Core.List.{List, [], _∷_}
 use mathlib.Core.Option.{Option, none, some}
 use Prim.Native.Nat.{ℕ, _+_, _≤_, _<_}
 use lib.Dec.{eqb}
 use lib.ListN.{length, take, set, getD}
 use Rattle.limits.specs.Limits as limit
 use Rattle.semantics.specs.Labels.{has, relabel}
-use Rattle.semantics.specs.Models.{elem, Body, Line, rule, new, next, other, Program, Question, line, vars}
+use Rattle.semantics.specs.Models.{elem, Body, Line, rule, new, next, other, Program, Question, line, vars, carriers}
 use Rattle.semantics.specs.Runs as runs
 use Rattle.semantics.specs.Runs.{step, meet, named}
 use Rattle.replay_session.specs.declared.Position.{Position}
@@ -24,24 +24,34 @@ Says A false = A → ⊥
 abbrev pub optional : ℕ → Option ℕ
 optional o = cond (eqb o limit.none) none (some o)
 
--- WHERE A RUN STANDS, as the semantics have it; c is the text's carried variable
-abbrev pub sessionOf : ℕ → Session → runs.Session
-sessionOf c s = record { db = take (s .objects) (s .states); met = s .met; carried = λ x. cond (eqb x c) (optional (s .carried)) none }
+-- the object that stands for x, where os are the objects of the carried variables cs, in their order
+abbrev pub carriedFor : List ℕ → List ℕ → ℕ → Option ℕ
+carriedFor [] os x = none
+carriedFor (c ∷ cs) [] x = none
+carriedFor (c ∷ cs) (o ∷ os) x = cond (eqb x c) (optional o) (carriedFor cs os x)
+
+-- WHERE A RUN STANDS, as the semantics have it, in a text that asks Q
+abbrev pub sessionOf : Question → Session → runs.Session
+sessionOf Q s = record { db = take (s .objects) (s .states); met = s .met; carried = carriedFor (carriers Q) (s .carried) }
 
 -- the state of an object
 abbrev pub stateIn : Session → ℕ → ℕ
 stateIn s o = getD (s .states) o 0
 
+-- the carried object of a cell
+abbrev pub carriedIn : Session → ℕ → ℕ
+carriedIn s v = getD (s .carried) v 0
+
 -- the state with these states of the objects, in the position
 abbrev pub sessionIn : List ℕ → Position → Session
 sessionIn states p = record { states = states; objects = p .objects; met = p .met; carried = p .carried; kept = p .kept }
 
--- THE STATE FITS THE TEXT, which declares so many state relations and asks Q: not "over 255 objects, an undeclared relation, too many stages, a carried object not created, or over 8,640 places"
+-- THE STATE FITS THE TEXT, which declares so many state relations and asks Q: not "over 255 objects, an undeclared relation, too many stages, a carried object not created, or over" 9,344 "places"
 pub record Fits (declared : ℕ) (Q : Question) (s : Session) : Type 0 where
   pub objects : s .objects ≤ limit.objects
   pub relations : (o a : ℕ) → o < s .objects → has (stateIn s o) a ≡ true → a < declared
   pub stages : s .met ≤ length Q
-  pub carried : (s .carried ≡ limit.none) ⊎ (s .carried < s .objects)
+  pub carried : (v : ℕ) → v < limit.carried → (carriedIn s v ≡ limit.none) ⊎ (carriedIn s v < s .objects)
   pub places : s .kept ≤ limit.run
 
 -- THE STATE AFTER A PLACE. An object is created with a set of relations
@@ -60,9 +70,9 @@ relabeled s o plus minus =
       kept = s .kept + 1;
     }
 
--- a stage is met, and the carried object is c from now on
-abbrev pub met : Session → ℕ → Session
-met s c = record { states = s .states; objects = s .objects; met = s .met + 1; carried = c; kept = s .kept + 1 }
+-- a stage is met, and these objects are carried from now on
+abbrev pub met : Session → List ℕ → Session
+met s os = record { states = s .states; objects = s .objects; met = s .met + 1; carried = os; kept = s .kept + 1 }
 
 -- a step of a line
 abbrev pub stepped : Session → ℕ → Line → Session
@@ -71,10 +81,12 @@ stepped s o (new t b) = created s t
 stepped s o (next x plus minus b) = relabeled s o plus minus
 stepped s o other = s
 
--- the carried object after the meeting of a stage with the objects os: "where it has none the next meeting with the carried variable sets it"
-abbrev pub carriedBy : ℕ → Session → Body → List ℕ → ℕ
-carriedBy c s b os = cond (elem c (vars b)) (named b os c) (s .carried)
+-- the objects of the carried variables cs after the meeting of stage b with the objects os, where held are those before it: "where it has none the next meeting with the carried variable sets it"; a variable that does not stand in the stage keeps its own
+abbrev pub carriedBy : List ℕ → Body → List ℕ → List ℕ → List ℕ
+carriedBy [] b os held = held
+carriedBy (c ∷ cs) b os [] = []
+carriedBy (c ∷ cs) b os (h ∷ hs) = cond (elem c (vars b)) (named b os c) h ∷ carriedBy cs b os hs
 
-abbrev pub taken : Program → Question → ℕ → Session → runs.Place → Session
-taken P Q c s (step ℓ o) = stepped s o (line P ℓ)
-taken P Q c s (meet i os) = met s (carriedBy c s (getD Q (s .met) []) os)
+abbrev pub taken : Program → Question → Session → runs.Place → Session
+taken P Q s (step ℓ o) = stepped s o (line P ℓ)
+taken P Q s (meet i os) = met s (carriedBy (carriers Q) (getD Q (s .met) []) os (s .carried))

@@ -1,13 +1,15 @@
 // The replay's state by value, and whether it fits a text.
+use limits::CARRIED;
 use limits::NONE;
 use limits::OBJECTS;
 use limits::RUN;
 use model::Model;
 use model::Relations;
 ghost use mathlib.Core.Path.{_≡_};
+ghost use mathlib.Core.Logic.{_⊎_};
 ghost use mathlib.Core.Bool.{true};
 ghost use Prim.Native.Nat.{ℕ, _≤_, _<_};
-ghost use lib.ListN.{take, set};
+ghost use lib.ListN.{take, set, getD};
 ghost use Rattle.limits.specs.Limits as limit;
 ghost use Rattle.semantics.specs.Labels.{has};
 ghost use Rattle.model.specs.WellFormed.{inClass, WellFormed};
@@ -28,12 +30,12 @@ pub enum PlaceAnswer {
     Refused { number: u32, line: u32 },
 }
 
-// The replay's state: the database, the stages met, the carried object (255 for none) and the count of places kept.
+// The replay's state: the database, the stages met, the carried objects in the order of their variables (255 for none) and the count of places kept.
 pub struct Session {
     pub states: [u32; OBJECTS],
     pub objects: usize,
     pub met: usize,
-    pub carried: u32,
+    pub carried: [u32; CARRIED],
     pub kept: usize,
 }
 
@@ -41,7 +43,7 @@ pub struct Session {
 pub struct Position {
     pub objects: usize,
     pub met: usize,
-    pub carried: u32,
+    pub carried: [u32; CARRIED],
     pub kept: usize,
 }
 
@@ -52,7 +54,8 @@ pub fn proceed(s: Session, at: Position, object: usize, state: u32) -> Session
     let mut t = s;
     t.objects = at.objects;
     t.met = at.met;
-    t.carried = at.carried;
+    let carried = at.carried;
+    t.carried = carried;
     t.kept = at.kept;
     if object < OBJECTS {
         t.states[object] = state;
@@ -94,6 +97,23 @@ fn relations_declared(s: Session, n: u32) -> bool
     true
 }
 
+// Whether each carried object is one of the n that were created, or none.
+fn carried_created(carried: [u32; CARRIED], n: usize) -> bool
+    ensures { λ r. ⌜ Says ((v : ℕ) → v < limit.carried → (getD carried v 0 ≡ limit.none) ⊎ (getD carried v 0 < n)) r ⌝ }
+{
+    let mut v = 0;
+    while v < CARRIED {
+        let o = carried[v];
+        if o != NONE {
+            if o as usize >= n {
+                return false;
+            }
+        }
+        v += 1;
+    }
+    true
+}
+
 // Whether the state fits the text.
 pub fn fits(m: Model, s: Session) -> bool
     requires { ⌜ WellFormed m ⌝ }
@@ -108,10 +128,9 @@ pub fn fits(m: Model, s: Session) -> bool
     if s.kept > RUN {
         return false;
     }
-    if s.carried != NONE {
-        if s.carried as usize >= s.objects {
-            return false;
-        }
+    let carried = s.carried;
+    if !carried_created(carried, s.objects) {
+        return false;
     }
     let relations = m.relations;
     relations_declared(s, declared_states(relations))

@@ -53,7 +53,7 @@ pub record Sees (m : Model) (R : List ℕ) (db : Database) (v : View) (w : List 
   pub views : Views db v
   pub known : Known (programOf m) R (rowOf v) w
 
--- a place can be put to the state: the model is accepted, the state fits it, fewer than 8,640 places are kept, the facts of some relations are known, and the array has its length
+-- a place can be put to the state: the model is accepted, the state fits it, fewer than 9,344 places are kept, the facts of some relations are known, and the arrays have their lengths
 pub record Ready (m : Model) (s : Session) (v : View) (w : List ℕ) : Type 0 where
   pub accepted : WellFormed m
   pub fits : Fits m s
@@ -61,6 +61,7 @@ pub record Ready (m : Model) (s : Session) (v : View) (w : List ℕ) : Type 0 wh
   pub relations : List ℕ
   pub sees : Sees m relations (take (s .objects) (s .states)) v w
   pub long : length (s .states) ≡ limit.objects
+  pub cells : length (s .carried) ≡ limit.carried
 
 -- WHAT IS LENT to a place with number n: the numbers and the literals of the model, and the slots of the view; the facts that the place rests on are known
 pub record Lent (m : Model) (v : View) (s : Session) (numbers row slots w : List ℕ) (n : ℕ) : Type 0 where

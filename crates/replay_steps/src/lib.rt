@@ -10,7 +10,7 @@ ghost use mathlib.Core.Path.{_≡_};
 ghost use mathlib.Core.Logic.{_≢_};
 ghost use mathlib.Core.Bool.{false};
 ghost use mathlib.Core.List.{List, map};
-ghost use Prim.Native.Nat.{ℕ, _≤_, _<_};
+ghost use Prim.Native.Nat.{ℕ, _+_, _≤_, _<_};
 ghost use lib.ListN.{length, drop};
 ghost use Rattle.limits.specs.Limits as limit;
 ghost use Rattle.semantics.specs.Models.{vars, Supported};
@@ -118,6 +118,20 @@ fn number(n: usize, c: Choice) -> u32
     first * 65_536 + second * 256 + third
 }
 
+// The position after a kept step that leaves so many objects.
+fn onward(at: Position, objects: usize) -> Position
+    requires { ⌜ at .kept < limit.run ⌝ }
+    ensures { λ r. ⌜ r ≡ record { objects = objects; met = at .met; carried = at .carried; kept = at .kept + 1 } ⌝ }
+{
+    let carried = at.carried;
+    Position {
+        objects,
+        met: at.met,
+        carried,
+        kept: at.kept + 1,
+    }
+}
+
 // A step of a clause, a `new` line.
 fn create(
     literals: &[u32],
@@ -148,12 +162,7 @@ fn create(
         return disallow(at);
     };
     let stood = number(c.variables as usize, helpers);
-    let after = Position {
-        objects: n + 1,
-        met: at.met,
-        carried: at.carried,
-        kept: at.kept + 1,
-    };
+    let after = onward(at, n + 1);
     Outcome {
         allowed: true,
         object: n,
@@ -197,12 +206,7 @@ fn change(
     };
     let stood = number(c.variables as usize, choice);
     let state = labels::relabel(states[o], plus, minus);
-    let after = Position {
-        objects: n,
-        met: at.met,
-        carried: at.carried,
-        kept: at.kept + 1,
-    };
+    let after = onward(at, n);
     Outcome {
         allowed: true,
         object: o,

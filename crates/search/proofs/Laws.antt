@@ -1,10 +1,10 @@
 -- What is found when no clause adds a state is all, and the last level gives the verdict.
 use mathlib.Core.Path.{_≡_, refl, sym, ap, _∙_, subst}
-use mathlib.Core.Logic.{_⊎_, inl, inr, ⊎-elim, _↔_}
-use mathlib.Core.Bool.{Bool, true, false, not}
+use mathlib.Core.Logic.{_⊎_, inl, inr, ⊎-elim, _↔_, _≢_}
+use mathlib.Core.Bool.{Bool, true, false, false≢true}
 use mathlib.Core.List.{List}
-use Prim.Native.Nat.{ℕ, _<_}
-use lib.ListN.{replicate}
+use Prim.Native.Nat.{ℕ, _+_, _*_, _≤_, _<_}
+use native.Mathlib.Omega.{arith}
 use Rattle.semantics.specs.Labels.{relabel}
 use Rattle.semantics.specs.Models.{Body, Line, rule, new, next, other}
 use Rattle.semantics.specs.Facts.{state, In, Derived, Meets}
@@ -12,14 +12,14 @@ use Rattle.semantics.specs.Steps.{Reachable}
 use Rattle.semantics.specs.Questions.{Verdict}
 use Rattle.semantics.specs.Tables.{Shows, From, Empties}
 use Rattle.semantics.specs.Walkers.{Whole, Comes}
-use Rattle.semantics.proofs.Tools.{clash}
+use Rattle.semantics.proofs.Tools.{same?, clash}
 use Rattle.semantics.proofs.Bodies.{more-facts}
 use Rattle.semantics.proofs.WalkersMoves.{states}
 use Rattle.model.specs.declared.Model.{Model}
 use Rattle.model.specs.Records.{clauseLine, programOf, questionOf, clauseAt}
 use Rattle.model.specs.WellFormed.{WellFormed}
 use Rattle.model.proofs.Lines.{every-line}
-use Rattle.facts_bits.specs.Bits.{inRow, Empty, Kept}
+use Rattle.facts_bits.specs.Bits.{Empty, Copied}
 use Rattle.facts_table.specs.Table.{tableOf}
 use Rattle.search_states.specs.declared.States.{States}
 use Rattle.search_states.specs.States.{row, Known, by, from}
@@ -29,18 +29,28 @@ use Rattle.search_reachable.specs.Reachable.{Reaches}
 use Rattle.search_ways.specs.Moves.{Marks, Exactly}
 use Rattle.search_ways.specs.Steps.{Between}
 use Rattle.search_ways.proofs.Laws.{whole}
-use Rattle.search_ways.proofs.Closing.{copied}
 use Rattle.search_levels.specs.declared.Levels.{Levels}
-use Rattle.search_levels.specs.Levels.{Filled}
+use Rattle.search_levels.specs.Levels.{pairAt, Filled}
 use Rattle.search_levels.proofs.Laws as levels
+use Rattle.search.specs.Search.{Entered}
 
--- THE LAST ROW, taken by value and put to the test
-module _ (rows last : List ℕ) (k : ℕ) (kept : Kept (replicate 16 255) rows k last) (none : Bool) (test : Empty last none) where
-  pub some-slot : none ≡ false → (e : ℕ) × (e < 128) × (inRow rows k e ≡ true)
-  some-slot q = let s = test .some q in (s .0, s .1, sym (copied rows k last kept (s .0) (s .1)) ∙ s .2)
+-- THE ROWS OF A LEVEL one after the other: those below f have no slot
+module _ (rows : List ℕ) (k : ℕ) where
+  abbrev pub NoneBelow : ℕ → Type 0
+  NoneBelow f = (e g : ℕ) → e < 128 → g < f → pairAt rows k e g ≡ false
 
-  no-slot : none ≡ true → (e : ℕ) × (e < 128) × (inRow rows k e ≡ true) → ⊥
-  no-slot q s = clash (copied rows k last kept (s .0) (s .1) ∙ s .2) (test .none q (s .0))
+  module _ (f : ℕ) (row : List ℕ) (copied : Copied rows (128 * k + f) row) (none : Bool) (test : Empty row none) where
+    pub pair-here : f < 128 → none ≡ false → Entered rows k
+    pair-here l q = let s = test .some q in (s .0, f, s .1, l, sym (copied .bits (s .0) (s .1)) ∙ s .2)
+
+    pub none-more : none ≡ true → NoneBelow f → NoneBelow (f + 1)
+    none-more q h e g l i = ⊎-elim
+        (λ (z : g ≡ f). subst (λ (n : ℕ). pairAt rows k e n ≡ false) (sym z) (sym (copied .bits e l) ∙ test .none q e))
+        (λ (z : g ≢ f). h e g l (omega (arith, i, z)))
+        (same? g f)
+
+  pub no-pair : (f : ℕ) → 128 ≤ f → NoneBelow f → Entered rows k → ⊥
+  no-pair f l h s = clash (s .4) (h (s .0) (s .1) (s .2) (omega (arith, l, s .3)))
 
 module _ (m : Model) (wf : WellFormed m) (w : List ℕ) (s : States) (reaches : Reaches m w s) where
   pub exactly : Exactly m w s
@@ -77,12 +87,12 @@ module _ (m : Model) (wf : WellFormed m) (w : List ℕ) (s : States) (reaches : 
       ((λ r. ⊎-elim (λ e. inl (e .0, emptied (e .1))) (λ e. inr e) (q .0 r)), λ k. q .1 (⊎-elim (λ e. inl (e .0, reaches .empty (e .1))) (λ e. inr e) k))
 
   pub verdict : (ways : List ℕ) → Marks ways (Between (s .count) (λ e u. Comes (programOf m) (row s) (state (row s) e) (state (row s) u))) → (l : Levels) → Filled m (row s) w ways l
-      → (last : List ℕ) → Kept (replicate 16 255) (l .rows) (m .stagecount) last → (none : Bool) → Empty last none → Verdict (programOf m) (questionOf m) (not none)
-  verdict ways closed l filled last kept none test = go none refl
+      → (r : Bool) → (r ≡ true) ↔ Entered (l .rows) (m .stagecount) → Verdict (programOf m) (questionOf m) r
+  verdict ways closed l filled r test = go r test
     where
-      law : ((e : ℕ) × (e < 128) × (inRow (l .rows) (m .stagecount) e ≡ true)) ↔ Verdict (programOf m) (questionOf m) true
+      law : Entered (l .rows) (m .stagecount) ↔ Verdict (programOf m) (questionOf m) true
       law = levels.verdict m wf w s exactly ways closed l filled no-more (reaches .found)
 
-      go : (b : Bool) → none ≡ b → Verdict (programOf m) (questionOf m) (not b)
-      go true q = λ r. no-slot (l .rows) last (m .stagecount) kept none test q (law .1 r)
-      go false q = law .0 (some-slot (l .rows) last (m .stagecount) kept none test q)
+      go : (b : Bool) → (b ≡ true) ↔ Entered (l .rows) (m .stagecount) → Verdict (programOf m) (questionOf m) b
+      go true q = law .0 (q .0 refl)
+      go false q = λ x. absurd (false≢true (q .1 (law .1 x)))

@@ -11,7 +11,6 @@ use Rattle.semantics.specs.Questions.{Verdict}
 use Rattle.semantics.specs.Walkers.{Whole, Comes}
 use Rattle.model.specs.declared.Model.{Model}
 use Rattle.model.specs.Records.{programOf, questionOf}
-use Rattle.facts_bits.specs.Bits.{inRow}
 use Rattle.facts_table.specs.Table.{Consistent}
 use Rattle.facts.specs.Facts.{Exact}
 use Rattle.search_states.specs.declared.States.{States}
@@ -19,7 +18,7 @@ use Rattle.search_states.specs.States.{row, Known, Proper, Discovered}
 use Rattle.search_states.specs.Rising.{Lists}
 use Rattle.search_ways.specs.Moves.{Marks, CanTake}
 use Rattle.search_ways.specs.Steps.{Between, OneStep}
-use Rattle.search_levels.specs.Levels.{Filled}
+use Rattle.search_levels.specs.Levels.{pairAt, Filled}
 use Rattle.search.specs.declared.Moves.{Moves}
 use Rattle.search.specs.declared.Found.{Found}
 
@@ -32,15 +31,19 @@ pub record Moving (m : Model) (s : States) (t : Moves) : Type 0 where
   pub steps : Marks (t .steps) (Between (s .count) (OneStep (programOf m) (row s)))
   pub ways : Marks (t .ways) (Between (s .count) (λ e u. Comes (programOf m) (row s) (state (row s) e) (state (row s) u)))
 
+-- level k has a pair
+abbrev pub Entered : List ℕ → ℕ → Type 0
+Entered rows k = (e f : ℕ) × (e < 128) × (f < 128) × (pairAt rows k e f ≡ true)
+
 -- w is the work area as the search leaves it
 pub record Searched (m : Model) (w : List ℕ) (r : Found) : Type 0 where
   -- the states found are exactly the reachable ones, the empty one if it is noted; and so are those by rising number
   pub proper : Proper (r .states)
   pub reachable : (t : ℕ) → Reachable (programOf m) t ↔ Known (r .states) t
   pub listing : Lists (r .states) (r .listing)
-  -- the verdict is right, and where it is reached the last level has a slot
+  -- the verdict is right, and where it is reached the last level has a pair
   pub verdict : Verdict (programOf m) (questionOf m) (r .reached)
-  pub entered : r .reached ≡ true → (e : ℕ) × (e < 128) × (inRow (r .levels .rows) (m .stagecount) e ≡ true)
+  pub entered : r .reached ≡ true → Entered (r .levels .rows) (m .stagecount)
   -- each state came from those before it, and no line adds another
   pub found : Discovered (programOf m) (r .states)
   pub whole : Whole (programOf m) (row (r .states))

@@ -4,7 +4,9 @@ use search_levels::Levels;
 use search_states::Listing;
 use search_states::States;
 ghost use mathlib.Core.Path.{_≡_};
-ghost use Prim.Native.Nat.{_≤_};
+ghost use mathlib.Core.Logic.{_↔_};
+ghost use mathlib.Core.Bool.{true};
+ghost use Prim.Native.Nat.{_≤_, _<_};
 ghost use lib.ListN.{length};
 ghost use Rattle.semantics.specs.Walkers.{Whole};
 ghost use Rattle.model.specs.Records.{programOf};
@@ -12,12 +14,15 @@ ghost use Rattle.model.specs.WellFormed.{WellFormed};
 ghost use Rattle.facts_heads.specs.Heads.{room};
 ghost use Rattle.search_states.specs.States.{row};
 ghost use Rattle.search_ways.specs.Moves.{Exactly};
-ghost use Rattle.search.specs.Search.{Moving, Searched};
+ghost use Rattle.search.specs.Search.{Moving, Entered, Searched};
 
 // The bytes of the table of moves, of 64 rows, and of a matrix of 128 rows.
 const TABLE: usize = 1024;
 
 const MATRIX: usize = 2048;
+
+// The rows that a matrix has.
+const SLOTS: usize = 128;
 
 // From which slots each clause can be taken, to which slots one step at most leads from each slot, and to which any number of steps.
 pub struct Moves {
@@ -49,6 +54,23 @@ fn tables(work: &[u8], m: Model, s: States) -> Moves
     Moves { table, steps, ways }
 }
 
+// Has level k a pair?
+fn entered(rows: &[u8], k: usize) -> bool
+    requires { ⌜ (length (now rows) ≡ 10240) × (k < 5) ⌝ }
+    ensures { λ r. ⌜ (r ≡ true) ↔ Entered (now (rows .entry)) k ⌝ }
+{
+    let at = SLOTS * k;
+    let mut f: usize = 0;
+    while f < SLOTS {
+        let row = facts_bits::row(rows, at + f);
+        if !facts_bits::empty(row) {
+            return true;
+        }
+        f += 1;
+    }
+    false
+}
+
 // Searches a well-formed model; it always ends with a verdict.
 pub fn search(work: &mut [u8], m: Model) -> Found
     requires { ⌜ WellFormed m × (room ≤ length (now work)) ⌝ }
@@ -58,9 +80,7 @@ pub fn search(work: &mut [u8], m: Model) -> Found
     let listing = search_states::rising(found);
     let moves = tables(work, m, found);
     let levels = search_levels::fill(work, m, found, &moves.ways);
-    let last = m.stagecount;
-    let row = facts_bits::keep(facts_bits::full(), &levels.rows, last);
-    let reached = !facts_bits::empty(row);
+    let reached = entered(&levels.rows, m.stagecount);
     Found {
         states: found,
         listing,

@@ -1,81 +1,85 @@
--- The levels one after the other.
+-- The rows of a level one after the other, and the levels one after the other.
 use mathlib.Core.Path.{_≡_, refl, sym, _∙_, subst}
-use mathlib.Core.Logic.{⊎-elim, _≢_, _↔_}
+use mathlib.Core.Logic.{inr, ⊎-elim, _≢_, _↔_}
 use mathlib.Core.Bool.{Bool, true, false, _||_}
 use mathlib.Core.List.{List}
-use Prim.Native.Nat.{ℕ, suc, _<_}
+use Prim.Native.Nat.{ℕ, suc, _+_, _*_, _≤_, _<_}
 use native.Mathlib.Omega.{arith}
 use borrow.Author.Tests.{eq-eqb, ne-eqb}
-use lib.ListN.{replicate}
-use Rattle.semantics.proofs.Tools.{same?}
+use lib.ListN.{length, replicate, length-replicate}
+use Rattle.semantics.proofs.Tools.{either, same?, clash}
 use Rattle.model.specs.declared.Model.{Model}
-use Rattle.facts_bits.specs.Bits.{bitAt, inRow, Joined}
-use Rattle.search_levels.specs.Levels.{Has, holder, chosen, Open, Next, Passed}
+use Rattle.facts_bits.specs.Bits.{bitAt, withBit, inRow, Joined}
+use Rattle.search_ways.proofs.Marking.{marks-bit}
+use Rattle.search_levels.specs.Levels.{pairAt, Next, Passed}
+use Rattle.search_levels.specs.Passing.{Has, Clear, Written}
 use Rattle.search_levels.proofs.Rows.{no-bit}
 
--- A ROW JOINED to one that has no bit is that row, and the others stay
-module _ (w : List ℕ) (k : ℕ) (r w′ : List ℕ) (j : Joined w k r w′) where
-  joined-here : ((e : ℕ) → e < 128 → inRow w k e ≡ false) → (e : ℕ) → e < 128 → inRow w′ k e ≡ bitAt r e
-  joined-here f e l = j k e l ∙ rw (f e l, eq-eqb k k refl)
+-- nothing is written yet
+pub written-none : (from : ℕ) (rows : List ℕ) → Clear from rows → Written from (from + 0) rows rows
+written-none from rows clear = record { long = refl; kept = λ i e l g. refl; clear = λ i e l g. clear i e (omega arith) g }
 
-  joined-there : (i e : ℕ) → i ≢ k → e < 128 → inRow w′ i e ≡ inRow w i e
-  joined-there i e n l = j i e l ∙ rw (ne-eqb i k n) (or-nothing (inRow w i e))
+-- A ROW MORE, joined to one that has no bit, is that row, and the others stay
+module _ (from f : ℕ) (old rows : List ℕ) (w : Written from (from + f) old rows) (r rows′ : List ℕ) (j : Joined rows (from + f) r rows′) where
+  row-here : (e : ℕ) → e < 128 → inRow rows′ (from + f) e ≡ bitAt r e
+  row-here e l = j (from + f) e l ∙ rw (w .clear (from + f) e (omega arith) l, eq-eqb (from + f) (from + f) refl)
+
+  row-there : (i e : ℕ) → i ≢ from + f → e < 128 → inRow rows′ i e ≡ inRow rows i e
+  row-there i e n l = j i e l ∙ rw (ne-eqb i (from + f) n) (or-nothing (inRow rows i e))
     where
       or-nothing : (a : Bool) → (a || false) ≡ a
       or-nothing true = refl
       or-nothing false = refl
 
+  pub written-more : length rows′ ≡ length rows → Written from (from + (f + 1)) old rows′
+  written-more long = record {
+    long = long ∙ w .long;
+    kept = λ i e l g. row-there i e (λ q. omega arith) g ∙ w .kept i e l g;
+    clear = λ i e l g. row-there i e (λ q. omega arith) g ∙ w .clear i e (omega arith) g;
+  }
+
+  pub rows-more : (D : ℕ → ℕ → Type 0) → Has r (λ e. D e f) → ((e g : ℕ) → e < 128 → g < f → (inRow rows (from + g) e ≡ true) ↔ D e g)
+      → (e g : ℕ) → e < 128 → g < f + 1 → (inRow rows′ (from + g) e ≡ true) ↔ D e g
+  rows-more D h before e g l k = ⊎-elim
+      (λ (z : g ≡ f). subst (λ (n : ℕ). (inRow rows′ (from + n) e ≡ true) ↔ D e n) (sym z)
+      (let p = h .bits e l in ((λ q. p .0 (sym (row-here e l) ∙ q)), λ q. row-here e l ∙ p .1 q)))
+      (λ (z : g ≢ f). let p = before e g l (omega (arith, z)) in let y = row-there (from + g) e (λ q. z (omega (arith, q))) l in ((λ q. p .0 (sym y ∙ q)), λ q. y ∙ p .1 q))
+      (same? g f)
+
+-- the first level has the pair of slots 0 alone
+pub begun : (n : ℕ) → 0 < n → (e f : ℕ) → e < 128 → f < 128 → (pairAt (withBit (replicate n 0) 0) 0 e f ≡ true) ↔ ((e ≡ 0) × (f ≡ 0))
+begun n some e f l h = let p = marks-bit (replicate n 0) 0 0 (omega arith) (rw length-replicate (omega arith)) .bits (128 * 0 + f) e l in (
+  (λ q. ⊎-elim (λ x. clash x (no-bit n (128 * 0 + f) e l)) (λ x. (x .1, omega (arith, x .0))) (p .0 q)),
+  λ q. p .1 (inr (omega (arith, q .1), q .0)),
+)
+
+pub begun-clear : (n : ℕ) → 0 < n → Clear (128 * suc 0) (withBit (replicate n 0) 0)
+begun-clear n some i e l h = let p = marks-bit (replicate n 0) 0 0 (omega arith) (rw length-replicate (omega arith)) .bits i e h in
+    ⊎-elim (λ q. absurd (⊎-elim (λ x. clash x (no-bit n i e h)) (λ x. omega (arith, x .0)) (p .0 q))) (λ q. q) (either (inRow (withBit (replicate n 0) 0) i e))
+
 module _ (m : Model) (S w ways : List ℕ) where
-  -- the same slots
-  module _ (A A′ : ℕ → Bool) (a : (e : ℕ) → e < 128 → A e ≡ A′ e) where
-    open-so : (c : Bool) (e : ℕ) → Open ways c A e → Open ways c A′ e
-    open-so false e q = sym (a 0 (omega arith)) ∙ q
-    open-so true e q = (q .0, q .1, sym (a (q .0) (q .1)) ∙ q .2, q .3)
+  -- the same pairs on both levels
+  module _ (A A′ : ℕ → ℕ → Bool) (a : (e f : ℕ) → e < 128 → f < 128 → A e f ≡ A′ e f) where
+    next-so : (k e f : ℕ) → Next m S w ways k A e f → Next m S w ways k A′ e f
+    next-so k e f q = let x = q .0 in ((x .0, x .1, x .2, x .3, sym (a (x .0) (x .1) (x .2) (x .3)) ∙ x .4, x .5, x .6), q .1)
 
-    next-so : (c : Bool) (k e : ℕ) → e < 128 → Next c m S w ways k A e → Next c m S w ways k A′ e
-    next-so false k e l q = (sym (a e l) ∙ q .0, q .1)
-    next-so true k e l q = (q .0, open-so (chosen m k) e (q .1), q .2)
-
-  passed-so : (k : ℕ) (A B A′ B′ : ℕ → Bool) → ((e : ℕ) → e < 128 → A e ≡ A′ e) → ((e : ℕ) → e < 128 → B e ≡ B′ e) → Passed m S w ways k A B → Passed m S w ways k A′ B′
+  passed-so : (k : ℕ) (A B A′ B′ : ℕ → ℕ → Bool) → ((e f : ℕ) → e < 128 → f < 128 → A e f ≡ A′ e f) → ((e f : ℕ) → e < 128 → f < 128 → B e f ≡ B′ e f) → Passed m S w ways k A B → Passed m S w ways k A′ B′
   passed-so k A B A′ B′ a b h = record {
-    bits = λ e l. let p = h .bits e l in (
-      λ q. next-so A A′ a (holder m k) k e l (p .0 (b e l ∙ q)),
-      λ q. sym (b e l) ∙ p .1 (next-so A′ A (λ i g. sym (a i g)) (holder m k) k e l q),
+    pairs = λ e f l g. let p = h .pairs e f l g in (
+      (λ q. next-so A A′ a k e f (p .0 (b e f l g ∙ q))),
+      λ q. sym (b e f l g) ∙ p .1 (next-so A′ A (λ u v i j. sym (a u v i j)) k e f q),
     );
   }
 
-  -- THE FIRST k STAGES ARE PASSED, and level k has the slots of the row
-  pub record Sofar (k : ℕ) (rows row : List ℕ) : Type 0 where
-    pub here : (e : ℕ) → e < 128 → inRow rows k e ≡ bitAt row e
-    pub begins : (e : ℕ) → e < 128 → (inRow rows 0 e ≡ true) ↔ (e ≡ 0)
-    pub stages : (j : ℕ) → j < k → Passed m S w ways j (inRow rows j) (inRow rows (suc j))
-    pub clear : (j e : ℕ) → k < j → e < 128 → inRow rows j e ≡ false
+  -- A LEVEL MORE: the stages before stay passed
+  module _ (k : ℕ) (old new : List ℕ) (kept : (i e : ℕ) → i < 128 * suc k → e < 128 → inRow new i e ≡ inRow old i e) where
+    level-same : (j : ℕ) → j ≤ k → (e f : ℕ) → e < 128 → f < 128 → pairAt old j e f ≡ pairAt new j e f
+    level-same j h e f l g = sym (kept (128 * j + f) e (omega arith) l)
 
-  pub sofar-none : (n : ℕ) (row rows : List ℕ) → Has row (λ e. e ≡ 0) → Joined (replicate n 0) 0 row rows → Sofar 0 rows row
-  sofar-none n row rows h j = record {
-    here = first;
-    begins = λ e l. let p = h .bits e l in ((λ q. p .0 (sym (first e l) ∙ q)), λ q. first e l ∙ p .1 q);
-    stages = λ i l. absurd (omega (arith, l));
-    clear = λ i e g l. joined-there (replicate n 0) 0 row rows j i e (λ q. omega arith) l ∙ no-bit n i e l;
-  }
-    where
-      first : (e : ℕ) → e < 128 → inRow rows 0 e ≡ bitAt row e
-      first = joined-here (replicate n 0) 0 row rows j (λ e l. no-bit n 0 e l)
-
-  pub sofar-more : (k : ℕ) (rows row next rows′ : List ℕ) → Sofar k rows row → Passed m S w ways k (bitAt row) (bitAt next) → Joined rows (suc k) next rows′ → Sofar (suc k) rows′ next
-  sofar-more k rows row next rows′ s p j = record {
-    here = added;
-    begins = λ e l. let q = s .begins e l in ((λ x. q .0 (sym (kept 0 (λ y. omega arith) e l) ∙ x)), λ x. kept 0 (λ y. omega arith) e l ∙ q .1 x);
-    stages = λ i l. ⊎-elim
-        (λ (z : i ≡ k). subst (λ (n : ℕ). Passed m S w ways n (inRow rows′ n) (inRow rows′ (suc n))) (sym z)
-        (passed-so k (bitAt row) (bitAt next) (inRow rows′ k) (inRow rows′ (suc k)) (λ e g. sym (kept k (λ y. omega arith) e g ∙ s .here e g)) (λ e g. sym (added e g)) p))
-        (λ (z : i ≢ k). passed-so i (inRow rows i) (inRow rows (suc i)) (inRow rows′ i) (inRow rows′ (suc i)) (λ e g. sym (kept i (λ y. omega arith) e g)) (λ e g. sym (kept (suc i) (λ y. omega arith) e g)) (s .stages i (omega arith)))
-        (same? i k);
-    clear = λ i e g l. kept i (λ y. omega arith) e l ∙ s .clear i e (omega arith) l;
-  }
-    where
-      added : (e : ℕ) → e < 128 → inRow rows′ (suc k) e ≡ bitAt next e
-      added = joined-here rows (suc k) next rows′ j (λ e l. s .clear (suc k) e (omega arith) l)
-
-      kept : (i : ℕ) → i ≢ suc k → (e : ℕ) → e < 128 → inRow rows′ i e ≡ inRow rows i e
-      kept i n e l = joined-there rows (suc k) next rows′ j i e n l
+    pub passed-more : ((j : ℕ) → j < k → Passed m S w ways j (pairAt old j) (pairAt old (suc j))) → Passed m S w ways k (pairAt old k) (pairAt new (suc k))
+        → (j : ℕ) → j < suc k → Passed m S w ways j (pairAt new j) (pairAt new (suc j))
+    passed-more before last j l = ⊎-elim
+        (λ (z : j ≡ k). subst (λ (i : ℕ). Passed m S w ways i (pairAt new i) (pairAt new (suc i))) (sym z)
+        (passed-so k (pairAt old k) (pairAt new (suc k)) (pairAt new k) (pairAt new (suc k)) (level-same k (omega arith)) (λ e f p q. refl) last))
+        (λ (z : j ≢ k). passed-so j (pairAt old j) (pairAt old (suc j)) (pairAt new j) (pairAt new (suc j)) (level-same j (omega (arith, l))) (level-same (suc j) (omega (arith, l, z))) (before j (omega (arith, l, z))))
+        (same? j k)

@@ -1,39 +1,37 @@
--- The stages of an accepted question, met over the found states.
-use mathlib.Core.Path.{_≡_, refl, sym, _∙_, subst}
+-- The stages of an accepted question, with the numbers that the stages and the question have for the carried variables.
+use mathlib.Core.Path.{_≡_, refl, sym, ap, _∙_, subst}
 use mathlib.Core.Logic.{⊎-elim, _↔_}
-use mathlib.Core.Bool.{Bool, true, false, _||_, false≢true}
+use mathlib.Core.Bool.{Bool, true, false, _||_}
 use mathlib.Core.List.{List, [], map}
 use Prim.Native.Nat.{ℕ, suc, _≤_, _<_}
 use native.Mathlib.Omega.{arith}
-use lib.ListN.{length, take, getD, replicate}
+use borrow.Author.Tests.{ltb-true, ltb-false}
+use lib.Dec.{ltb}
+use lib.ListN.{length, take, getD}
 use lib.Seq.{getD-take, length-take-le}
 use Rattle.semantics.specs.Models.{elem, Body, vars, names, supported, Supported}
 use Rattle.semantics.specs.Facts.{Database, Holds, In}
 use Rattle.semantics.specs.Runs.{named}
 use Rattle.semantics.specs.Tables.{seat}
-use Rattle.semantics.proofs.Tools.{either, clash, or-right, named-own, seat-ok}
+use Rattle.semantics.proofs.Tools.{either, clash, named-own, seat-ok}
 use Rattle.semantics.proofs.Bodies.{holds-agree, supported-vars}
 use Rattle.model.specs.declared.Model.{Model}
 use Rattle.model.specs.declared.Stage.{Stage}
-use Rattle.model.specs.Records.{renamed, Injective, stageBody, numberIn, questionOf, stageAt}
+use Rattle.model.specs.Records.{renamed, Injective, stageBody, numberIn, questionOf, stageAt, carriedAt}
 use Rattle.model.specs.WellFormed.{WellFormed}
 use Rattle.model.proofs.Accepted.{stage-here, stage-vars, stage-body, stage-different}
+use Rattle.model.proofs.Carried.{carried-own, carried-differ}
 use Rattle.model.proofs.Renaming.{elem-map, elem-of-map, vars-renamed, supported-renamed, holds-renamed, named-renamed}
-use Rattle.facts_bits.specs.Bits.{bitAt}
-use Rattle.facts_table.specs.Table.{tableOf}
-use Rattle.facts_holds.specs.Shows.{Evaluable, Anyhow, At, Tells}
+use Rattle.facts_table.specs.Table.{tableOf, Consistent}
+use Rattle.facts_candidates.specs.Choices.{Own}
+use Rattle.facts_holds.specs.Shows.{Evaluable}
 use Rattle.search_states.proofs.Seats.{elem-getD, seat-in, seat-out}
-use Rattle.search_ways.specs.Moves.{HoldsAt}
-use Rattle.search_levels.specs.Levels.{Has, holder, chosen, Open, Next, Passed}
-use Rattle.search_levels.proofs.Rows.{no-bit, row-zero}
-
--- what the evaluator tells of slot e for variable x
-pub told-at : (S w : List ℕ) (b : Body) (x e : ℕ) (r : Bool) → Tells S w b (At x e) r → (r ≡ true) ↔ HoldsAt S (In (tableOf w)) x e b
-told-at S w b x e true t = ((λ q. (t .0, t .2, t .1)), λ q. refl)
-told-at S w b x e false t = ((λ q. absurd (false≢true q)), λ q. absurd (t (q .0) (q .2) (q .1)))
+use Rattle.search_levels.specs.declared.Meeting.{Meeting}
+use Rattle.search_levels.specs.Levels.{holder, chosen, pairAt, Moved, Seated, Next, Passed}
+use Rattle.search_levels.specs.Passing.{Led, Met, Ready, meetingOf}
 
 -- VARIABLES of a stage and of the question: b has numbers of its own for them, and f are those of the question
-module _ (f : ℕ → ℕ) (b : Body) (inj : Injective f (vars b)) (S : Database) (F : ℕ → List ℕ → Type 0) where
+module _ (f : ℕ → ℕ) (b : Body) (inj : Injective f (vars b)) where
   -- the objects σ of the stage's variables, for the question's
   globally : (ℕ → ℕ) → ℕ → ℕ
   globally σ = named (renamed f b) (map σ (names b))
@@ -42,17 +40,24 @@ module _ (f : ℕ → ℕ) (b : Body) (inj : Injective f (vars b)) (S : Database
   unfolding globally
   globally-at σ x e = named-renamed f b inj (map σ (names b)) x e ∙ named-own σ b x e
 
-  holds-globally : (σ : ℕ → ℕ) → Holds S F σ b → Holds S F (globally σ) (renamed f b)
-  holds-globally σ h = holds-renamed f S F (globally σ) b .1 (holds-agree S F σ (λ x. globally σ (f x)) b (λ x e. sym (globally-at σ x e)) h)
+  holds-globally : (S : Database) (F : ℕ → List ℕ → Type 0) (σ : ℕ → ℕ) → Holds S F σ b → Holds S F (globally σ) (renamed f b)
+  holds-globally S F σ h = holds-renamed f S F (globally σ) b .1 (holds-agree S F σ (λ x. globally σ (f x)) b (λ x e. sym (globally-at σ x e)) h)
 
-  pub any-renamed : ((σ : ℕ → ℕ) × Holds S F σ (renamed f b)) ↔ ((σ : ℕ → ℕ) × Holds S F σ b)
-  any-renamed = ((λ h. ((λ x. h .0 (f x)), holds-renamed f S F (h .0) b .0 (h .1))), λ h. (globally (h .0), holds-globally (h .0) (h .1)))
+  -- a variable that is number y of the stage and x of the question
+  module _ (s : Bool) (x y e : ℕ) (same : s ≡ true → f y ≡ x) where
+    seated-locally : (σ : ℕ → ℕ) → Seated s σ x e → Seated s (λ z. σ (f z)) y e
+    seated-locally σ = go s same
+      where
+        go : (s : Bool) → (s ≡ true → f y ≡ x) → Seated s σ x e → Seated s (λ z. σ (f z)) y e
+        go true h q = ap σ (h refl) ∙ q
+        go false h q = q
 
-  pub at-renamed : (x e : ℕ) → elem x (vars b) ≡ true → HoldsAt S F (f x) e (renamed f b) ↔ HoldsAt S F x e b
-  at-renamed x e l = (
-    (λ h. ((λ y. h .0 (f y)), h .1, holds-renamed f S F (h .0) b .0 (h .2))),
-    λ h. (globally (h .0), globally-at (h .0) x l ∙ h .1, holds-globally (h .0) (h .2)),
-  )
+    seated-globally : (s ≡ true → elem y (vars b) ≡ true) → (σ : ℕ → ℕ) → Seated s σ y e → Seated s (globally σ) x e
+    seated-globally stands σ = go s same stands
+      where
+        go : (s : Bool) → (s ≡ true → f y ≡ x) → (s ≡ true → elem y (vars b) ≡ true) → Seated s σ y e → Seated s (globally σ) x e
+        go true h l q = ap (globally σ) (sym (h refl)) ∙ globally-at σ y (l refl) ∙ q
+        go false h l q = q
 
 -- a body is safe if it is with other names
 local-supported : (f : ℕ → ℕ) (b : Body) → Injective f (vars b) → Supported (vars (renamed f b)) (renamed f b) → Supported (vars b) b
@@ -63,17 +68,17 @@ local-supported f b inj h x e =
 
 -- STAGE k of a well-formed model
 module _ (m : Model) (wf : WellFormed m) (k : ℕ) (here : k < m .stagecount) where
-  abbrev t : Stage
-  t = stageAt m k
+  abbrev g : Stage
+  g = stageAt m k
 
   abbrev b : Body
-  b = stageBody (m .literals) t
+  b = stageBody (m .literals) g
 
   abbrev f : ℕ → ℕ
-  f = numberIn t
+  f = numberIn g
 
   -- its body can be evaluated
-  pub stage-evaluable : Evaluable (m .literals) (record { first = t .first; count = t .count; variables = t .variables })
+  stage-evaluable : Evaluable (m .literals) (record { first = g .first; count = g .count; variables = g .variables })
   stage-evaluable =
       record {
         inside = let p = wf .stage k here .part .within in omega (arith, wf .literalcount, wf .literals);
@@ -81,84 +86,114 @@ module _ (m : Model) (wf : WellFormed m) (k : ℕ) (here : k < m .stagecount) wh
         safe = local-supported f b (stage-different m wf k here) (rw (stage-here m wf k here) at (wf .safely k));
       }
 
-  pub numbers-long : t .variables ≤ length (t .numbers)
+  pub numbers-long : g .variables ≤ length (g .numbers)
   numbers-long = let n = wf .numbers k here in let v = stage-body m wf k here .few in omega arith
 
-  length-numbered : length (take (t .variables) (t .numbers)) ≡ t .variables
-  length-numbered = length-take-le (t .variables) (t .numbers) numbers-long
+  length-numbered : length (take (g .variables) (g .numbers)) ≡ g .variables
+  length-numbered = length-take-le (g .variables) (g .numbers) numbers-long
 
-  -- THE CARRIED VARIABLE is variable x of the stage, if the stage has it
-  module _ (x : ℕ) (seated : x ≡ seat (m .carried) (take (t .variables) (t .numbers))) where
-    number-here : x < t .variables → f x ≡ m .carried
+  -- A VARIABLE x of the question is variable y of the stage, if the stage has it
+  module _ (x : ℕ) where
+    abbrev y : ℕ
+    y = seat x (take (g .variables) (g .numbers))
+
+    number-here : y < g .variables → f y ≡ x
     number-here l =
-        let e = seat-in (m .carried) (take (t .variables) (t .numbers)) (t .variables) length-numbered (rw seated at l) in
-        sym (getD-take (t .variables) (t .numbers) x 0 l) ∙ (rw seated (seat-ok (m .carried) (take (t .variables) (t .numbers)) e .1))
+        let e = seat-in x (take (g .variables) (g .numbers)) (g .variables) length-numbered l in
+        sym (getD-take (g .variables) (g .numbers) y 0 l) ∙ seat-ok x (take (g .variables) (g .numbers)) e .1
 
-    holder-here : x < t .variables → holder m k ≡ true
+    holder-here : y < g .variables → elem x (vars (getD (questionOf m) k [])) ≡ true
     holder-here l =
-        subst (λ (c : Body). elem (m .carried) (vars c) ≡ true) (sym (stage-here m wf k here))
-        (subst (λ (v : ℕ). elem v (vars (renamed f b)) ≡ true) (number-here l) (rw (vars-renamed f b) (elem-map f x (vars b) (stage-vars m wf k here x .1 l))))
+        subst (λ (c : Body). elem x (vars c) ≡ true) (sym (stage-here m wf k here))
+        (subst (λ (v : ℕ). elem v (vars (renamed f b)) ≡ true) (number-here l) (rw (vars-renamed f b) (elem-map f y (vars b) (stage-vars m wf k here y .1 l))))
 
-    holder-none : t .variables ≤ x → holder m k ≡ false
+    holder-none : g .variables ≤ y → elem x (vars (getD (questionOf m) k [])) ≡ false
     holder-none l = ⊎-elim
         (λ e.
-        let y = elem-of-map f (m .carried) (vars b) (rw (vars-renamed f b) at (subst (λ (c : Body). elem (m .carried) (vars c) ≡ true) (stage-here m wf k here) e)) in
-        let h = stage-vars m wf k here (y .0) .0 (y .1) in
-        clash (subst (λ (z : ℕ). elem z (take (t .variables) (t .numbers)) ≡ true) (getD-take (t .variables) (t .numbers) (y .0) 0 h ∙ sym (y .2)) (elem-getD (take (t .variables) (t .numbers)) (y .0) (rw length-numbered h)))
-        (seat-out (m .carried) (take (t .variables) (t .numbers)) (t .variables) length-numbered (rw seated at l)))
+        let z = elem-of-map f x (vars b) (rw (vars-renamed f b) at (subst (λ (c : Body). elem x (vars c) ≡ true) (stage-here m wf k here) e)) in
+        let h = stage-vars m wf k here (z .0) .0 (z .1) in
+        clash (subst (λ (v : ℕ). elem v (take (g .variables) (g .numbers)) ≡ true) (getD-take (g .variables) (g .numbers) (z .0) 0 h ∙ sym (z .2)) (elem-getD (take (g .variables) (g .numbers)) (z .0) (rw length-numbered h)))
+        (seat-out x (take (g .variables) (g .numbers)) (g .variables) length-numbered l))
         (λ e. e)
-        (either (holder m k))
+        (either (elem x (vars (getD (questionOf m) k []))))
 
-    pub chosen-here : x < t .variables → true ≡ chosen m (suc k)
-    chosen-here l = sym (or-right (chosen m k) (holder m k) (holder-here l))
+    -- whether the stage has it
+    stands-holder : ltb y (g .variables) ≡ elem x (vars (getD (questionOf m) k []))
+    stands-holder = ⊎-elim
+        (λ q. q ∙ sym (holder-here (ltb-true y (g .variables) q)))
+        (λ q. q ∙ sym (holder-none (ltb-false y (g .variables) q)))
+        (either (ltb y (g .variables)))
 
-    pub chosen-same : t .variables ≤ x → chosen m k ≡ chosen m (suc k)
-    chosen-same l = subst (λ (c : Bool). chosen m k ≡ (chosen m k || c)) (sym (holder-none l)) (or-nothing (chosen m k))
+    stands-number : ltb y (g .variables) ≡ true → f y ≡ x
+    stands-number q = number-here (ltb-true y (g .variables) q)
+
+    stands-elem : ltb y (g .variables) ≡ true → elem y (vars b) ≡ true
+    stands-elem q = stage-vars m wf k here y .1 (ltb-true y (g .variables) q)
+
+  -- THE STAGE WITH THE CARRIED VARIABLES
+  abbrev t : Meeting
+  t = meetingOf g (m .carried) (chosen m 0 k) (chosen m 1 k)
+
+  -- it can be asked
+  pub stage-ready : (w slots : List ℕ) (n : ℕ) → Consistent w → Own 128 slots → n ≤ 128 → Ready w slots n (m .literals) t
+  stage-ready w slots n agree own few = record {
+    agree = agree;
+    own = own;
+    few = few;
+    body = stage-evaluable;
+    first = λ q. ltb-true _ _ q;
+    second = λ q. ltb-true _ _ q;
+    apart = λ p q e. absurd (let z = carried-differ m wf 0 1 (omega arith) (carried-own m wf 0 k (sym (stands-holder (carriedAt m 0)) ∙ p)) (sym (stands-number (carriedAt m 0) p) ∙ ap f e ∙ stands-number (carriedAt m 1) q) in omega (arith, z));
+  }
+
+  -- which of them stood in a stage before the next one
+  pub chosen-after : (v : ℕ) → (chosen m v k || ltb (y (carriedAt m v)) (g .variables)) ≡ chosen m v (suc k)
+  chosen-after v = ap (λ (s : Bool). chosen m v k || s) (stands-holder (carriedAt m v))
+
+  module _ (S w ways : List ℕ) where
+    -- WHAT IT LEADS TO is the next level
+    next-law : (A : ℕ → ℕ → Bool) (e f : ℕ) → (Led ways t A e f × Met S w (m .literals) t e f) ↔ Next m S w ways k A e f
+    next-law A e f = (
+      λ q. (
+        (q .0 .0, q .0 .2 .0, q .0 .1, q .0 .2 .1, q .0 .2 .2, moved 0 (q .0 .0) e (q .0 .3), moved 1 (q .0 .2 .0) f (q .0 .2 .3)),
+        global e f (q .1),
+      ),
+      λ q. (
+        (q .0 .0, q .0 .2, (q .0 .1, q .0 .3, q .0 .4, moved-back 1 (q .0 .1) f (q .0 .6)), moved-back 0 (q .0 .0) e (q .0 .5)),
+        local e f (q .1),
+      ),
+    )
       where
-        or-nothing : (a : Bool) → a ≡ (a || false)
-        or-nothing true = refl
-        or-nothing false = refl
+        moved : (v u e : ℕ) → Moved ways (ltb (y (carriedAt m v)) (g .variables)) (chosen m v k) u e → Moved ways (holder m v k) (chosen m v k) u e
+        moved v u e = subst (λ (s : Bool). Moved ways s (chosen m v k) u e) (stands-holder (carriedAt m v))
 
-    module _ (S w ways : List ℕ) where
-      at-stage : x < t .variables → (e : ℕ) → HoldsAt S (In (tableOf w)) (m .carried) e (getD (questionOf m) k []) ↔ HoldsAt S (In (tableOf w)) x e b
-      at-stage l e =
-          subst (λ (v : ℕ). HoldsAt S (In (tableOf w)) v e (getD (questionOf m) k []) ↔ HoldsAt S (In (tableOf w)) x e b) (number-here l)
-          (subst (λ (c : Body). HoldsAt S (In (tableOf w)) (f x) e c ↔ HoldsAt S (In (tableOf w)) x e b) (sym (stage-here m wf k here))
-          (at-renamed f b (stage-different m wf k here) S (In (tableOf w)) x e (stage-vars m wf k here x .1 l)))
+        moved-back : (v u e : ℕ) → Moved ways (holder m v k) (chosen m v k) u e → Moved ways (ltb (y (carriedAt m v)) (g .variables)) (chosen m v k) u e
+        moved-back v u e = subst (λ (s : Bool). Moved ways s (chosen m v k) u e) (sym (stands-holder (carriedAt m v)))
 
-      any-stage : ((σ : ℕ → ℕ) × Holds S (In (tableOf w)) σ (getD (questionOf m) k [])) ↔ ((σ : ℕ → ℕ) × Holds S (In (tableOf w)) σ b)
-      any-stage =
-          subst (λ (c : Body). ((σ : ℕ → ℕ) × Holds S (In (tableOf w)) σ c) ↔ ((σ : ℕ → ℕ) × Holds S (In (tableOf w)) σ b)) (sym (stage-here m wf k here))
-          (any-renamed f b (stage-different m wf k here) S (In (tableOf w)))
+        outward : (v e : ℕ) (σ : ℕ → ℕ) → Seated (ltb (y (carriedAt m v)) (g .variables)) σ (y (carriedAt m v)) e → Seated (holder m v k) (globally (numberIn g) b (stage-different m wf k here) σ) (carriedAt m v) e
+        outward v e σ q = subst (λ (s : Bool). Seated s (globally (numberIn g) b (stage-different m wf k here) σ) (carriedAt m v) e) (stands-holder (carriedAt m v))
+            (seated-globally (numberIn g) b (stage-different m wf k here) (ltb (y (carriedAt m v)) (g .variables)) (carriedAt m v) (y (carriedAt m v)) e (stands-number (carriedAt m v)) (stands-elem (carriedAt m v)) σ q)
 
-      -- the stage is met with the slots `free` for it
-      pub passed-with : x < t .variables → (row free next : List ℕ) (c : Bool) → c ≡ chosen m k → Has free (Open ways c (bitAt row))
-          → Has next (λ e. (e < length S) × (bitAt free e ≡ true) × HoldsAt S (In (tableOf w)) x e b) → Passed m S w ways k (bitAt row) (bitAt next)
-      passed-with l row free next c q o h = record {
-        bits = λ e g.
-            let p = h .bits e g in
-            let a = at-stage l e in
-            let r = o .bits e g in
-            subst (λ (d : Bool). (bitAt next e ≡ true) ↔ Next d m S w ways k (bitAt row) e) (sym (holder-here l)) (
-              λ y. let z = p .0 y in (z .0, subst (λ (d : Bool). Open ways d (bitAt row) e) q (r .0 (z .1)), a .1 (z .2)),
-              λ y. p .1 (y .0, r .1 (subst (λ (d : Bool). Open ways d (bitAt row) e) (sym q) (y .1)), a .0 (y .2)),
-            );
-      }
+        inward : (v e : ℕ) (σ : ℕ → ℕ) → Seated (holder m v k) σ (carriedAt m v) e → Seated (ltb (y (carriedAt m v)) (g .variables)) (λ z. σ (numberIn g z)) (y (carriedAt m v)) e
+        inward v e σ q =
+            seated-locally (numberIn g) b (stage-different m wf k here) (ltb (y (carriedAt m v)) (g .variables)) (carriedAt m v) (y (carriedAt m v)) e (stands-number (carriedAt m v)) σ
+            (subst (λ (s : Bool). Seated s σ (carriedAt m v) e) (sym (stands-holder (carriedAt m v))) q)
 
-      -- the stage has not the carried variable: the slots stay if it holds,
-      pub passed-on : t .variables ≤ x → Tells S w b Anyhow true → (row : List ℕ) → Passed m S w ways k (bitAt row) (bitAt row)
-      passed-on l told row = record {
-        bits = λ e g. subst (λ (d : Bool). (bitAt row e ≡ true) ↔ Next d m S w ways k (bitAt row) e) (sym (holder-none l)) (
-          λ y. (y, any-stage .1 (told .0, told .1)),
-          λ y. y .0,
-        );
-      }
+        global : (e f : ℕ) → Met S w (m .literals) t e f → (σ : ℕ → ℕ) × Holds S (In (tableOf w)) σ (getD (questionOf m) k []) × Seated (holder m 0 k) σ (carriedAt m 0) e × Seated (holder m 1 k) σ (carriedAt m 1) f
+        global e f h = (
+          globally (numberIn g) b (stage-different m wf k here) (h .0),
+          subst (λ (c : Body). Holds S (In (tableOf w)) (globally (numberIn g) b (stage-different m wf k here) (h .0)) c) (sym (stage-here m wf k here)) (holds-globally (numberIn g) b (stage-different m wf k here) S (In (tableOf w)) (h .0) (h .1)),
+          outward 0 e (h .0) (h .2),
+          outward 1 f (h .0) (h .3),
+        )
 
-      -- and none is left if it does not
-      pub passed-none : t .variables ≤ x → Tells S w b Anyhow false → (row : List ℕ) → Passed m S w ways k (bitAt row) (bitAt (replicate 16 0))
-      passed-none l told row = record {
-        bits = λ e g. subst (λ (d : Bool). (bitAt (replicate 16 0) e ≡ true) ↔ Next d m S w ways k (bitAt row) e) (sym (holder-none l)) (
-          λ y. clash y (sym (row-zero (replicate 16 0) e) ∙ no-bit 16 0 e g),
-          λ y. let z = any-stage .0 (y .1) in absurd (told (z .0) (z .1) tt),
-        );
-      }
+        local : (e f : ℕ) → ((σ : ℕ → ℕ) × Holds S (In (tableOf w)) σ (getD (questionOf m) k []) × Seated (holder m 0 k) σ (carriedAt m 0) e × Seated (holder m 1 k) σ (carriedAt m 1) f) → Met S w (m .literals) t e f
+        local e f h = (
+          (λ z. h .0 (numberIn g z)),
+          holds-renamed (numberIn g) S (In (tableOf w)) (h .0) b .0 (subst (λ (c : Body). Holds S (In (tableOf w)) (h .0) c) (stage-here m wf k here) (h .1)),
+          inward 0 e (h .0) (h .2),
+          inward 1 f (h .0) (h .3),
+        )
+
+    pub passed-stage : (old new : List ℕ) → ((e f : ℕ) → e < 128 → f < 128 → (pairAt new (suc k) e f ≡ true) ↔ (Led ways t (pairAt old k) e f × Met S w (m .literals) t e f)) → Passed m S w ways k (pairAt old k) (pairAt new (suc k))
+    passed-stage old new h = record { pairs = λ e f l i. let p = h e f l i in let q = next-law (pairAt old k) e f in ((λ x. q .0 (p .0 x)), λ x. p .1 (q .1 x)) }

@@ -1,55 +1,57 @@
--- THE LEVELS OF A QUESTION: in which states the carried object can be with so many stages met.
--- S is the row of found states, and a slot is a place in it. Row k of the levels has the slots of level k, with k stages met:
--- those that the carried object can have then; as long as its variable stood in no stage, bit 0 says that the stages can be met.
+-- THE LEVELS OF A QUESTION: in which states the carried objects can be with so many stages met, pair by pair.
+-- S is the row of found states, and a slot is a place in it. Matrix k has the pairs of level k, with k stages met: bit e of its row f is set if the object
+-- of the first carried variable can be in slot e while that of the second is in slot f. As long as a variable stood in no stage its slot is 0 and says nothing.
 use mathlib.Core.Path.{_≡_}
 use mathlib.Core.Logic.{_↔_}
 use mathlib.Core.Bool.{Bool, true, false, _||_}
 use mathlib.Core.List.{List, []}
-use Prim.Native.Nat.{ℕ, zero, suc, _<_}
+use Prim.Native.Nat.{ℕ, zero, suc, _+_, _*_, _<_}
 use lib.ListN.{length, getD}
 use Rattle.semantics.specs.Models.{elem, vars}
-use Rattle.semantics.specs.Facts.{Database, In}
+use Rattle.semantics.specs.Facts.{Database}
 use Rattle.semantics.specs.Tables.{Shows}
 use Rattle.model.specs.declared.Model.{Model}
-use Rattle.model.specs.Records.{questionOf}
-use Rattle.facts_bits.specs.Bits.{bitAt, inRow}
+use Rattle.model.specs.Records.{questionOf, carriedAt}
+use Rattle.facts_bits.specs.Bits.{inRow}
 use Rattle.facts_table.specs.Table.{tableOf}
-use Rattle.search_ways.specs.Moves.{HoldsAt}
 use Rattle.search_levels.specs.declared.Levels.{Levels}
 
--- a row by value has exactly the slots of D
-pub record Has (r : List ℕ) (D : ℕ → Type 0) : Type 0 where
-  pub bits : (e : ℕ) → e < 128 → (bitAt r e ≡ true) ↔ D e
-
--- the carried variable stands in stage k, counted from 0
-abbrev pub holder : Model → ℕ → Bool
-holder m k = elem (m .carried) (vars (getD (questionOf m) k []))
+-- the carried variable of cell v stands in stage k, counted from 0
+abbrev pub holder : Model → ℕ → ℕ → Bool
+holder m v k = elem (carriedAt m v) (vars (getD (questionOf m) k []))
 
 -- it stands in one of the first k stages
-abbrev pub chosen : Model → ℕ → Bool
-chosen m zero = false
-chosen m (suc k) = chosen m k || holder m k
+abbrev pub chosen : Model → ℕ → ℕ → Bool
+chosen m v zero = false
+chosen m v (suc k) = chosen m v k || holder m v k
 
--- an object of one of the slots A can come to slot e, where `ways` has who can come to whom
-abbrev pub Led : List ℕ → (ℕ → Bool) → ℕ → Type 0
-Led ways A e = (u : ℕ) × (u < 128) × (A u ≡ true) × (inRow ways u e ≡ true)
+-- the pair of slot e for the first carried variable and slot f for the second is on level k
+abbrev pub pairAt : List ℕ → ℕ → ℕ → ℕ → Bool
+pairAt rows k e f = inRow rows (128 * k + f) e
 
--- a stage that has the carried variable may be met with slot e for it: with any if it stood in no stage before, else with those to which its object can come
-abbrev pub Open : List ℕ → Bool → (ℕ → Bool) → ℕ → Type 0
-Open ways false A e = A 0 ≡ true
-Open ways true A e = Led ways A e
+-- an object goes from slot u to slot e before a stage is met: it stays where its variable does not stand in the stage;
+-- where it does, any slot will do as long as it stood in none before, and else one to which its object can come, as `ways` says
+abbrev pub Moved : List ℕ → Bool → Bool → ℕ → ℕ → Type 0
+Moved ways false c u e = u ≡ e
+Moved ways true false u e = u ≡ 0
+Moved ways true true u e = inRow ways u e ≡ true
 
--- level k + 1 has slot e, where level k has the slots A: stage k holds, and if it has the carried variable, with slot e for it
-abbrev pub Next : Bool → Model → Database → List ℕ → List ℕ → ℕ → (ℕ → Bool) → ℕ → Type 0
-Next false m S w ways k A e = (A e ≡ true) × ((σ : ℕ → ℕ) × Shows S (tableOf w) σ (getD (questionOf m) k []))
-Next true m S w ways k A e = (e < length S) × Open ways (chosen m k) A e × HoldsAt S (In (tableOf w)) (m .carried) e (getD (questionOf m) k [])
+-- where the variable x stands in the stage, its object is the one in slot e
+abbrev pub Seated : Bool → (ℕ → ℕ) → ℕ → ℕ → Type 0
+Seated false σ x e = Unit {0}
+Seated true σ x e = σ x ≡ e
 
--- STAGE k IS PASSED: level k has the slots A, and level k + 1 has the slots B
-pub record Passed (m : Model) (S : Database) (w ways : List ℕ) (k : ℕ) (A B : ℕ → Bool) : Type 0 where
-  pub bits : (e : ℕ) → e < 128 → (B e ≡ true) ↔ Next (holder m k) m S w ways k A e
+-- level k + 1 has the pair e f, where level k has the pairs A: both objects are led on, each by itself, and stage k holds with them
+abbrev pub Next : Model → Database → List ℕ → List ℕ → ℕ → (ℕ → ℕ → Bool) → ℕ → ℕ → Type 0
+Next m S w ways k A e f = ((u v : ℕ) × (u < 128) × (v < 128) × (A u v ≡ true) × Moved ways (holder m 0 k) (chosen m 0 k) u e × Moved ways (holder m 1 k) (chosen m 1 k) v f)
+    × ((σ : ℕ → ℕ) × Shows S (tableOf w) σ (getD (questionOf m) k []) × Seated (holder m 0 k) σ (carriedAt m 0) e × Seated (holder m 1 k) σ (carriedAt m 1) f)
+
+-- STAGE k IS PASSED: level k has the pairs A, and level k + 1 has the pairs B
+pub record Passed (m : Model) (S : Database) (w ways : List ℕ) (k : ℕ) (A B : ℕ → ℕ → Bool) : Type 0 where
+  pub pairs : (e f : ℕ) → e < 128 → f < 128 → (B e f ≡ true) ↔ Next m S w ways k A e f
 
 -- THE LEVELS over the states S with the facts of the work area w
 pub record Filled (m : Model) (S : Database) (w ways : List ℕ) (l : Levels) : Type 0 where
-  pub long : length (l .rows) ≡ 80
-  pub begins : (e : ℕ) → e < 128 → (inRow (l .rows) 0 e ≡ true) ↔ (e ≡ 0)
-  pub stages : (k : ℕ) → k < m .stagecount → Passed m S w ways k (inRow (l .rows) k) (inRow (l .rows) (suc k))
+  pub long : length (l .rows) ≡ 10240
+  pub begins : (e f : ℕ) → e < 128 → f < 128 → (pairAt (l .rows) 0 e f ≡ true) ↔ ((e ≡ 0) × (f ≡ 0))
+  pub stages : (k : ℕ) → k < m .stagecount → Passed m S w ways k (pairAt (l .rows) k) (pairAt (l .rows) (suc k))

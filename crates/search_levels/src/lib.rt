@@ -1,73 +1,167 @@
-// The levels of a question: in which states the carried object can be with so many stages met, by who can come from which state to which.
+// The levels of a question: in which states the carried objects can be with so many stages met, pair by pair, by who can come from which state to which.
+use facts_candidates::Choice;
 use facts_holds::Part;
 use model::Model;
+use model::Stage;
 use search_states::States;
 ghost use mathlib.Core.Path.{_≡_};
 ghost use mathlib.Core.Logic.{_↔_};
-ghost use mathlib.Core.Bool.{true};
-ghost use mathlib.Core.List.{List};
-ghost use Prim.Native.Nat.{ℕ, suc, _≤_, _<_};
+ghost use mathlib.Core.Bool.{true, cond, _&&_, _||_};
+ghost use Prim.Native.Nat.{ℕ, suc, _+_, _*_, _≤_, _<_};
+ghost use lib.Dec.{eqb};
 ghost use lib.ListN.{length};
-ghost use Rattle.semantics.specs.Facts.{In};
-ghost use Rattle.model.specs.Records.{bodyAt};
+ghost use Rattle.limits.specs.Limits as limit;
 ghost use Rattle.model.specs.WellFormed.{WellFormed};
-ghost use Rattle.facts_bits.specs.Bits.{bitAt};
-ghost use Rattle.facts_table.specs.Table.{tableOf, Consistent, Rows};
-ghost use Rattle.facts_candidates.specs.Choices.{Own};
-ghost use Rattle.facts_holds.specs.Shows.{Evaluable};
+ghost use Rattle.facts_bits.specs.Bits.{bitAt, inRow};
+ghost use Rattle.facts_candidates.specs.Choices.{chosen};
 ghost use Rattle.search_states.specs.States.{row};
-ghost use Rattle.search_ways.specs.Moves.{HoldsAt, Exactly};
-ghost use Rattle.search_levels.specs.Levels.{Has, Led, Open, chosen, Passed, Filled};
+ghost use Rattle.search_ways.specs.Moves.{Exactly};
+ghost use Rattle.search_levels.specs.Levels.{pairAt, Filled};
+ghost use Rattle.search_levels.specs.Passing.{Has, Picked, Onward, Led, Met, Hopeful, Over, Ready, walkerOf, meetingOf, Clear, Written};
 
-// The slots that a row has.
+// The slots that a row has, and the rows that a matrix has.
 const SLOTS: usize = 128;
 
-// Row k has the slots of level k, with k stages met. As long as the carried variable stood in none of them, bit 0 alone says that they can be met.
+// Matrix k has the pairs of level k, with k stages met: bit e of its row f is set if the object of the first carried variable can be in slot e while that of the
+// second is in slot f. As long as a variable stood in no stage its slot is 0 and says nothing.
 pub struct Levels {
-    pub rows: [u8; 80],
+    pub rows: [u8; 10240],
 }
 
-// The slots of a level, and whether the carried variable stood in a stage before it.
-struct Frontier {
-    row: [u8; 16],
+// A carried variable at a stage: its number in the stage, whether it stands there, and whether it stood in a stage before.
+struct Walker {
+    seat: usize,
+    stands: bool,
     chosen: bool,
 }
 
-// The row that has slot 0 alone.
-fn start() -> [u8; 16]
-    ensures { λ r. ⌜ Has r (λ e. e ≡ 0) ⌝ }
-{
-    let mut row = [0u8; 16];
-    facts_bits::put(&mut row, 0);
-    row
+// A stage with the two carried variables.
+struct Meeting {
+    part: Part,
+    first: Walker,
+    second: Walker,
 }
 
-// The slots to which an object of one of the slots of a row can come.
-fn led(ways: &[u8], row: [u8; 16]) -> [u8; 16]
-    requires { ⌜ length (now ways) ≡ 2048 ⌝ }
-    ensures { λ r. ⌜ Has r (Led (now (ways .entry)) (bitAt row)) ⌝ }
+// The choice with slot e for the variable, where it stands in the stage.
+fn seated(c: Choice, a: Walker, e: usize) -> Choice
+    requires { ⌜ (a .stands ≡ true → a .seat < limit.variables) ⌝ }
+    ensures { λ r. ⌜ ((x : ℕ) → x < limit.variables → chosen r x ≡ cond (a .stands && eqb x (a .seat)) e (chosen c x)) ⌝ }
 {
-    let all = facts_bits::full();
+    if a.stands {
+        return facts_candidates::choose(c, a.seat, e);
+    }
+    c
+}
+
+// Does the stage hold with the pair e f?
+fn holds(
+    work: &[u8],
+    slots: &[u8],
+    n: usize,
+    literals: &[u32],
+    t: Meeting,
+    e: usize,
+    f: usize,
+) -> bool
+    requires { ⌜ Ready (now work) (now slots) n (now literals) t × (e < 128) × (f < 128) ⌝ }
+    ensures { λ r. ⌜ Over (now (work .entry)) n (λ S. (r ≡ true) ↔ Met S (now (work .entry)) (now (literals .entry)) t e f) ⌝ }
+{
+    let free = facts_holds::free();
+    let one = seated(free, t.first, e);
+    let both = seated(one, t.second, f);
+    facts_holds::shows(work, slots, n, literals, t.part, both)
+}
+
+// The slots of a row with which the stage holds, together with slot f, where the first variable stands in it.
+fn fitting(
+    work: &[u8],
+    slots: &[u8],
+    n: usize,
+    literals: &[u32],
+    t: Meeting,
+    f: usize,
+    row: [u8; 16],
+) -> [u8; 16]
+    requires { ⌜ Ready (now work) (now slots) n (now literals) t × (t .first .stands ≡ true) × (f < 128) ⌝ }
+    ensures { λ r. ⌜ Over (now (work .entry)) n (λ S. Has r (λ e. (bitAt row e ≡ true) × Met S (now (work .entry)) (now (literals .entry)) t e f)) ⌝ }
+{
+    let mut out = [0u8; 16];
+    let mut e = facts_bits::next(row, 0);
+    while e < n {
+        if holds(work, slots, n, literals, t, e, f) {
+            facts_bits::put(&mut out, e);
+        }
+        e = facts_bits::next(row, e + 1);
+    }
+    out
+}
+
+// The slots of a row with which the stage holds, together with slot f.
+fn met(
+    work: &[u8],
+    slots: &[u8],
+    n: usize,
+    literals: &[u32],
+    t: Meeting,
+    f: usize,
+    row: [u8; 16],
+) -> [u8; 16]
+    requires { ⌜ Ready (now work) (now slots) n (now literals) t × (f < 128) ⌝ }
+    ensures { λ r. ⌜ Over (now (work .entry)) n (λ S. Has r (λ e. (bitAt row e ≡ true) × Met S (now (work .entry)) (now (literals .entry)) t e f)) ⌝ }
+{
+    if t.first.stands {
+        return fitting(work, slots, n, literals, t, f, row);
+    }
+    if facts_bits::empty(row) {
+        return row;
+    }
+    if holds(work, slots, n, literals, t, 0, f) {
+        return row;
+    }
+    [0u8; 16]
+}
+
+// The slots that the picked rows of a matrix have, where its row 0 is row `at` of the table.
+fn union(table: &[u8], at: usize, picked: [u8; 16]) -> [u8; 16]
+    requires { ⌜ at * 16 + 2048 ≤ length (now table) ⌝ }
+    ensures { λ r. ⌜ Has r (Picked (now (table .entry)) at picked) ⌝ }
+{
+    let mut out = [0u8; 16];
+    let mut u = facts_bits::next(picked, 0);
+    while u < SLOTS {
+        let row = facts_bits::row(table, at + u);
+        facts_bits::join(&mut out, 0, row);
+        u = facts_bits::next(picked, u + 1);
+    }
+    out
+}
+
+// The slots from which one can come to slot f.
+fn column(ways: &[u8], f: usize) -> [u8; 16]
+    requires { ⌜ (length (now ways) ≡ 2048) × (f < 128) ⌝ }
+    ensures { λ r. ⌜ Has r (λ u. inRow (now (ways .entry)) u f ≡ true) ⌝ }
+{
     let mut out = [0u8; 16];
     let mut u: usize = 0;
     while u < SLOTS {
-        if facts_bits::get(&row, u) {
-            let next = facts_bits::keep(all, ways, u);
-            facts_bits::join(&mut out, 0, next);
+        if facts_bits::get(ways, u * SLOTS + f) {
+            facts_bits::put(&mut out, u);
         }
         u += 1;
     }
     out
 }
 
-// The slots with which a stage that has the carried variable may be met: any if it stood in no stage before, else those to which its object can come.
-fn onward(ways: &[u8], here: Frontier) -> [u8; 16]
+// The slots to which the first object goes from the slots of a row.
+fn onward(ways: &[u8], a: Walker, row: [u8; 16]) -> [u8; 16]
     requires { ⌜ length (now ways) ≡ 2048 ⌝ }
-    ensures { λ r. ⌜ Has r (Open (now (ways .entry)) (here .chosen) (bitAt (here .row))) ⌝ }
+    ensures { λ r. ⌜ Has r (Onward (now (ways .entry)) (a .stands) (a .chosen) (λ u. bitAt row u ≡ true)) ⌝ }
 {
-    let row = here.row;
-    if here.chosen {
-        return led(ways, row);
+    if !a.stands {
+        return row;
+    }
+    if a.chosen {
+        return union(ways, 0, row);
     }
     if facts_bits::get(&row, 0) {
         return facts_bits::full();
@@ -75,85 +169,154 @@ fn onward(ways: &[u8], here: Frontier) -> [u8; 16]
     [0u8; 16]
 }
 
-// Does the row have slot e, and does the body hold with it for variable x?
-fn meets_with(
-    work: &[u8],
-    slots: &[u8],
-    n: usize,
-    literals: &[u32],
-    part: Part,
-    x: usize,
-    row: [u8; 16],
-    e: usize,
-) -> bool
-    requires { ⌜ Consistent (now work) × Own 128 (now slots) × (n ≤ 128) × Evaluable (now literals) part × (x < part .variables) × (e < n) ⌝ }
-    ensures { λ r. ⌜ ((S : List ℕ) → Rows S (now (work .entry)) → length S ≡ n → (r ≡ true) ↔ ((bitAt row e ≡ true) × HoldsAt S (In (tableOf (now (work .entry)))) x e (bodyAt (now (literals .entry)) (part .first) (part .count)))) ⌝ }
+// The slots that the first object has on level k with those from which the second one goes to slot f.
+fn gathered(ways: &[u8], b: Walker, rows: &[u8], k: usize, f: usize) -> [u8; 16]
+    requires { ⌜ (length (now ways) ≡ 2048) × (length (now rows) ≡ 10240) × (k < 5) × (f < 128) ⌝ }
+    ensures { λ r. ⌜ Has r (λ u. Onward (now (ways .entry)) (b .stands) (b .chosen) (λ v. pairAt (now (rows .entry)) k u v ≡ true) f) ⌝ }
 {
-    if facts_bits::get(&row, e) {
-        return facts_holds::at(work, slots, n, literals, part, x, e);
+    let at = SLOTS * k;
+    if !b.stands {
+        return facts_bits::row(rows, at + f);
     }
-    false
+    if b.chosen {
+        return union(rows, at, column(ways, f));
+    }
+    facts_bits::row(rows, at)
 }
 
-// The slots of a row, of the first n, with which for variable x the body holds.
-fn met(
+// The slots that go with slot f when both objects are led on from level k.
+fn led(ways: &[u8], t: Meeting, rows: &[u8], k: usize, f: usize) -> [u8; 16]
+    requires { ⌜ (length (now ways) ≡ 2048) × (length (now rows) ≡ 10240) × (k < 5) × (f < 128) ⌝ }
+    ensures { λ r. ⌜ Has r (λ e. Led (now (ways .entry)) t (pairAt (now (rows .entry)) k) e f) ⌝ }
+{
+    let row = gathered(ways, t.second, rows, k, f);
+    onward(ways, t.first, row)
+}
+
+// The slots to which the first object goes from level k and with which the stage holds, whatever the second one does: one evaluation for each.
+fn hopeful(
     work: &[u8],
     slots: &[u8],
     n: usize,
     literals: &[u32],
-    part: Part,
-    x: usize,
-    row: [u8; 16],
+    t: Meeting,
+    ways: &[u8],
+    rows: &[u8],
+    k: usize,
 ) -> [u8; 16]
-    requires { ⌜ Consistent (now work) × Own 128 (now slots) × (n ≤ 128) × Evaluable (now literals) part × (x < part .variables) ⌝ }
-    ensures { λ r. ⌜ ((S : List ℕ) → Rows S (now (work .entry)) → length S ≡ n → Has r (λ e. (e < n) × (bitAt row e ≡ true) × HoldsAt S (In (tableOf (now (work .entry)))) x e (bodyAt (now (literals .entry)) (part .first) (part .count)))) ⌝ }
+    requires { ⌜ Ready (now work) (now slots) n (now literals) t × (length (now ways) ≡ 2048) × (length (now rows) ≡ 10240) × (k < 5) ⌝ }
+    ensures { λ r. ⌜ Over (now (work .entry)) n (λ S. Has r (Hopeful S (now (work .entry)) (now (literals .entry)) (now (ways .entry)) t (pairAt (now (rows .entry)) k))) ⌝ }
 {
-    let mut out = [0u8; 16];
-    let mut e: usize = 0;
-    while e < n {
-        if meets_with(work, slots, n, literals, part, x, row, e) {
-            facts_bits::put(&mut out, e);
-        }
-        e += 1;
-    }
-    out
+    let any = union(rows, SLOTS * k, facts_bits::full());
+    let row = onward(ways, t.first, any);
+    let nobody = Walker {
+        seat: 0,
+        stands: false,
+        chosen: false,
+    };
+    let part = t.part;
+    let first = t.first;
+    let alone = Meeting {
+        part,
+        first,
+        second: nobody,
+    };
+    met(work, slots, n, literals, alone, 0, row)
 }
 
-// Meets stage k: the slots of level k + 1 from those of level k.
+// Row f of the level after level k.
+fn next_row(
+    work: &[u8],
+    slots: &[u8],
+    n: usize,
+    literals: &[u32],
+    t: Meeting,
+    ways: &[u8],
+    rows: &[u8],
+    k: usize,
+    able: [u8; 16],
+    f: usize,
+) -> [u8; 16]
+    requires { ⌜ Ready (now work) (now slots) n (now literals) t × (length (now ways) ≡ 2048) × (length (now rows) ≡ 10240) × (k < 5) × (f < 128) × Over (now work) n (λ S. Has able (Hopeful S (now work) (now literals) (now ways) t (pairAt (now rows) k))) ⌝ }
+    ensures { λ r. ⌜ Over (now (work .entry)) n (λ S. Has r (λ e. Led (now (ways .entry)) t (pairAt (now (rows .entry)) k) e f × Met S (now (work .entry)) (now (literals .entry)) t e f)) ⌝ }
+{
+    let pairs = led(ways, t, rows, k, f);
+    if facts_bits::empty(pairs) {
+        return pairs;
+    }
+    let row = facts_bits::both(pairs, able);
+    if !t.second.stands {
+        return row;
+    }
+    if f < n {
+        return met(work, slots, n, literals, t, f, row);
+    }
+    [0u8; 16]
+}
+
+// Meets a stage: writes the matrix of level k + 1 from that of level k.
 fn pass(
     work: &[u8],
     slots: &[u8],
     n: usize,
-    m: Model,
-    k: usize,
+    literals: &[u32],
+    t: Meeting,
     ways: &[u8],
-    here: Frontier,
-) -> Frontier
-    requires { ⌜ WellFormed m × (k < m .stagecount) × Consistent (now work) × Own 128 (now slots) × (n ≤ 128) × (length (now ways) ≡ 2048) × (here .chosen ≡ chosen m k) ⌝ }
-    ensures { λ r. ⌜ (r .chosen ≡ chosen m (suc k)) × ((S : List ℕ) → Rows S (now (work .entry)) → length S ≡ n → Passed m S (now (work .entry)) (now (ways .entry)) k (bitAt (here .row)) (bitAt (r .row))) ⌝ }
+    rows: &mut [u8],
+    k: usize,
+)
+    requires { ⌜ Ready (now work) (now slots) n (now literals) t × (length (now ways) ≡ 2048) × (length (now rows) ≡ 10240) × (k < 4) × Clear (128 * suc k) (now rows) ⌝ }
+    ensures { λ _. ⌜ Written (128 * suc k) (128 * suc (suc k)) (now (rows .entry)) (now (rows .exit)) × Over (now (work .entry)) n (λ S. (e f : ℕ) → e < 128 → f < 128 → (pairAt (now (rows .exit)) (suc k) e f ≡ true) ↔ (Led (now (ways .entry)) t (pairAt (now (rows .entry)) k) e f × Met S (now (work .entry)) (now (literals .entry)) t e f)) ⌝ }
 {
-    let stage = m.stages[k];
+    let able = hopeful(work, slots, n, literals, t, ways, rows, k);
+    let mut f: usize = 0;
+    while f < SLOTS {
+        let row = next_row(work, slots, n, literals, t, ways, rows, k, able, f);
+        facts_bits::join(rows, SLOTS * (k + 1) + f, row);
+        f += 1;
+    }
+}
+
+// The variable of number x as a stage has it.
+fn standing(stage: Stage, x: u32, chosen: bool) -> Walker
+    requires { ⌜ stage .variables ≤ length (stage .numbers) ⌝ }
+    ensures { λ r. ⌜ r ≡ walkerOf stage x chosen ⌝ }
+{
     let variables = stage.variables as usize;
+    let numbers = stage.numbers;
+    let seat = search_states::seek(&numbers, variables, x);
+    Walker {
+        seat,
+        stands: seat < variables,
+        chosen,
+    }
+}
+
+// A stage with the carried variables, where it is known which of them stood in a stage before.
+fn asked(stage: Stage, carried: [u32; 2], first: bool, second: bool) -> Meeting
+    requires { ⌜ stage .variables ≤ length (stage .numbers) ⌝ }
+    ensures { λ r. ⌜ r ≡ meetingOf stage carried first second ⌝ }
+{
     let part = Part {
         first: stage.first,
         count: stage.count,
-        variables,
+        variables: stage.variables as usize,
     };
-    let numbers = stage.numbers;
-    let x = search_states::seek(&numbers, variables, m.carried);
-    if x < variables {
-        let free = onward(ways, here);
-        let row = met(work, slots, n, &m.literals, part, x, free);
-        return Frontier { row, chosen: true };
+    Meeting {
+        part,
+        first: standing(stage, carried[0], first),
+        second: standing(stage, carried[1], second),
     }
-    if facts_holds::anyhow(work, slots, n, &m.literals, part) {
-        return here;
+}
+
+// Whether the variable stood in a stage before the next one.
+fn after(w: Walker) -> bool
+    ensures { λ r. ⌜ r ≡ (w .chosen || w .stands) ⌝ }
+{
+    if w.chosen {
+        return true;
     }
-    let row = [0u8; 16];
-    Frontier {
-        row,
-        chosen: here.chosen,
-    }
+    w.stands
 }
 
 // The levels of a question over the found states, where `ways` has who can come from which slot to which.
@@ -163,19 +326,16 @@ pub fn fill(work: &[u8], m: Model, s: States, ways: &[u8]) -> Levels
 {
     let slots = facts_candidates::slots();
     let n = s.count;
-    let first = start();
-    let mut rows = [0u8; 80];
-    facts_bits::join(&mut rows, 0, first);
-    let mut here = Frontier {
-        row: first,
-        chosen: false,
-    };
+    let mut rows = [0u8; 10240];
+    facts_bits::put(&mut rows, 0);
+    let mut first = false;
+    let mut second = false;
     let mut k: usize = 0;
     while k < m.stagecount {
-        let next = pass(work, &slots, n, m, k, ways, here);
-        let row = next.row;
-        facts_bits::join(&mut rows, k + 1, row);
-        here = next;
+        let t = asked(m.stages[k], m.carried, first, second);
+        pass(work, &slots, n, &m.literals, t, ways, &mut rows, k);
+        first = after(t.first);
+        second = after(t.second);
         k += 1;
     }
     Levels { rows }

@@ -220,7 +220,7 @@ fn joins(links: &[u8], layers: &[u8], j: usize, t: usize, u: usize) -> bool
 }
 
 // The first slot of row j of the layers with a pair that leads from it to slot t.
-pub fn before(links: &[u8], layers: &[u8], n: usize, j: usize, t: usize) -> usize
+fn before(links: &[u8], layers: &[u8], n: usize, j: usize, t: usize) -> usize
     requires { ⌜ (n ≤ 128) × (j < 128) × (t < n) × (length (now links) ≡ 2048) × (j * 16 + 16 ≤ length (now layers)) × Joined (now links) (now layers) n j t ⌝ }
     ensures { λ r. ⌜ (r < n) × Joins (now (links .entry)) (now (layers .entry)) j t r ⌝ }
 {

@@ -4,31 +4,31 @@ use mathlib.Core.Logic.{_⊎_, ⊎-elim, inl, inr}
 use mathlib.Core.Bool.{Bool, true, false, not, _&&_}
 use mathlib.Core.List.{List, [], _∷_}
 use mathlib.Core.Option.{none}
-use Prim.Native.Nat.{ℕ, _≤_, _<_}
+use Prim.Native.Nat.{ℕ, zero, suc, _≤_, _<_}
 use native.Mathlib.Omega.{arith}
 use lib.Dec.{eqb}
-use lib.ListN.{length, take, drop, length-map}
-use borrow.Author.Tests.{eqb-true, eqb-false}
+use lib.ListN.{length, take, drop, getD, replicate, length-map}
+use borrow.Author.Tests.{eqb-true, eqb-false, eq-eqb}
+use Rattle.limits.specs.Limits as limit
 use Rattle.model.specs.Records as model
+use Rattle.model.specs.Records.{padded}
 use Rattle.model.specs.declared.Model.{Model}
-use Rattle.grammar.specs.Bytes.{Word}
 use Rattle.grammar.specs.Forms as forms
 use Rattle.grammar.specs.Shapes.{Read, stage, askRest, whole}
-use Rattle.grammar.specs.Declarations.{Declared, extend}
-use Rattle.grammar.specs.Rows.{lower, row, bodyFault, supported, few, scopeFault, stagesFault, carriesMany, fault}
+use Rattle.grammar.specs.Declarations.{Declared, extend, place}
+use Rattle.grammar.specs.Rows.{lower, row, bodyFault, supported, few, scopeFault, stagesFault, carried, carriesMany, fault}
 use Rattle.grammar.specs.Models.{bodyOf, questionOf}
 use Rattle.grammar.proofs.Tests.{either}
 use Rattle.grammar.proofs.Lower.{lower-first, lower-bound, lower-under}
-use Rattle.acceptance.proofs.Questions.{askWords}
-use Rattle.acceptance.specs.Growing.{firstNumber}
-use Rattle.acceptance.proofs.Stages.{carried-number}
+use Rattle.acceptance.proofs.Questions.{askWords, carriers-words}
 use Rattle.text_literals.proofs.Adding.{body-bound}
 use Rattle.text_bodies.specs.declared.Body.{Body}
 use Rattle.text_clauses.proofs.Laws.{Row, lower-row, row-row, body-row, row-bound, whole-all, whole-part}
 use Rattle.text_carried.specs.Asking as asking
-use Rattle.text_carried.specs.Asking.{each}
+use Rattle.text_carried.specs.Asking.{carriersOf}
 use Rattle.text_carried.specs.declared.Table.{Table}
-use Rattle.text_carried.proofs.Stages.{each-words, carries}
+use Rattle.text_carried.specs.declared.Carriers.{Carriers}
+use Rattle.text_carried.proofs.Stages.{marked-carried}
 use Rattle.text_stages.specs.Questions.{Empty, Stored, Holds, Added}
 use Rattle.text_stages.specs.declared.Asking.{Asking}
 use Rattle.text_ask.specs.Asks.{StagesEnd, carrying, finished, Asks, AskEnd}
@@ -37,13 +37,17 @@ use Rattle.text_ask.specs.declared.Asked.{Asked}
 use Rattle.text_ask.proofs.Laws.{Found}
 
 -- NO STAGES
-pub no-words : {text : List ℕ} {t : Table} → t .count ≡ 0 → length (t .starts) ≡ 12 → length (t .ends) ≡ 12 → t .carried ≡ 255 → t .many ≡ false → asking.Holds text t []
+unmarked : (n i : ℕ) → getD (replicate n false) i false ≡ false
+unmarked zero i = refl
+unmarked (suc n) zero = refl
+unmarked (suc n) (suc i) = unmarked n i
+
+pub no-words : {text : List ℕ} {t : Table} → t .count ≡ 0 → length (t .starts) ≡ 12 → length (t .ends) ≡ 12 → t .again ≡ replicate 12 false → asking.Holds text t []
 unfolding asking.knownOf extend
-no-words z a b c n = record {
-  valid = record { count = omega arith; starts = a; ends = b; within = λ i h. absurd (omega arith) };
+no-words z a b c = record {
+  valid = record { count = omega arith; starts = a; ends = b; again = ap length c; within = λ i h. absurd (omega arith) };
   known = rw z;
-  carried = c;
-  many = n;
+  again = λ i. rw c (unmarked 12 i);
 }
 
 module _ {text : List ℕ} {D : Declared} {t : Table} {m : Model} (empty : Empty m) (words : asking.Holds text t []) (count : t .count ≡ 0) where
@@ -85,10 +89,19 @@ stages-row D [] = inl refl
 stages-row D (q ∷ qs) = lower-row (lower (bodyFault D q) (scopeFault [] q)) (stagesFault D qs)
     (lower-row (bodyFault D q) (scopeFault [] q) (body-row D q) (row-row 9 (not (supported [] q && few [] q)) (omega arith))) (stages-row D qs)
 
--- THE END
+-- THE END: where rows 6 to 9 give no number, r has the carried variables
+module _ (s : Asking) {r : Carriers} (z : s .number ≡ 0) (e : r ≡ carriersOf (s .table)) where
+  pub finish-many : r .many ≡ true → record { number = 11; model = s .model } ≡ finished s
+  unfolding finished
+  finish-many q = rw (eq-eqb (s .number) 0 z, sym (ap (λ (c : Carriers). c .many) e) ∙ q)
+
+  pub finish-carries : r .many ≡ false → record { number = 0; model = carrying (s .model) (r .cells) } ≡ finished s
+  unfolding finished
+  finish-carries q = rw (eq-eqb (s .number) 0 z, sym (ap (λ (c : Carriers). c .many) e) ∙ q, ap (λ (c : Carriers). c .cells) e)
+
 module _ {text : List ℕ} {D : Declared} {m₀ : Model} {qs : List (List forms.Literal)} {s : Asking} (so : Holds text D m₀ qs s) where
-  many-carried : s .number ≡ 0 → s .table .many ≡ carriesMany qs
-  many-carried z = so .stored z .table .many ∙ sym (carries qs .0)
+  many-carried : s .number ≡ 0 → carriersOf (s .table) .many ≡ carriesMany qs
+  many-carried z = rw (marked-carried qs (so .stored z .table), length-map (carried qs (askWords qs)) (place (askWords qs)))
 
   pub finished-number : (clauses : ℕ) → finished s .number ≡ fault D clauses (forms.askForm qs)
   unfolding finished fault
@@ -109,11 +122,10 @@ module _ {text : List ℕ} {D : Declared} {m₀ : Model} {qs : List (List forms.
   finished-row = rw (finished-number 0) (lower-row (stagesFault D qs) (row 11 (carriesMany qs)) (stages-row D qs) (row-row 11 (carriesMany qs) (omega arith)))
 
   module _ (empty : Empty m₀) (short : length qs ≤ 4) where
-    asks : s .number ≡ 0 → carriesMany qs ≡ false → Asks D m₀ qs (carrying (s .model) (s .table .carried))
+    asks : s .number ≡ 0 → Asks D m₀ qs (carrying (s .model) (carriersOf (s .table) .cells))
     unfolding model.questionOf
-    asks z one =
+    asks z =
         let st = so .stored z in
-        let c = carries qs in
         record {
           relations = st .relations;
           names = st .names;
@@ -130,8 +142,7 @@ module _ {text : List ℕ} {D : Declared} {m₀ : Model} {qs : List (List forms.
           stagecount = st .stagecount ∙ sym (length-map qs (bodyOf D (askWords qs)));
           question = st .question;
           stage = λ i h. let g = st .stage i h in record { within = g .within; few = g .few; numbered = g .numbered; numbers = g .numbers; room = g .room };
-          carried = st .table .carried ∙ ap (λ (l : List Word). firstNumber l (asking.repeated [] (each qs))) (each-words [] qs)
-              ∙ sym (carried-number D qs (sym (so .number) ∙ z) one ∙ c .1 (sym (c .0) ∙ one));
+          carried = ap (padded limit.carried) (marked-carried qs (st .table) ∙ sym (carriers-words D qs (sym (so .number) ∙ z)));
           literalcount = omega (arith, st .room);
           literals = st .literals;
           stages = st .stages;
@@ -141,9 +152,9 @@ module _ {text : List ℕ} {D : Declared} {m₀ : Model} {qs : List (List forms.
     unfolding finished
     finished-asks e = ⊎-elim
         (λ (q : eqb (s .number) 0 ≡ true). let z = eqb-true (s .number) 0 q in ⊎-elim
-        (λ (y : s .table .many ≡ true). absurd (let w : 11 ≡ 0 = (rw (q, y) at e) in omega arith))
-        (λ (y : s .table .many ≡ false). rw (q, y) (asks z (sym (many-carried z) ∙ y)))
-        (either (s .table .many)))
+        (λ (y : carriersOf (s .table) .many ≡ true). absurd (let w : 11 ≡ 0 = (rw (q, y) at e) in omega arith))
+        (λ (y : carriersOf (s .table) .many ≡ false). rw (q, y) (asks z))
+        (either (carriersOf (s .table) .many)))
         (λ (q : eqb (s .number) 0 ≡ false). absurd (eqb-false (s .number) 0 q (rw q at e)))
         (either (eqb (s .number) 0))
 

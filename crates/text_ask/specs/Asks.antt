@@ -7,17 +7,18 @@ use Prim.Native.Nat.{ℕ, _+_, _≤_, _<_}
 use lib.Dec.{eqb}
 use lib.ListN.{length, drop}
 use Rattle.limits.specs.Limits as limit
+use Rattle.semantics.specs.Models.{carriers}
 use Rattle.model.specs.Records as model
-use Rattle.model.specs.Records.{stageAt}
+use Rattle.model.specs.Records.{stageAt, padded}
 use Rattle.model.specs.declared.Model.{Model}
 use Rattle.grammar.specs.Forms as forms
 use Rattle.grammar.specs.Shapes.{Read, rest, stage, whole}
 use Rattle.grammar.specs.Declarations.{Declared}
 use Rattle.grammar.specs.Rows.{fault}
 use Rattle.grammar.specs.Models.{questionOf}
-use Rattle.acceptance.specs.Sound.{carriedOf}
 use Rattle.acceptance.specs.Represents.{HoldsStage}
 use Rattle.acceptance.specs.Growing.{Keeps}
+use Rattle.text_carried.specs.Asking.{carriersOf}
 use Rattle.text_stages.specs.Questions as questions
 use Rattle.text_stages.specs.declared.Asking.{Asking}
 use Rattle.text_ask.specs.declared.Stages.{Stages}
@@ -33,9 +34,9 @@ pub record StagesEnd (text : List ℕ) (D : Declared) (at n : ℕ) (s : Asking) 
       → (more : List (List forms.Literal)) × (r .end ≤ length text) × (length more ≤ n) × (rest stage n (drop at text) ≡ some (more, drop (r .end) text)) × Extends text D s more (r .asking)
   pub missing : r .end ≡ 0 → rest stage n (drop at text) ≡ none
 
--- the record with the carried variable
-abbrev pub carrying : Model → ℕ → Model
-carrying m c = record {
+-- the record with the carried variables in their cells
+abbrev pub carrying : Model → List ℕ → Model
+carrying m cells = record {
   relations = m .relations;
   names = m .names;
   lengths = m .lengths;
@@ -45,7 +46,7 @@ carrying m c = record {
   literalcount = m .literalcount;
   stages = m .stages;
   stagecount = m .stagecount;
-  carried = c;
+  carried = cells;
   lines = m .lines;
 }
 
@@ -53,7 +54,7 @@ carrying m c = record {
 unfoldable pub finished : Asking → Asked
 finished s =
     cond (eqb (s .number) 0)
-    (cond (s .table .many) (record { number = 11; model = s .model }) (record { number = 0; model = carrying (s .model) (s .table .carried) }))
+    (cond (carriersOf (s .table) .many) (record { number = 11; model = s .model }) (record { number = 0; model = carrying (s .model) (carriersOf (s .table) .cells) }))
     (record { number = s .number; model = s .model })
 
 -- THE RECORD m of a text whose `ask` line has the stages qs, where it was m₀ before that line
@@ -68,7 +69,7 @@ pub record Asks (D : Declared) (m₀ : Model) (qs : List (List forms.Literal)) (
   pub stagecount : m .stagecount ≡ length (questionOf D qs)
   pub question : model.questionOf m ≡ questionOf D qs
   pub stage : (i : ℕ) → i < m .stagecount → HoldsStage m (stageAt m i)
-  pub carried : m .carried ≡ carriedOf (questionOf D qs)
+  pub carried : m .carried ≡ padded limit.carried (carriers (questionOf D qs))
   pub literalcount : m .literalcount ≤ limit.literals
   pub literals : length (m .literals) ≡ limit.literals
   pub stages : length (m .stages) ≡ limit.stages

@@ -67,7 +67,7 @@ fn read_stages(text: &[u8], d: Declared, at: usize, s: Asking, n: usize) -> Stag
     Stages { asking: g, end: 0 }
 }
 
-// Row 11 after rows 6 to 9, and the carried variable.
+// Row 11 after rows 6 to 9, and the carried variables.
 fn finish(s: Asking) -> Asked
     ensures { λ r. ⌜ r ≡ finished s ⌝ }
 {
@@ -79,13 +79,15 @@ fn finish(s: Asking) -> Asked
             model: m,
         };
     }
-    if t.many {
+    let c = text_carried::carried(t);
+    if c.many {
         return Asked {
             number: 11,
             model: m,
         };
     }
-    m.carried = t.carried;
+    let cells = c.cells;
+    m.carried = cells;
     Asked {
         number: 0,
         model: m,

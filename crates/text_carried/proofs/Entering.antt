@@ -6,7 +6,7 @@ use mathlib.Core.List.{List, [], _∷_, _++_, map, map-append, append-nil, appen
 use Prim.Native.Nat.{ℕ, _+_, _≤_, _<_}
 use native.Mathlib.Numerals.{add-one}
 use native.Mathlib.Omega.{arith}
-use lib.Dec.{ltb, eqb}
+use lib.Dec.{ltb}
 use lib.ListN.{length, take, getD, set, length-set}
 use lib.Seq.{take-suc-set}
 use Rattle.grammar.specs.Bytes.{Word}
@@ -25,9 +25,7 @@ use Rattle.text_carried.proofs.Laws.{counted, met-holds}
 met-count : (t : Table) (i a e : ℕ) → i ≤ t .count → met t i a e .count ≤ t .count + 1
 unfolding met
 met-count t i a e h = ⊎-elim
-    (λ (q : ltb i (t .count) ≡ true). rw q (⊎-elim (λ (p : eqb (t .carried) 255 ≡ true). rw p (omega arith))
-    (λ (p : eqb (t .carried) 255 ≡ false). rw p (⊎-elim (λ (r : eqb (t .carried) i ≡ true). rw r (omega arith)) (λ (r : eqb (t .carried) i ≡ false). rw r (omega arith)) (either (eqb (t .carried) i))))
-    (either (eqb (t .carried) 255))))
+    (λ (q : ltb i (t .count) ≡ true). rw q (omega arith))
     (λ (q : ltb i (t .count) ≡ false). rw q (omega arith)) (either (ltb i (t .count)))
 
 -- the first j variables of the scope s are entered in the table t

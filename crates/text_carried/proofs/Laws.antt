@@ -1,27 +1,26 @@
 -- Laws of the table of the `ask` line's variables.
 use mathlib.Core.Path.{_≡_, refl, sym, ap, _∙_, subst}
 use mathlib.Core.Logic.{⊎-elim}
-use mathlib.Core.Bool.{Bool, true, false, cond, _&&_, and-true, and-false, and-assoc, false≢true}
-use mathlib.Core.List.{List, [], _∷_, _++_, append-nil}
+use mathlib.Core.Bool.{true, false, cond, _||_, or-assoc, or-true, or-false, false≢true}
+use mathlib.Core.List.{List, [], _∷_, _++_, map, map-append, append-nil}
 use Prim.Native.Nat.{ℕ, _+_, _-_, _≤_, _<_}
 use native.Mathlib.Numerals.{add-one}
 use native.Mathlib.Omega.{arith}
 use lib.Dec.{eqb}
-use lib.ListN.{length, take, drop, getD, length-set}
+use lib.ListN.{length, take, drop, set, getD, length-set}
 use lib.Seq.{slice, getD-set-same, getD-set-other}
-use borrow.Author.Tests.{eqb-true, eqb-false, eq-eqb, ne-eqb, lt-ltb, le-ltb}
+use borrow.Author.Tests.{eqb-true, eqb-false, lt-ltb, le-ltb}
+use Rattle.semantics.specs.Models.{elem}
 use Rattle.grammar.specs.Bytes.{Word, same}
-use Rattle.grammar.specs.Forms.{all}
 use Rattle.grammar.specs.Declarations.{member, extend, place}
 use Rattle.grammar.proofs.Tests.{either}
-use Rattle.grammar.proofs.Words.{same-refl, same-eq, same-sym, place-hit, place-none, place-below, extend-append, extend-old}
-use Rattle.acceptance.proofs.Questions.{number-same}
-use Rattle.acceptance.specs.Growing.{firstNumber}
+use Rattle.grammar.proofs.Words.{same-eq, place-none, place-below, extend-append, extend-old}
+use Rattle.grammar.proofs.Bodies.{numbers-stable}
 use Rattle.text_scan.proofs.Laws.{slice-part}
 use Rattle.text_names.specs.Rows.{listOf}
 use Rattle.text_names.proofs.Laws.{listOf-same, length-listOf}
 use Rattle.text_scope.proofs.Laws.{member-more, place-listOf}
-use Rattle.text_carried.specs.Asking.{variable, knownOf, Valid, again, appended, met, repeated, differ, Holds}
+use Rattle.text_carried.specs.Asking.{variable, knownOf, Valid, repeating, appended, met, repeated, Holds}
 use Rattle.text_carried.specs.declared.Table.{Table}
 
 -- FINDING A VARIABLE
@@ -67,9 +66,9 @@ repeated-within x seen (w ∷ ws) e = ⊎-elim
     (λ (q : member w seen ≡ false). rw q (repeated-within x (seen ++ (w ∷ [])) ws (rw q at e)))
     (either (member w seen))
 
-all-append : (p : Word → Bool) (xs : List Word) (w : Word) → all p (xs ++ (w ∷ [])) ≡ (all p xs && p w)
-all-append p [] w = and-true (p w)
-all-append p (x ∷ xs) w = rw (all-append p xs w) (sym (and-assoc (p x) (all p xs) (p w)))
+elem-last : (x : ℕ) (xs : List ℕ) (y : ℕ) → elem x (xs ++ (y ∷ [])) ≡ (elem x xs || eqb x y)
+elem-last x [] y = or-false (eqb x y)
+elem-last x (z ∷ xs) y = rw (elem-last x xs y) (sym (or-assoc (eqb x z) (elem x xs) (eqb x y)))
 
 -- ONE WORD MORE
 module _ {text : List ℕ} {t : Table} {ws : List Word} (so : Holds text t ws) where
@@ -84,12 +83,15 @@ module _ {text : List ℕ} {t : Table} {ws : List Word} (so : Holds text t ws) w
     abbrev w : Word
     w = slice a e text
 
-    words-more : extend [] (ws ++ (w ∷ [])) ≡ cond (member w vs) vs (vs ++ (w ∷ []))
-    unfolding extend
+    words-more : extend [] (ws ++ (w ∷ [])) ≡ extend vs (w ∷ [])
     words-more = extend-append [] ws (w ∷ [])
 
     repeated-more : repeated [] (ws ++ (w ∷ [])) ≡ repeated [] ws ++ cond (member w vs) (w ∷ []) []
     repeated-more = repeated-append [] ws (w ∷ [])
+
+    -- what stood again before keeps its numbers
+    numbers-kept : map (place (extend [] (ws ++ (w ∷ [])))) (repeated [] ws) ≡ map (place vs) (repeated [] ws)
+    numbers-kept = rw words-more (numbers-stable [] vs (w ∷ []) (repeated [] ws) (λ x q. repeated-within x [] ws q))
 
     -- it is known
     module _ (m : member w vs ≡ true) where
@@ -97,40 +99,22 @@ module _ {text : List ℕ} {t : Table} {ws : List Word} (so : Holds text t ws) w
       old = omega (arith, place-below w vs m, counted)
 
       words-old : extend [] (ws ++ (w ∷ [])) ≡ vs
+      unfolding extend
       words-old = words-more ∙ rw m
 
-      repeated-old : repeated [] (ws ++ (w ∷ [])) ≡ repeated [] ws ++ (w ∷ [])
-      repeated-old = repeated-more ∙ rw m
+      again-old : (j : ℕ) → getD (set (t .again) i true) j false ≡ elem j (map (place (extend [] (ws ++ (w ∷ [])))) (repeated [] (ws ++ (w ∷ []))))
+      again-old j = rw (repeated-more, m, map-append (place (extend [] (ws ++ (w ∷ [])))) (repeated [] ws) (w ∷ []), numbers-kept, words-old, ← z, elem-last j (map (place vs) (repeated [] ws)) i) (⊎-elim
+          (λ (q : eqb j i ≡ true). rw (q, eqb-true j i q, getD-set-same (t .again) i true false (omega (arith, so .valid .again)), or-true (elem i (map (place vs) (repeated [] ws)))))
+          (λ (q : eqb j i ≡ false). rw (q, getD-set-other (t .again) i j true false (eqb-false j i q), or-false (elem j (map (place vs) (repeated [] ws)))) (so .again j))
+          (either (eqb j i)))
 
-      known-met : (S : List Word) → t .carried ≡ firstNumber vs S → t .many ≡ differ S → ((x : Word) → member x S ≡ true → member x vs ≡ true)
-          → (again t i .carried ≡ firstNumber vs (S ++ (w ∷ []))) × (again t i .many ≡ differ (S ++ (w ∷ [])))
-      known-met [] c n inside = rw (eq-eqb (t .carried) 255 c) (z, n)
-      known-met (x ∷ xs) c n inside =
-          let mx = inside x (rw (same-refl x)) in
-          let u = place-below x vs mx in
-          rw (ne-eqb (t .carried) 255 (λ y. absurd (omega (arith, counted, so .valid .count))), c, z, number-same vs x w mx m, all-append (λ v. same v x) xs w) (⊎-elim
-          (λ (q : same x w ≡ true). let g : same w x ≡ true = subst (λ (y : Word). same w y ≡ true) (sym (same-eq x w q)) (same-refl w) in rw (q, g, and-true (all (λ v. same v x) xs)) (refl, n))
-          (λ (q : same x w ≡ false). rw (q, same-sym x w q, and-false (all (λ v. same v x) xs)) (refl, refl))
-          (either (same x w)))
-
-      pub met-old : Holds text (again t i) (ws ++ (w ∷ []))
+      pub met-old : Holds text (repeating t i) (ws ++ (w ∷ []))
       unfolding knownOf
-      met-old =
-          let r = known-met (repeated [] ws) (so .carried) (so .many) (λ x q. repeated-within x [] ws q) in
-          record { valid = kept-valid; known = kept-known ∙ sym words-old; carried = r .0 ∙ rw (words-old, repeated-old); many = r .1 ∙ rw repeated-old }
-        where
-          kept-valid : Valid text (again t i)
-          kept-valid = ⊎-elim (λ (q : eqb (t .carried) 255 ≡ true). rw q (same-valid i (t .many)))
-              (λ (q : eqb (t .carried) 255 ≡ false). rw q (⊎-elim (λ (p : eqb (t .carried) i ≡ true). rw p (so .valid)) (λ (p : eqb (t .carried) i ≡ false). rw p (same-valid (t .carried) true)) (either (eqb (t .carried) i))))
-              (either (eqb (t .carried) 255))
-            where
-              same-valid : (c : ℕ) (b : Bool) → Valid text (record { count = t .count; starts = t .starts; ends = t .ends; carried = c; many = b })
-              same-valid c b = record { count = so .valid .count; starts = so .valid .starts; ends = so .valid .ends; within = so .valid .within }
-
-          kept-known : knownOf text (again t i) ≡ vs
-          kept-known = ⊎-elim (λ (q : eqb (t .carried) 255 ≡ true). rw q (so .known))
-              (λ (q : eqb (t .carried) 255 ≡ false). rw q (⊎-elim (λ (p : eqb (t .carried) i ≡ true). rw p (so .known)) (λ (p : eqb (t .carried) i ≡ false). rw p (so .known)) (either (eqb (t .carried) i))))
-              (either (eqb (t .carried) 255))
+      met-old = record {
+        valid = record { count = so .valid .count; starts = so .valid .starts; ends = so .valid .ends; again = length-set (t .again) i true ∙ so .valid .again; within = so .valid .within };
+        known = so .known ∙ sym words-old;
+        again = again-old;
+      }
 
     -- it is new
     module _ (m : member w vs ≡ false) where
@@ -138,6 +122,7 @@ module _ {text : List ℕ} {t : Table} {ws : List Word} (so : Holds text t ws) w
       fresh = z ∙ place-none w vs m ∙ counted
 
       words-new : extend [] (ws ++ (w ∷ [])) ≡ vs ++ (w ∷ [])
+      unfolding extend
       words-new = words-more ∙ rw m
 
       repeated-new : repeated [] (ws ++ (w ∷ [])) ≡ repeated [] ws
@@ -148,6 +133,7 @@ module _ {text : List ℕ} {t : Table} {ws : List Word} (so : Holds text t ws) w
         count = omega arith;
         starts = length-set (t .starts) i a ∙ so .valid .starts;
         ends = length-set (t .ends) i e ∙ so .valid .ends;
+        again = so .valid .again;
         within = λ j q. ⊎-elim
             (λ (y : eqb j i ≡ true). rw (eqb-true j i y, getD-set-same (t .starts) i a 0 (omega (arith, so .valid .starts)), getD-set-same (t .ends) i e 0 (omega (arith, so .valid .ends))) (h, k))
             (λ (y : eqb j i ≡ false). let n = eqb-false j i y in rw (getD-set-other (t .starts) i j a 0 n, getD-set-other (t .ends) i j e 0 n) (so .valid .within j (omega (arith, fresh))))
@@ -165,16 +151,11 @@ module _ {text : List ℕ} {t : Table} {ws : List Word} (so : Holds text t ws) w
       new-known = rw (add-one, getD-set-same (t .starts) i a 0 (omega (arith, so .valid .starts)), getD-set-same (t .ends) i e 0 (omega (arith, so .valid .ends)))
           (ap (λ (us : List Word). us ++ (w ∷ [])) before)
 
-      first-kept : (S : List Word) → ((x : Word) → member x S ≡ true → member x vs ≡ true) → firstNumber vs S ≡ firstNumber (vs ++ (w ∷ [])) S
-      first-kept [] inside = refl
-      first-kept (x ∷ xs) inside = sym (place-hit x vs (w ∷ []) (inside x (rw (same-refl x))))
-
       met-new : Holds text (appended t i a e) (ws ++ (w ∷ []))
       met-new = record {
         valid = new-valid;
         known = new-known ∙ sym words-new;
-        carried = so .carried ∙ first-kept (repeated [] ws) (λ x q. repeated-within x [] ws q) ∙ rw (words-new, repeated-new);
-        many = so .many ∙ rw repeated-new;
+        again = λ j. rw (repeated-new, numbers-kept) (so .again j);
       }
 
     -- the law of `met`

@@ -1,3 +1,4 @@
 pub mod Laws
 pub mod Entering
+pub mod Collecting
 pub mod Stages

@@ -2,25 +2,28 @@
 use mathlib.Core.Path.{_≡_, refl, sym, ap, _∙_, subst}
 use mathlib.Core.Logic.{⊎-elim}
 use mathlib.Core.Bool.{Bool, true, false, cond, _&&_, _||_, or-assoc, or-false, false≢true}
-use mathlib.Core.List.{List, [], _∷_, _++_}
+use mathlib.Core.List.{List, [], _∷_, _++_, map}
 use Prim.Native.Nat.{ℕ, suc, _+_, _≤_}
 use native.Mathlib.Omega.{arith}
 use lib.Dec.{leb}
 use lib.ListN.{length}
 use borrow.Author.Tests.{le-leb}
+use Rattle.semantics.specs.Models.{elem, only}
 use Rattle.semantics.proofs.Tools.{or-true-cases, or-right}
 use Rattle.grammar.specs.Bytes.{Word, same}
-use Rattle.grammar.specs.Forms.{Literal, all}
-use Rattle.grammar.specs.Declarations.{member, extend, variables, stands, allVariables}
-use Rattle.grammar.specs.Rows.{carried, carriesMany}
+use Rattle.grammar.specs.Forms.{Literal}
+use Rattle.grammar.specs.Declarations.{member, extend, place, variables, stands, allVariables}
+use Rattle.grammar.specs.Rows.{carried}
 use Rattle.grammar.specs.Words.{Distinct}
-use Rattle.grammar.proofs.Tests.{either, clash, and-left, and-right}
-use Rattle.grammar.proofs.Words.{same-refl, same-eq, same-sym, member-append, extend-append, distinct-extend}
+use Rattle.grammar.proofs.Tests.{either}
+use Rattle.grammar.proofs.Words.{same-eq, member-append, place-below, extend-append, distinct-extend}
 use Rattle.acceptance.proofs.Words.{news, extend-news}
-use Rattle.acceptance.specs.Growing.{firstNumber}
-use Rattle.acceptance.proofs.Questions.{askWords}
-use Rattle.text_carried.specs.Asking.{own, each, repeated, differ}
-use Rattle.text_carried.proofs.Laws.{repeated-append, repeated-within}
+use Rattle.acceptance.proofs.Scopes.{elem-mapped}
+use Rattle.acceptance.proofs.Questions.{askWords, number-member, places-rise, only-carried}
+use Rattle.text_carried.specs.Asking.{own, each, repeated, marked, Holds}
+use Rattle.text_carried.specs.declared.Table.{Table}
+use Rattle.text_carried.proofs.Laws.{repeated-append, repeated-within, counted}
+use Rattle.text_carried.proofs.Collecting.{mark, marked-below}
 
 -- MEMBERS of a list with first appearances
 pub member-extend : (x : Word) (vs xs : List Word) → member x (extend vs xs) ≡ (member x vs || member x xs)
@@ -99,74 +102,31 @@ again-stands x seen (q ∷ qs) =
     cases false true n = let z : 1 + n ≡ 0 + suc n = omega arith in ap (leb 2) z
     cases false false n = refl
 
--- THE CARRIED VARIABLES are those that stand again
-module _ (qs : List (List Literal)) where
-  abbrev test : Word → Bool
-  test x = leb 2 (stands x qs)
+-- THE CARRIED VARIABLES are the marked ones
+module _ {text : List ℕ} {t : Table} (qs : List (List Literal)) (so : Holds text t (each qs)) where
+  abbrev vs : List Word
+  vs = askWords qs
 
-  none-carried : (vs : List Word) → ((x : Word) → test x ≡ false) → carried qs vs ≡ []
-  none-carried [] h = refl
-  none-carried (v ∷ vs) h = rw (h v) (none-carried vs h)
+  abbrev twice : List Word
+  twice = repeated [] (each qs)
 
-  one-carried : (x : Word) (vs : List Word) → ((y : Word) → test y ≡ same y x) → Distinct vs → carried qs vs ≡ cond (member x vs) (x ∷ []) []
-  one-carried x [] h d = refl
-  one-carried x (v ∷ vs) h d = ⊎-elim
-      (λ (q : same v x ≡ true). let z = same-eq v x q in let g : same x v ≡ true = subst (λ (y : Word). same x y ≡ true) (sym z) (same-refl x) in
-      let n : member x vs ≡ false = subst (λ (y : Word). member y vs ≡ false) z (d .0) in
-      rw (h v, q, g, one-carried x vs h (d .1), n) (ap (λ (y : Word). y ∷ []) z))
-      (λ (q : same v x ≡ false). rw (h v, q, same-sym v x q) (one-carried x vs h (d .1)))
-      (either (same v x))
+  marks : (i : ℕ) → mark t i ≡ elem i (map (place vs) twice)
+  marks i = so .again i ∙ ap (λ (l : List Word). elem i (map (place l) twice)) (each-words [] qs)
 
-  some-carried : (x : Word) (vs : List Word) → test x ≡ true → member x vs ≡ true → 1 ≤ length (carried qs vs)
-  some-carried x [] h m = absurd (false≢true m)
-  some-carried x (v ∷ vs) h m = ⊎-elim
-      (λ (q : test v ≡ true). rw q (omega arith))
-      (λ (q : test v ≡ false). rw q (⊎-elim (λ (p : same x v ≡ true). clash (subst (λ (y : Word). test y ≡ true) (same-eq x v p) h) q) (λ (p : same x v ≡ false). some-carried x vs h (rw p at m)) (either (same x v))))
-      (either (test v))
+  inside : (w : Word) → member w twice ≡ true → member w vs ≡ true
+  inside w m = subst (λ (l : List Word). member w l ≡ true) (each-words [] qs) (repeated-within w [] (each qs) m)
 
-  two-carried : (x y : Word) (vs : List Word) → same y x ≡ false → test x ≡ true → test y ≡ true → member x vs ≡ true → member y vs ≡ true → 2 ≤ length (carried qs vs)
-  two-carried x y [] o h k m n = absurd (false≢true m)
-  two-carried x y (v ∷ vs) o h k m n = ⊎-elim
-      (λ (p : same x v ≡ true). let t : test v ≡ true = subst (λ (z : Word). test z ≡ true) (same-eq x v p) h in
-      let r : same y v ≡ false = subst (λ (z : Word). same y z ≡ false) (same-eq x v p) o in
-      rw t (let s = some-carried y vs k (rw r at n) in omega arith))
-      (λ (p : same x v ≡ false). ⊎-elim
-      (λ (r : same y v ≡ true). let t : test v ≡ true = subst (λ (z : Word). test z ≡ true) (same-eq y v r) k in rw t (let s = some-carried x vs h (rw p at m) in omega arith))
-      (λ (r : same y v ≡ false). let s = two-carried x y vs o h k (rw p at m) (rw r at n) in ⊎-elim (λ (t : test v ≡ true). rw t (omega arith)) (λ (t : test v ≡ false). rw t s) (either (test v)))
-      (either (same y v)))
-      (either (same x v))
+  told : (w : Word) → member w vs ≡ true → mark t (place vs w) ≡ leb 2 (stands w qs)
+  told w m = marks (place vs w) ∙ number-member vs w twice m inside ∙ again-stands w [] qs ∙ (let z : 0 + stands w qs ≡ stands w qs = omega arith in ap (leb 2) z)
 
-  -- where not all are the same, one is another
-  other : (x : Word) (xs : List Word) → all (λ v. same v x) xs ≡ false → (y : Word) × (member y xs ≡ true) × (same y x ≡ false)
-  other x [] e = clash refl e
-  other x (v ∷ xs) e = ⊎-elim
-      (λ (q : same v x ≡ true). let r = other x xs (rw q at e) in (r .0, or-right (same (r .0) v) (member (r .0) xs) (r .1), r .2))
-      (λ (q : same v x ≡ false). (v, rw (same-refl v), q))
-      (either (same v x))
+  beyond : (i : ℕ) → length vs ≤ i → mark t i ≡ false
+  beyond i l = ⊎-elim
+      (λ (q : elem i (map (place vs) twice) ≡ true). absurd (let w = elem-mapped (place vs) i twice q in let b = place-below (w .0) vs (inside (w .0) (w .1)) in omega (arith, w .2)))
+      (λ (q : elem i (map (place vs) twice) ≡ false). marks i ∙ q)
+      (either (elem i (map (place vs) twice)))
 
-  alike : (x : Word) (xs : List Word) (y : Word) → all (λ v. same v x) xs ≡ true → member y (x ∷ xs) ≡ same y x
-  alike x [] y e = or-false (same y x)
-  alike x (v ∷ xs) y e =
-      let z = same-eq v x (and-left (same v x) (all (λ u. same u x) xs) e) in
-      let r = alike x xs y (and-right (same v x) (all (λ u. same u x) xs) e) in
-      rw z (⊎-elim (λ (q : same y x ≡ true). rw q) (λ (q : same y x ≡ false). rw q (rw q at r)) (either (same y x)))
-
-  pub carried-again : (vs S : List Word) → Distinct vs → ((x : Word) → member x S ≡ test x) → ((x : Word) → member x S ≡ true → member x vs ≡ true)
-      → (leb 2 (length (carried qs vs)) ≡ differ S) × (differ S ≡ false → firstNumber vs (carried qs vs) ≡ firstNumber vs S)
-  carried-again vs [] d h inside = rw (none-carried vs (λ x. sym (h x))) (refl, λ z. refl)
-  carried-again vs (x ∷ xs) d h inside = ⊎-elim
-      (λ (e : all (λ v. same v x) xs ≡ true). rw (one-carried x vs (λ y. sym (h y) ∙ alike x xs y e) d, inside x (rw (same-refl x)), e) (refl, λ z. refl))
-      (λ (e : all (λ v. same v x) xs ≡ false).
-      let r = other x xs e in
-      let my = or-right (same (r .0) x) (member (r .0) xs) (r .1) in
-      let n = two-carried x (r .0) vs (r .2) (sym (h x) ∙ rw (same-refl x)) (sym (h (r .0)) ∙ my) (inside x (rw (same-refl x))) (inside (r .0) my) in
-      rw e (le-leb 2 (length (carried qs vs)) n, λ z. clash refl z))
-      (either (all (λ v. same v x) xs))
-
-  -- row 11, and the number of the carried variable
-  pub carries : (carriesMany qs ≡ differ (repeated [] (each qs))) × (differ (repeated [] (each qs)) ≡ false → firstNumber (askWords qs) (carried qs (askWords qs)) ≡ firstNumber (askWords qs) (repeated [] (each qs)))
-  carries = carried-again (askWords qs) (repeated [] (each qs)) (distinct-extend [] (allVariables qs) tt) (λ x. again-stands x [] qs ∙ zero-first (stands x qs))
-      (λ x m. subst (λ (l : List Word). member x l ≡ true) (each-words [] qs) (repeated-within x [] (each qs) m))
-    where
-      zero-first : (n : ℕ) → leb 2 (0 + n) ≡ leb 2 n
-      zero-first n = let z : 0 + n ≡ n = omega arith in ap (leb 2) z
+  pub marked-carried : marked t ≡ map (place vs) (carried qs vs)
+  marked-carried =
+      marked-below t (length vs) (omega (arith, so .valid .count, ap length (each-words [] qs), counted so)) beyond
+      ∙ ap (only (mark t)) (sym (places-rise (allVariables qs)))
+      ∙ only-carried vs (mark t) qs told vs (λ w m. m)

@@ -3,24 +3,30 @@ ghost use mathlib.Core.Path.{_≡_};
 ghost use mathlib.Core.Bool.{false};
 ghost use mathlib.Core.List.{List};
 ghost use Prim.Native.Nat.{_+_, _≤_, _<_};
-ghost use lib.ListN.{length};
+ghost use lib.ListN.{length, replicate};
 ghost use lib.Seq.{slice};
 ghost use Rattle.limits.specs.Limits as limit;
 ghost use Rattle.grammar.specs.Bytes.{Word};
 ghost use Rattle.grammar.specs.Declarations.{place};
 ghost use Rattle.text_scope.specs.Scopes as scopes;
-ghost use Rattle.text_carried.specs.Asking.{Valid, knownOf, met, Holds, Numbers};
+ghost use Rattle.text_carried.specs.Asking.{Valid, knownOf, met, Holds, Numbers, carriersOf};
 use limits::ASKED;
+use limits::CARRIED;
 use limits::NONE;
 use limits::VARIABLES;
 use text_scope::Scope;
 
-// Variable i stands first from starts[i] to ends[i]; carried is the first that stands in two stages, or 255, and many says whether another one does.
+// Variable i stands first from starts[i] to ends[i]; again[i] says whether it stands in a second stage.
 pub struct Table {
     pub count: usize,
     pub starts: [usize; ASKED],
     pub ends: [usize; ASKED],
-    pub carried: u32,
+    pub again: [bool; ASKED],
+}
+
+// The carried variables in order of first appearance, 255 in a cell that has none, and whether there are more than cells.
+pub struct Carriers {
+    pub cells: [u32; CARRIED],
     pub many: bool,
 }
 
@@ -32,14 +38,13 @@ pub struct Numbering {
 
 // No variables.
 pub fn none() -> Table
-    ensures { λ r. ⌜ (r .count ≡ 0) × (length (r .starts) ≡ limit.asked) × (length (r .ends) ≡ limit.asked) × (r .carried ≡ limit.none) × (r .many ≡ false) ⌝ }
+    ensures { λ r. ⌜ (r .count ≡ 0) × (length (r .starts) ≡ limit.asked) × (length (r .ends) ≡ limit.asked) × (r .again ≡ replicate limit.asked false) ⌝ }
 {
     Table {
         count: 0,
         starts: [0; ASKED],
         ends: [0; ASKED],
-        carried: NONE,
-        many: false,
+        again: [false; ASKED],
     }
 }
 
@@ -66,16 +71,8 @@ fn meet(mut t: Table, i: usize, a: usize, e: usize) -> Table
     requires { ⌜ (i < limit.asked) × (i ≤ t .count) ⌝ }
     ensures { λ r. ⌜ r ≡ met t i a e ⌝ }
 {
-    let x = i as u32;
     if i < t.count {
-        if t.carried == NONE {
-            t.carried = x;
-            return t;
-        }
-        if t.carried == x {
-            return t;
-        }
-        t.many = true;
+        t.again[i] = true;
         return t;
     }
     t.starts[i] = a;
@@ -102,4 +99,25 @@ pub fn number(text: &[u8], t: Table, s: Scope) -> Numbering
         j += 1;
     }
     Numbering { table: u, numbers }
+}
+
+// The variables that stand in a second stage. They are numbered by first appearance, so they rise in that order.
+pub fn carried(t: Table) -> Carriers
+    ensures { λ r. ⌜ r ≡ carriersOf t ⌝ }
+{
+    let mut cells = [NONE; CARRIED];
+    let mut found = 0;
+    let mut i = 0;
+    while i < ASKED {
+        let again = t.again[i];
+        if again {
+            if found == CARRIED {
+                return Carriers { cells, many: true };
+            }
+            cells[found] = i as u32;
+            found += 1;
+        }
+        i += 1;
+    }
+    Carriers { cells, many: false }
 }

@@ -18,7 +18,7 @@ blank = record {
   literalcount = 0;
   stages = replicate limit.stages (record { first = 0; count = 0; variables = 0; numbers = replicate limit.variables 0 });
   stagecount = 0;
-  carried = limit.none;
+  carried = replicate limit.carried limit.none;
   lines = 0;
 }
 

@@ -1,6 +1,7 @@
 // The model record of a text at its beginning, and with the declared names at its end.
 ghost use mathlib.Core.Path.{_≡_};
 ghost use Rattle.text_opening.specs.Openings.{blank as blankRecord, fitted};
+use limits::CARRIED;
 use limits::CLAUSES;
 use limits::DECLARED;
 use limits::LITERALS;
@@ -45,7 +46,7 @@ pub fn blank() -> Model
         literalcount: 0,
         stages: [stage; STAGES],
         stagecount: 0,
-        carried: NONE,
+        carried: [NONE; CARRIED],
         lines: 0,
     }
 }

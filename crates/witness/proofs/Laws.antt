@@ -1,12 +1,10 @@
 -- The run that builds the states and walks on is kept, fits, and ends with a meeting.
 use mathlib.Core.Path.{_≡_, sym, ap, _∙_, subst}
-use mathlib.Core.Logic.{⊎-elim}
-use mathlib.Core.Bool.{Bool, true, false}
 use mathlib.Core.List.{List, [], _∷_, _++_, map, map-append, reverse}
 use mathlib.Core.Option.{Option, some}
 use Prim.Native.Nat.{ℕ, suc, _+_, _-_, _≤_, _<_}
 use native.Mathlib.Omega.{arith}
-use native.Mathlib.Nat.{zero-add, mul-le-mul}
+use native.Mathlib.Nat.{mul-le-mul}
 use lib.ListN.{length, take, drop, getD, length-append, length-map, List·getD-map}
 use lib.Seq.{take-at, getD-at, getD-take}
 use Rattle.limits.specs.Limits as limit
@@ -15,7 +13,6 @@ use Rattle.semantics.specs.Steps.{Steps}
 use Rattle.semantics.specs.Runs.{Place, step, meet, Session, start, nobody, after, Plays, Kept}
 use Rattle.semantics.specs.PlayingOn.{PlayingOn}
 use Rattle.semantics.specs.Building.{session, Leads, build}
-use Rattle.semantics.proofs.Tools.{either}
 use Rattle.semantics.proofs.Leads.{leads-plays, steps-lead, kept-length}
 use Rattle.semantics.proofs.Playing.{playing-on}
 use Rattle.semantics.proofs.WalkersBuild.{built, length-build}
@@ -24,20 +21,16 @@ use Rattle.model.specs.Records.{programOf, questionOf}
 use Rattle.model.specs.WellFormed.{WellFormed}
 use Rattle.model.specs.Places.{numberOf, placeOf}
 use Rattle.model.proofs.Accepted.{stages}
-use Rattle.facts_bits.specs.Bits.{inRow}
 use Rattle.search_states.specs.declared.States.{States}
 use Rattle.search_states.specs.States.{row, by, from}
 use Rattle.search_states.proofs.Laws.{length-row}
-use Rattle.search_levels.specs.declared.Levels.{Levels}
-use Rattle.search_levels.specs.Levels.{chosen}
 use Rattle.witness_table.specs.Runs.{numbers, AllNumerable, backwards}
 use Rattle.witness_table.proofs.Laws.{length-backwards, backwards-on, turned, numerable-append, decoded-numbers}
 use Rattle.witness_lineage.specs.Lineage.{building}
 use Rattle.witness_lineage.proofs.Making.{length-steps, numerable-building}
-use Rattle.witness_meetings.specs.Legs.{Known}
-use Rattle.witness_walk.specs.Walk.{Recorded, Sits, Walked}
-use Rattle.witness_walk.proofs.Laws.{sits-there, sits-nowhere}
-use Rattle.witness.specs.Witness.{Ends, Shown}
+use Rattle.witness_meetings.specs.Meetings.{Known}
+use Rattle.witness_walk.specs.Walk.{Walked}
+use Rattle.witness.specs.Witness.{Shown}
 
 -- what is played to its end ends with the meeting of the last stage
 plays-last : (P : Program) (Q : Question) (s : Session) (ps : List Place) → Plays P Q s ps → s .met < length Q
@@ -50,15 +43,6 @@ plays-last P Q s (meet i os ∷ step ℓ o ∷ ps) h l =
 plays-last P Q s (meet i os ∷ meet j ps ∷ qs) h l =
     let t = plays-last P Q (after P Q s (meet i os)) (meet j ps ∷ qs) (h .1) (h .1 .0 .0) in (meet i os ∷ t .0, t .1, ap (λ (qs : List Place). meet i os ∷ qs) (t .2))
 
--- the slot at the end is one of the last level
-pub ends-sits : (m : Model) (w : List ℕ) (s : States) (l : Levels) (table steps ways : List ℕ) → Recorded m w s l table steps ways → (e : ℕ) → e < 128 → inRow (l .rows) (m .stagecount) e ≡ true
-    → (r : ℕ) → Ends (chosen m (m .stagecount)) l (m .stagecount) r → Sits (chosen m (m .stagecount)) s l (m .stagecount) r
-ends-sits m w s l table steps ways rec e g q r h = ⊎-elim
-    (λ (c : chosen m (m .stagecount) ≡ true). let k = subst (λ (b : Bool). Ends b l (m .stagecount) r) c h in sits-there m w s l table steps ways rec (m .stagecount) r (omega arith) (k .0) (k .1) c)
-    (λ (c : chosen m (m .stagecount) ≡ false).
-    subst (Sits (chosen m (m .stagecount)) s l (m .stagecount)) (sym (subst (λ (b : Bool). Ends b l (m .stagecount) r) c h)) (sits-nowhere m w s l table steps ways rec (m .stagecount) e (omega arith) g q c))
-    (either (chosen m (m .stagecount)))
-
 module _ (m : Model) (w : List ℕ) (s : States) (known : Known m w s) where
   some-stage : 0 < length (questionOf m)
   some-stage = rw (stages m (known .model)) (known .model .one)
@@ -69,7 +53,7 @@ module _ (m : Model) (w : List ℕ) (s : States) (known : Known m w s) where
       (subst (λ (n : ℕ). Steps (programOf m) [] (build (programOf m) (by s) (from s) n) (row s)) (length-row s (known .proper)) (built (programOf m) (known .model .safe) (row s) (by s) (from s) (known .found)))
 
   -- in at most 8,128 steps
-  pub building-few : length (building m s (s .count)) ≤ 8128
+  pub building-few : length (building m s (s .count)) ≤ limit.built
   building-few =
       let few = known .proper .count in
       omega (
@@ -91,7 +75,7 @@ module _ (m : Model) (w : List ℕ) (s : States) (known : Known m w s) where
     fits = let a = h .few in let b = building-few in let c = h .index in omega arith
 
     whole : run₂ ≡ backwards run 0 all
-    whole = written ∙ ap (λ (t : List ℕ). backwards t n (building m s (s .count))) (h .written) ∙ (rw (h .index, ← zero-add (length (h .places))) (backwards-on run 0 (h .places) (building m s (s .count))))
+    whole = written ∙ ap (λ (t : List ℕ). backwards t n (building m s (s .count))) (h .written) ∙ (rw (h .index) (backwards-on run 0 (h .places) (building m s (s .count))))
 
     pub turn-fits : r ≤ length run₂
     turn-fits = omega (arith, fits, ap length whole, length-backwards run 0 all)
@@ -100,7 +84,7 @@ module _ (m : Model) (w : List ℕ) (s : States) (known : Known m w s) where
     numerable = numerable-append (building m s (s .count)) (h .places) (numerable-building m (known .model) s (known .proper) (known .found) (s .count) (omega arith)) (h .numerable)
 
     kept : Kept (programOf m) (questionOf m) all
-    kept = leads-plays (programOf m) (questionOf m) (start []) (session (row s) 0 nobody) (building m s (s .count)) (h .places) building-leads (h .plays)
+    kept = leads-plays (programOf m) (questionOf m) (start []) (session (row s) 0 nobody) (building m s (s .count)) (h .places) building-leads (h .good)
 
     pub shown : (run′ : List ℕ) → run′ ≡ reverse (take r run₂) ++ drop r run₂ → Shown m run run′ r
     shown run′ e = record {
@@ -130,6 +114,6 @@ module _ (m : Model) (run run′ : List ℕ) (r : ℕ) (h : Shown m run run′ r
           ap (λ (os : List (Option Place)). getD os (r - 1) (placeOf 0)) (sym (map-append (λ (p : Place). some p) (h .last .0) (meet (m .stagecount) (h .last .1) ∷ [])) ∙ ap (map some) (sym (h .last .2)) ∙ sym (h .decoded))
           ∙ List·getD-map placeOf (take r run′) (r - 1) 0 ∙ ap placeOf (getD-take r run′ (r - 1) 0 (omega (arith, long)))
 
-  -- demand 3: it is played on after any list of pairs, and has at most 8,640 steps
+  -- demand 3: it is played on after any list of pairs, and has at most 9,344 steps
   pub played-on : WellFormed m → PlayingOn (programOf m) (questionOf m) limit.run (h .places)
   played-on w = playing-on (programOf m) (w .safe) (questionOf m) (h .places) (h .kept) limit.run (omega (arith, h .few, h .index, kept-length (programOf m) (questionOf m) (h .places) (h .kept)))

@@ -1,24 +1,15 @@
 -- THE SHOWN RUN of a reached question.
 use mathlib.Core.Path.{_≡_}
-use mathlib.Core.Bool.{Bool, true, false}
 use mathlib.Core.List.{List, [], _∷_, _++_, map}
 use mathlib.Core.Option.{some}
-use Prim.Native.Nat.{ℕ, _≤_, _<_}
+use Prim.Native.Nat.{ℕ, _≤_}
 use lib.ListN.{length, take, drop}
 use Rattle.limits.specs.Limits as limit
 use Rattle.semantics.specs.Runs.{Place, meet, Kept}
 use Rattle.model.specs.declared.Model.{Model}
 use Rattle.model.specs.Records.{programOf, questionOf}
 use Rattle.model.specs.Places.{placeOf}
-use Rattle.facts_bits.specs.Bits.{inRow}
-use Rattle.search_levels.specs.declared.Levels.{Levels}
 use Rattle.witness_table.specs.Runs.{numbers}
-use Rattle.witness_walk.specs.Walk.{noSlot}
-
--- the slot at the end of the walk: one of level k if an object is carried, else none
-abbrev pub Ends : Bool → Levels → ℕ → ℕ → Type 0
-Ends true l k e = (e < 128) × (inRow (l .rows) k e ≡ true)
-Ends false l k e = e ≡ noSlot
 
 -- The first r numbers of the table are those of a kept run, which they stand for; the others are as they were. Its last place is the meeting of the last stage.
 pub record Shown (m : Model) (run run′ : List ℕ) (r : ℕ) : Type 0 where

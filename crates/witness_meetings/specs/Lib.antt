@@ -1,1 +1,1 @@
-pub mod Legs
+pub mod Meetings

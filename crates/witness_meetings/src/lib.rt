@@ -7,25 +7,24 @@ use model::Place;
 use model::Stage;
 use search_states::States;
 ghost use mathlib.Core.Path.{_≡_};
-ghost use mathlib.Core.List.{List};
-ghost use mathlib.Core.Logic.{_≢_};
-ghost use mathlib.Core.Option.{Option, some};
-ghost use Prim.Native.Nat.{ℕ, suc, _+_, _≤_, _<_};
+ghost use mathlib.Core.List.{List, []};
+ghost use Prim.Native.Nat.{ℕ, _≤_, _<_};
 ghost use lib.ListN.{length, getD};
 ghost use Rattle.limits.specs.Limits as limit;
 ghost use Rattle.semantics.specs.Tables.{Shows};
 ghost use Rattle.model.specs.Places.{numberOf};
-ghost use Rattle.model.specs.Records.{bodyAt, numberIn, stageBody, stageAt};
+ghost use Rattle.model.specs.Records.{bodyAt, questionOf, stageBody, stageAt};
+ghost use Rattle.model.specs.WellFormed.{WellFormed};
 ghost use Rattle.facts_table.specs.Table.{tableOf, Consistent, Rows};
 ghost use Rattle.facts_candidates.specs.Choices.{chosen, Own};
 ghost use Rattle.facts_find.specs.Bodies.{Fixed};
 ghost use Rattle.search_states.specs.States.{row};
 ghost use Rattle.facts_holds.specs.Shows.{Evaluable};
-ghost use Rattle.witness_meetings.specs.Legs.{Known, entryOf, Meetable, Spots, meeting, standing, effort, Leg};
+ghost use Rattle.witness_meetings.specs.Meetings.{Known, Written, Numbers, Spots, Names, NamesBoth, meeting, Seats, Met};
 
 // The stage's own number of a variable, or the number of its variables where it has not that one.
 pub fn spot(stage: Stage, variable: u32) -> usize
-    requires { ⌜ (length (stage .numbers) ≡ limit.variables) × (stage .variables ≤ limit.variables) ⌝ }
+    requires { ⌜ Numbers stage ⌝ }
     ensures { λ r. ⌜ Spots stage variable r ⌝ }
 {
     let n = stage.variables as usize;
@@ -37,6 +36,28 @@ pub fn spot(stage: Stage, variable: u32) -> usize
         i += 1;
     }
     n
+}
+
+// The choice with element e for the variable, where the stage has it.
+fn name(stage: Stage, variable: u32, e: usize, c: Choice) -> Choice
+    requires { ⌜ Numbers stage ⌝ }
+    ensures { λ r. ⌜ Names stage variable e c r ⌝ }
+{
+    let x = spot(stage, variable);
+    if x < stage.variables as usize {
+        return facts_candidates::choose(c, x, e);
+    }
+    c
+}
+
+// The choice with these elements for the carried variables, where stage k + 1 has them.
+fn name_both(m: Model, k: usize, first: usize, second: usize, c: Choice) -> Choice
+    requires { ⌜ WellFormed m × (k < m .stagecount) ⌝ }
+    ensures { λ r. ⌜ NamesBoth m k first second c r ⌝ }
+{
+    let stage = m.stages[k];
+    let one = name(stage, m.carried[0], first, c);
+    name(stage, m.carried[1], second, one)
 }
 
 // The choice of found states for which a body holds that does hold for one with the fixed elements.
@@ -97,64 +118,7 @@ fn choose(work: &[u8], slots: &[u8], m: Model, s: States, k: usize, fixed: Choic
     choice(work, slots, s.count, &m.literals, part, fixed)
 }
 
-// Writes the meeting of stage k + 1, in which the carried variable does not stand. Returns the index behind it.
-fn meet_without(
-    run: &mut [u32],
-    work: &[u8],
-    slots: &[u8],
-    m: Model,
-    s: States,
-    k: usize,
-    at: usize,
-) -> usize
-    requires { ⌜ Known m (now work) s × Own 128 (now slots) × (k < m .stagecount) × ((y : ℕ) → y < stageAt m k .variables → numberIn (stageAt m k) y ≢ m .carried) × ((c d : Option ℕ) × Meetable m s k c d) × (at < length (now run)) ⌝ }
-    ensures { λ r. ⌜ ((c d : Option ℕ) → Meetable m s k c d → Leg m (standing m s k c) (standing m s (suc k) d) (suc (effort (s .count) c d)) (now (run .entry)) at (now (run .exit)) r) ⌝ }
-{
-    let stage = m.stages[k];
-    let free = Choice {
-        first: facts_find::FREE,
-        second: facts_find::FREE,
-        third: facts_find::FREE,
-    };
-    let c = choose(work, slots, m, s, k, free);
-    run[at] = number(k, stage.variables as usize, c);
-    at + 1
-}
-
-// Writes the meeting of stage k + 1, in which the carried variable stands as variable x for the state in the slot, and before it the making of the carried object where none was carried. Returns the index behind.
-fn meet_with(
-    run: &mut [u32],
-    work: &[u8],
-    slots: &[u8],
-    m: Model,
-    s: States,
-    k: usize,
-    x: usize,
-    before: u32,
-    slot: usize,
-    at: usize,
-) -> usize
-    requires { ⌜ Known m (now work) s × Own 128 (now slots) × (k < m .stagecount) × (x < stageAt m k .variables) × (numberIn (stageAt m k) x ≡ m .carried) × (slot < s .count) × Meetable m s k (entryOf before) (some (getD (row s) slot 0)) × (at + s .count < length (now run)) ⌝ }
-    ensures { λ r. ⌜ Leg m (standing m s k (entryOf before)) (standing m s (suc k) (some (getD (row s) slot 0))) (suc (effort (s .count) (entryOf before) (some (getD (row s) slot 0)))) (now (run .entry)) at (now (run .exit)) r ⌝ }
-{
-    let stage = m.stages[k];
-    let free = Choice {
-        first: facts_find::FREE,
-        second: facts_find::FREE,
-        third: facts_find::FREE,
-    };
-    let n = s.count;
-    let fixed = facts_candidates::choose(free, x, slot);
-    let c = choose(work, slots, m, s, k, fixed);
-    let objects = facts_candidates::choose(c, x, n);
-    run[at] = number(k, stage.variables as usize, objects);
-    if before == 0 {
-        return witness_lineage::make(run, m, s, slot, n as u32, at + 1);
-    }
-    at + 1
-}
-
-// Writes the places by which stage k + 1 is met, the last first, from index `at` on; the numbers stand for what is carried before and after. Returns the index behind them.
+// Writes the meeting of stage k + 1 at index `at`, with the carried objects in these slots where their variables stand in it. Returns the index behind it.
 pub fn meet(
     run: &mut [u32],
     work: &[u8],
@@ -162,19 +126,19 @@ pub fn meet(
     m: Model,
     s: States,
     k: usize,
-    before: u32,
-    after: u32,
+    first: usize,
+    second: usize,
     at: usize,
 ) -> usize
-    requires { ⌜ Known m (now work) s × Own 128 (now slots) × (k < m .stagecount) × Meetable m s k (entryOf before) (entryOf after) × (at + s .count < length (now run)) ⌝ }
-    ensures { λ r. ⌜ Leg m (standing m s k (entryOf before)) (standing m s (suc k) (entryOf after)) (suc (effort (s .count) (entryOf before) (entryOf after))) (now (run .entry)) at (now (run .exit)) r ⌝ }
+    requires { ⌜ Known m (now work) s × Own 128 (now slots) × (k < m .stagecount) × ((σ : ℕ → ℕ) × Shows (row s) (tableOf (now work)) σ (getD (questionOf m) k []) × Seats m k σ first second) × (at < length (now run)) ⌝ }
+    ensures { λ r. ⌜ Written (Met m s k first second) 1 (now (run .entry)) at (now (run .exit)) r ⌝ }
 {
     let stage = m.stages[k];
-    let variables = stage.variables as usize;
-    let x = spot(stage, m.carried);
-    if x < variables {
-        let slot = search_states::seek(&s.states, s.count, after - 1);
-        return meet_with(run, work, slots, m, s, k, x, before, slot, at);
-    }
-    meet_without(run, work, slots, m, s, k, at)
+    let n = s.count;
+    let free = facts_holds::free();
+    let fixed = name_both(m, k, first, second, free);
+    let c = choose(work, slots, m, s, k, fixed);
+    let objects = name_both(m, k, n, n + 1, c);
+    run[at] = number(k, stage.variables as usize, objects);
+    at + 1
 }

@@ -1,241 +1,294 @@
 -- One stage back along the levels, and the first and the last.
-use mathlib.Core.Path.{_≡_, refl, sym, ap, _∙_, subst}
-use mathlib.Core.Logic.{_⊎_, inl, inr}
-use mathlib.Core.Bool.{Bool, true, false, _||_}
-use mathlib.Core.List.{List, [], _++_}
+use mathlib.Core.Path.{_≡_, refl, sym, ap, _∙_, subst, fun-ext}
+use mathlib.Core.Logic.{⊎-elim, _≢_}
+use mathlib.Core.Bool.{Bool, true, false, cond, _||_}
+use mathlib.Core.List.{List, [], _∷_, _++_, map}
 use mathlib.Core.Option.{Option, none, some}
-use Prim.Native.Nat.{ℕ, zero, suc, _+_, _-_, _*_, _≤_, _<_}
+use Prim.Native.Nat.{ℕ, suc, _+_, _-_, _*_, _≤_, _<_}
 use native.Mathlib.Omega.{arith}
-use native.Mathlib.Nat.{zero-add, mul-le-mul}
-use borrow.Author.Tests.{ne-eqb}
+use native.Mathlib.Nat.{mul-le-mul}
+use lib.Dec.{eqb}
 use lib.ListN.{length, getD, length-append}
-use lib.Seq.{getD-take}
-use Rattle.semantics.specs.Models.{Body}
-use Rattle.semantics.specs.Facts.{state, Holds, In, Derived, Meets}
-use Rattle.semantics.specs.Runs.{Session}
-use Rattle.semantics.specs.Tables.{Hands}
-use Rattle.semantics.specs.Walkers.{Comes}
-use Rattle.semantics.proofs.Tools.{clash, or-right}
-use Rattle.semantics.proofs.Bodies.{more-facts}
-use Rattle.semantics.proofs.Leads.{leads-plays}
-use Rattle.semantics.proofs.WalkersMoves.{elem-state}
+use Rattle.limits.specs.Limits as limit
+use Rattle.semantics.specs.Models.{elem, vars, names, shared}
+use Rattle.semantics.specs.Facts.{state, Meets}
+use Rattle.semantics.specs.Runs.{Place, meet, nobody, Plays}
+use Rattle.semantics.specs.Tables.{Shows}
+use Rattle.semantics.specs.Building.{session, places, lineage}
+use Rattle.semantics.specs.Walkers.{Stand, follow, stood, Copy, Walking, but, acting, who}
+use Rattle.semantics.proofs.Tools.{either, clash, elem-here, or-right, no-none, firsts-among}
 use Rattle.model.specs.declared.Model.{Model}
-use Rattle.model.specs.Records.{programOf, questionOf}
+use Rattle.model.specs.Records.{programOf, questionOf, carriedAt}
 use Rattle.model.proofs.Accepted.{stages}
-use Rattle.facts_bits.specs.Bits.{inRow}
+use Rattle.model.proofs.Carried.{carried-own, carried-only}
 use Rattle.facts_table.specs.Table.{tableOf}
 use Rattle.search_states.specs.declared.States.{States}
-use Rattle.search_states.specs.States.{row, Proper}
+use Rattle.search_states.specs.States.{row, by, from}
 use Rattle.search_states.proofs.Laws.{length-row}
-use Rattle.search_ways.specs.Shortest.{Joins, Joined}
-use Rattle.search_levels.specs.declared.Levels.{Levels}
-use Rattle.search_levels.specs.Levels.{holder, chosen, Open, Next}
+use Rattle.search_levels.specs.Levels.{holder, chosen, pairAt, Moved, Seated, Next}
 use Rattle.witness_table.specs.Runs.{backwards}
-use Rattle.witness_table.proofs.Laws.{backwards-none, backwards-on, numerable-append}
-use Rattle.witness_meetings.specs.Legs.{entryOf, Meetable, standing, effort, Leg}
-use Rattle.witness_walk.specs.Walk.{Recorded, noSlot, carriedAt, Sits, Played, ahead, Behind, Walked}
+use Rattle.witness_table.proofs.Laws.{length-backwards, backwards-none, backwards-on, numerable-append}
+use Rattle.witness_lineage.specs.Lineage.{linesTo}
+use Rattle.witness_lineage.proofs.Laws.{lineage-enough}
+use Rattle.witness_meetings.specs.Meetings.{Known, Written, pair, Seats, Met}
+use Rattle.witness_walk.specs.Walk.{Recorded, Ready, Errand, effort, Post, PlaysFrom, there, walkers, post, Sits, LeadsTo, ahead, Behind, Walked}
+use Rattle.witness_walk.proofs.Legs.{but-same, LeadsOn, plays-on, lead-on, make-on, meet-on}
+use Rattle.witness_walk.proofs.Pairs.{or-nothing, chosen-with, first-there, variables-apart, pair-each, pair-first, pair-second, but-first, but-second}
 
--- WHETHER AN OBJECT IS CARRIED after stage k
-module _ (m : Model) (k : ℕ) where
-  pub chosen-with : holder m k ≡ true → chosen m (suc k) ≡ true
-  chosen-with z = or-right (chosen m k) (holder m k) z
+-- the table keeps its length
+pub written-length : (G : List Place → Type 0) (most : ℕ) (run run′ : List ℕ) (at at′ : ℕ) → Written G most run at run′ at′ → length run′ ≡ length run
+written-length G most run run′ at at′ h = ap length (h .written) ∙ length-backwards run at (h .places)
 
-  pub chosen-without : holder m k ≡ false → chosen m (suc k) ≡ chosen m k
-  chosen-without z = ap (λ (h : Bool). chosen m k || h) z ∙ or-nothing (chosen m k)
-    where
-      or-nothing : (a : Bool) → (a || false) ≡ a
-      or-nothing true = refl
-      or-nothing false = refl
-
--- once it is, it stays so
-pub chosen-later : (m : Model) (i n : ℕ) → chosen m i ≡ true → chosen m (n + i) ≡ true
-chosen-later m i zero h = rw zero-add h
-chosen-later m i (suc n) h = rw (let e : suc n + i ≡ suc (n + i) = omega arith in e, chosen-later m i n h) refl
-
--- WHAT IS CARRIED with a slot
-module _ (s : States) (proper : Proper s) (e : ℕ) (h : e < s .count) where
-  pub carried-some : carriedAt s e ≡ some (state (row s) e)
-  carried-some = rw (ne-eqb e noSlot (λ q. absurd (omega (arith, proper .count)))) refl
-
-  in-row : state (row s) e ≡ getD (s .states) e 0
-  in-row = getD-take (s .count) (s .states) e 0 h
-
-  pub carried-small : getD (s .states) e 0 < 128
-  carried-small = rw in-row at (proper .atomic (state (row s) e) (elem-state (row s) e (rw (length-row s proper) h)) .1)
-
-  pub carried-number : entryOf (getD (s .states) e 0 + 1) ≡ carriedAt s e
-  carried-number = rw (let q : getD (s .states) e 0 + 1 ≡ suc (getD (s .states) e 0) = omega arith in q) (ap {B = Option ℕ} some (sym in-row)) ∙ sym carried-some
-
--- A LEG IS WRITTEN BEFORE what is played to its end
-pub played-on : (m : Model) (a b : Session) (few most : ℕ) (run₀ run run′ : List ℕ) (at at′ : ℕ) → Leg m a b few run at run′ at′ → Played m b most run₀ run at → Played m a (few + most) run₀ run′ at′
-played-on m a b few most run₀ run run′ at at′ g h = record {
-  places = g .places ++ h .places;
-  plays = leads-plays (programOf m) (questionOf m) a b (g .places) (h .places) (g .leads) (h .plays);
-  numerable = numerable-append (g .places) (h .places) (g .numerable) (h .numerable);
-  written = g .written ∙ ap (λ (t : List ℕ). backwards t at (g .places)) (h .written) ∙ (rw (h .index, ← zero-add (length (h .places))) (backwards-on run₀ 0 (h .places) (g .places)));
-  index = omega (arith, g .index, h .index, length-append (g .places) (h .places));
-  few = omega (arith, g .few, h .few, length-append (g .places) (h .places));
+-- PLACES ARE WRITTEN BEFORE others: those of H come first in the run, and behind them in the table
+pub written-on : (G H K : List Place → Type 0) → ((ps qs : List Place) → H ps → G qs → K (ps ++ qs)) → (most few : ℕ) (run₀ run run′ : List ℕ) (at at′ : ℕ)
+    → Written G most run₀ 0 run at → Written H few run at run′ at′ → Written K (few + most) run₀ 0 run′ at′
+written-on G H K join most few run₀ run run′ at at′ g h = record {
+  places = h .places ++ g .places;
+  good = join (h .places) (g .places) (h .good) (g .good);
+  few = omega (arith, g .few, h .few, length-append (h .places) (g .places));
+  numerable = numerable-append (h .places) (g .places) (h .numerable) (g .numerable);
+  written = h .written ∙ ap (λ (t : List ℕ). backwards t at (h .places)) (g .written) ∙ (rw (g .index) (backwards-on run₀ 0 (g .places) (h .places)));
+  index = omega (arith, g .index, h .index, length-append (h .places) (g .places));
 }
 
--- what is carried on is not made
-pub carried-on : (n : ℕ) (c : Option ℕ) → effort n c c ≡ 0
-carried-on n none = refl
-carried-on n (some c) = refl
+map-among : (f g : ℕ → ℕ) (xs : List ℕ) → ((x : ℕ) → elem x xs ≡ true → f x ≡ g x) → map f xs ≡ map g xs
+map-among f g [] h = refl
+map-among f g (x ∷ xs) h = rw (h x (elem-here x xs), map-among f g xs (λ y e. h y (or-right (eqb y x) (elem y xs) e))) refl
 
-module _ (m : Model) (w : List ℕ) (s : States) (l : Levels) (table steps ways : List ℕ) (rec : Recorded m w s l table steps ways) where
-  small : (e : ℕ) → e < s .count → e < 128
-  small e h = omega (arith, rec .known .proper .count)
+-- posts with the same parts
+post-same : (i : ℕ) (c st st′ ob ob′ : ℕ → Option ℕ) (n n′ : ℕ) → st ≡ st′ → ob ≡ ob′ → n ≡ n′
+    → _≡_ {A = Post} (record { met = i; carried = c; states = st; objects = ob; many = n }) (record { met = i; carried = c; states = st′; objects = ob′; many = n′ })
+post-same i c st st′ ob ob′ n n′ a b d = rw (a, b, d) refl
 
-  -- how slot e of level k + 1 came
-  came : (k e : ℕ) → k < m .stagecount → e < 128 → inRow (l .rows) (suc k) e ≡ true → (h : Bool) → holder m k ≡ h → Next h m (row s) w ways k (inRow (l .rows) k) e
-  came k e b g q h z = subst (λ (d : Bool). Next d m (row s) w ways k (inRow (l .rows) k) e) z (rec .levels .stages k b .bits e g .0 q)
+module _ (m : Model) (w : List ℕ) (s : States) (known : Known m w s) where
+  -- the row of states stands in itself
+  own-copy : Copy (row s) (row s) (λ o. o)
+  own-copy i l = (l, refl)
 
-  -- THE SLOTS of a level are those of found states; as long as nothing is carried there is bit 0 alone
-  abbrev Slot : Bool → ℕ → Type 0
-  Slot true e = e < s .count
-  Slot false e = e ≡ 0
+  -- from post p the places lead to post q
+  abbrev On : Post → List Place → Post → Type 0
+  On p ps q = LeadsOn m (known .model) (row s) (by s) (from s) (known .found) (row s) (λ o. o) own-copy nobody (λ x i l. no-none) p ps q
 
-  slot-of : (k : ℕ) → k ≤ m .stagecount → (e : ℕ) → e < 128 → inRow (l .rows) k e ≡ true → Slot (chosen m k) e
-  slot-of zero h e g q = rec .levels .begins e g .0 q
-  slot-of (suc k) h e g q = go (slot-of k (omega arith) e g) (holder m k) refl
-    where
-      go : (inRow (l .rows) k e ≡ true → Slot (chosen m k) e) → (d : Bool) → holder m k ≡ d → Slot (chosen m (suc k)) e
-      go ih false z = subst (λ (b : Bool). Slot b e) (sym (chosen-without m k z)) (ih (came k e (omega arith) g q false z .0))
-      go ih true z = subst (λ (b : Bool). Slot b e) (sym (chosen-with m k z)) (omega (arith, came k e (omega arith) g q true z .0, length-row s (rec .known .proper)))
+  -- A STAGE k
+  module _ (k : ℕ) (here : k < m .stagecount) where
+    more : k < length (questionOf m)
+    more = rw (stages m (known .model)) here
 
-  -- where the last level has a slot, this is where the carried object ends
-  module _ (k e : ℕ) (h : k ≤ m .stagecount) (g : e < 128) (q : inRow (l .rows) k e ≡ true) where
-    pub sits-there : chosen m k ≡ true → Sits (chosen m k) s l k e
-    sits-there c = subst (λ (b : Bool). Sits b s l k e) (sym c) (subst (λ (b : Bool). Slot b e) c (slot-of k h e g q), q)
-
-    pub sits-nowhere : chosen m k ≡ false → Sits (chosen m k) s l k noSlot
-    sits-nowhere c = subst (λ (b : Bool). Sits b s l k noSlot) (sym c) (refl, subst (λ (u : ℕ). inRow (l .rows) k u ≡ true) (subst (λ (b : Bool). Slot b e) c (slot-of k h e g q)) q)
-
-  -- a slot, or none
-  pub sits-either : (b : Bool) (i e : ℕ) → Sits b s l i e → (e ≡ noSlot) ⊎ (e < s .count)
-  sits-either true i e h = inr (h .0)
-  sits-either false i e h = inl (h .0)
-
-  -- what holds with the facts of the work area is met
-  meets : (σ : ℕ → ℕ) (b : Body) → Holds (row s) (In (tableOf w)) σ b → Meets (programOf m) (row s) σ b
-  meets σ b h = more-facts (row s) (In (tableOf w)) (Derived (programOf m) (row s)) (λ r os d. rec .known .exact .facts r os .0 d) σ b h
-
-  -- STAGE k, from slot e of level k + 1 back
-  module _ (k e : ℕ) (b : k < m .stagecount) (sits : Sits (chosen m (suc k)) s l (suc k) e) where
-    -- it has not the carried variable: the same slot
-    pub without-sits : holder m k ≡ false → Sits (chosen m k) s l k e × Meetable m s k (carriedAt s e) (carriedAt s e)
-    without-sits z = go (chosen m k) (subst (λ (d : Bool). Sits d s l (suc k) e) (chosen-without m k z) sits)
+    -- an errand of object o, for the variable x that stands in the stage
+    errand-on : (p : Post) → p .met ≡ k → (x o u e : ℕ) (c : Bool) → p .states x ≡ there c (state (row s) u) → p .objects x ≡ there c o → (c ≡ false → p .many ≡ o) → Ready m s true c u e → (ps : List Place) → Errand m s o true c u e ps
+        → On p ps (record { met = p .met; carried = p .carried; states = but (p .states) x (some (state (row s) e)); objects = but (p .objects) x (some o); many = cond c (p .many) (suc o) })
+    errand-on p met x o u e true at is next ready ps h = rw (but-same (p .objects) x (some o) is, h .2)
+        (lead-on m (known .model) (row s) (by s) (from s) (known .found) (row s) (λ o. o) own-copy nobody (λ x i l. no-none) p (rw met more) x o (state (row s) u) (state (row s) e) at is (h .0) (h .1))
+    errand-on p met x o u e false at is next ready ps h = rw (h, lines)
+        (make-on m (known .model) (row s) (by s) (from s) (known .found) (row s) (λ o. o) own-copy nobody (λ x i l. no-none) p (rw met more) x o e is (next refl) inside)
       where
-        same : (σ : ℕ → ℕ) (c : Option ℕ) → Hands (m .carried) (row s) (getD (questionOf m) k []) σ c c
-        same σ none = z
-        same σ (some c) = ((λ y. clash y z), refl)
+        inside : e < length (row s)
+        inside = rw (length-row s (known .proper)) ready
 
-        go : (d : Bool) → Sits d s l (suc k) e → Sits d s l k e × Meetable m s k (carriedAt s e) (carriedAt s e)
-        go true q = let n = came k e b (small e (q .0)) (q .1) false z in ((q .0, n .0), (n .1 .0, meets (n .1 .0) (getD (questionOf m) k []) (n .1 .1), same (n .1 .0) (carriedAt s e)))
-        go false q = let n = came k 0 b (omega arith) (q .1) false z in ((q .0, n .0), (n .1 .0, meets (n .1 .0) (getD (questionOf m) k []) (n .1 .1), same (n .1 .0) (carriedAt s e)))
+        lines : linesTo m s e ≡ lineage (programOf m) (by s) (from s) (length (row s)) e
+        lines = lineage-enough (programOf m) (row s) (by s) (from s) (known .found) (suc e) (length (row s)) e (omega arith) inside inside
 
-    -- it has the carried variable
-    module _ (z : holder m k ≡ true) where
-      pub with-slot : e < s .count
-      with-slot = subst (λ (d : Bool). Sits d s l (suc k) e) (chosen-with m k z) sits .0
+    -- the first variable's, c and d being whether the objects were there before
+    errand-first : (h c d : Bool) (u e v : ℕ) → (h ≡ true → carriedAt m 0 ≢ carriedAt m 1) → (h ≡ true → c ≡ false → d ≡ false) → (h ≡ false → u ≡ e) → Ready m s h c u e
+        → (ps : List Place) → Errand m s (s .count) h c u e ps → On (post m s k c u d v) ps (post m s k (c || h) e d v)
+    errand-first false c d u e v apart alone stays ready ps q = rw (q, or-nothing c, stays refl) (λ f a n. (f, a, n, refl))
+    errand-first true true d u e v apart alone stays ready ps q = subst (λ (r : Post). On (post m s k true u d v) ps r)
+        (post-same k (walkers m s (chosen m 0 k) (chosen m 1 k)) _ _ _ _ _ _ (but-first m (apart refl) _ _ _) (but-first m (apart refl) _ _ _) refl)
+        (errand-on (post m s k true u d v) refl (carriedAt m 0) (s .count) u e true (pair-first m (apart refl) _ _) (pair-first m (apart refl) _ _) (λ z. clash refl z) ready ps q)
+    errand-first true false d u e v apart alone stays ready ps q = subst (λ (r : Post). On (post m s k false u d v) ps r)
+        (post-same k (walkers m s (chosen m 0 k) (chosen m 1 k)) _ _ _ _ _ _ (but-first m (apart refl) _ _ _) (but-first m (apart refl) _ _ _) (rw (alone refl refl) (omega arith)))
+        (errand-on (post m s k false u d v) refl (carriedAt m 0) (s .count) u e false (pair-first m (apart refl) _ _) (pair-first m (apart refl) _ _) (λ z. rw (alone refl refl) (omega arith)) ready ps q)
 
-      next : Next true m (row s) w ways k (inRow (l .rows) k) e
-      next = came k e b (small e with-slot) (subst (λ (d : Bool). Sits d s l (suc k) e) (chosen-with m k z) sits .1) true z
+    -- the second's
+    errand-second : (h c d : Bool) (e u f : ℕ) → (h ≡ true → d ≡ false → c ≡ true) → (h ≡ false → u ≡ f) → Ready m s h d u f
+        → (ps : List Place) → Errand m s (s .count + 1) h d u f ps → On (post m s k c e d u) ps (post m s k c e (d || h) f)
+    errand-second false c d e u f behind stays ready ps q = rw (q, or-nothing d, stays refl) (λ g a n. (g, a, n, refl))
+    errand-second true c true e u f behind stays ready ps q = subst (λ (r : Post). On (post m s k c e true u) ps r)
+        (post-same k (walkers m s (chosen m 0 k) (chosen m 1 k)) _ _ _ _ _ _ (but-second m _ _ _) (but-second m _ _ _) refl)
+        (errand-on (post m s k c e true u) refl (carriedAt m 1) (s .count + 1) u f true (pair-second m _ _) (pair-second m _ _) (λ z. clash refl z) ready ps q)
+    errand-second true c false e u f behind stays ready ps q = subst (λ (r : Post). On (post m s k c e false u) ps r)
+        (post-same k (walkers m s (chosen m 0 k) (chosen m 1 k)) _ _ _ _ _ _ (but-second m _ _ _) (but-second m _ _ _) (rw (behind refl refl) (omega arith)))
+        (errand-on (post m s k c e false u) refl (carriedAt m 1) (s .count + 1) u f false (pair-second m _ _) (pair-second m _ _) (λ z. rw (behind refl refl) (omega arith)) ready ps q)
 
-      -- and nothing was carried before
-      pub made-sits : chosen m k ≡ false → Sits (chosen m k) s l k noSlot × Meetable m s k none (carriedAt s e)
-      made-sits c = (
-        subst (λ (d : Bool). Sits d s l k noSlot) (sym c) (refl, subst (λ (d : Bool). Open ways d (inRow (l .rows) k) e) c (next .1)),
-        rw (carried-some s (rec .known .proper) e with-slot) (next .2 .0, meets (next .2 .0) (getD (questionOf m) k []) (next .2 .2), (z, ap (state (row s)) (sym (next .2 .1)))),
-      )
+    -- THE MEETING: whoever stands in the stage is there by then
+    module _ (e f : ℕ) (σ : ℕ → ℕ) (meets : Meets (programOf m) (row s) σ (getD (questionOf m) k [])) (seats : Seats m k σ e f) where
+      abbrev before : Stand
+      before = pair m (there (chosen m 0 k) (state (row s) e)) (there (chosen m 1 k) (state (row s) f))
 
-      -- or its object could come to this slot from one of the level before
-      module _ (c : chosen m k ≡ true) where
-        pub kept-meets : Meetable m s k (carriedAt s e) (carriedAt s e)
-        kept-meets = rw (carried-some s (rec .known .proper) e with-slot) (next .2 .0, meets (next .2 .0) (getD (questionOf m) k []) (next .2 .2), ((λ y. ap (state (row s)) (next .2 .1)), refl))
+      -- who is followed with the stage met, for the variable of a cell
+      stood-cell : (v e : ℕ) → (holder m v k ≡ true → σ (carriedAt m v) ≡ e) → (x : ℕ) → x ≡ carriedAt m v
+          → there (chosen m v (suc k)) (state (row s) e) ≡ cond (elem x (vars (getD (questionOf m) k []))) (follow (shared (questionOf m) x) (there (chosen m v k) (state (row s) e)) (state (row s) (σ x))) (there (chosen m v k) (state (row s) e))
+      stood-cell v e seat x q = rw q (⊎-elim
+          (λ (z : holder m v k ≡ true). rw (z, carried-own m (known .model) v k z, seat z, or-right (chosen m v k) true refl) refl)
+          (λ (z : holder m v k ≡ false). rw (z, or-nothing (chosen m v k)) refl) (either (holder m v k)))
 
-        pub kept-joined : Joined ways (l .rows) (s .count) k e
-        kept-joined = let o = subst (λ (d : Bool). Open ways d (inRow (l .rows) k) e) c (next .1) in (o .0, rec .comes .bits (o .0) e (small e with-slot) .0 (o .3) .0, (o .2, o .3))
+      stood-neither : (x : ℕ) → x ≢ carriedAt m 0 → x ≢ carriedAt m 1 → none ≡ cond (elem x (vars (getD (questionOf m) k []))) (follow (shared (questionOf m) x) none (state (row s) (σ x))) none
+      stood-neither x n o = go (elem x (vars (getD (questionOf m) k []))) (shared (questionOf m) x) refl
+        where
+          go : (v c : Bool) → shared (questionOf m) x ≡ c → none ≡ cond v (follow c none (state (row s) (σ x))) none
+          go false c q = refl
+          go true false q = refl
+          go true true q = ⊎-elim (λ z. absurd (n z)) (λ z. absurd (o z)) (carried-only m (known .model) x q)
 
-        module _ (u : ℕ) (h : u < s .count) (j : Joins ways (l .rows) k e u) where
-          pub kept-sits : Sits (chosen m k) s l k u
-          kept-sits = subst (λ (d : Bool). Sits d s l k u) (sym c) (h, j .0)
+      stood-both : pair m (there (chosen m 0 (suc k)) (state (row s) e)) (there (chosen m 1 (suc k)) (state (row s) f)) ≡ stood (questionOf m) (row s) (getD (questionOf m) k []) σ before
+      stood-both = fun-ext (λ x. pair-each m
+          (λ (y z : Option ℕ). z ≡ cond (elem x (vars (getD (questionOf m) k []))) (follow (shared (questionOf m) x) y (state (row s) (σ x))) y)
+          _ _ _ _ x (stood-cell 0 e (seats .0) x) (stood-cell 1 f (seats .1) x) (stood-neither x))
 
-          pub kept-comes : Comes (programOf m) (row s) (state (row s) u) (state (row s) e)
-          kept-comes = rec .comes .bits u e (small e with-slot) .0 (j .1) .2
+      -- who was carried is there still
+      kept : (x o : ℕ) → walkers m s (chosen m 0 k) (chosen m 1 k) x ≡ some o → walkers m s (chosen m 0 (suc k)) (chosen m 1 (suc k)) x ≡ some o
+      kept x = pair-each m (λ (y z : Option ℕ). (o : ℕ) → y ≡ some o → z ≡ some o) _ _ _ _ x (λ q. still (chosen m 0 k) (holder m 0 k) (s .count)) (λ q. still (chosen m 1 k) (holder m 1 k) (s .count + 1)) (λ n p o z. z)
+        where
+          still : (c h : Bool) (a o : ℕ) → there c a ≡ some o → there (c || h) a ≡ some o
+          still true h a o z = z
+          still false h a o z = no-none z
+
+      empty : (x : ℕ) → walkers m s (chosen m 0 k) (chosen m 1 k) x ≡ none → before x ≡ none
+      empty x = pair-each m (λ (y z : Option ℕ). y ≡ none → z ≡ none) _ _ _ _ x (λ q. nothing (chosen m 0 k) (s .count) (state (row s) e)) (λ q. nothing (chosen m 1 k) (s .count + 1) (state (row s) f)) (λ n p z. z)
+        where
+          nothing : (c : Bool) (a b : ℕ) → there c a ≡ none → there c b ≡ none
+          nothing true a b z = no-none (sym z)
+          nothing false a b z = refl
+
+      -- the two objects take part where their variables stand in the stage
+      same-objects : map (acting (λ o. o) (pair m (some (s .count)) (some (s .count + 1))) σ) (names (getD (questionOf m) k [])) ≡ map (acting (λ o. o) (walkers m s (chosen m 0 (suc k)) (chosen m 1 (suc k))) σ) (names (getD (questionOf m) k []))
+      same-objects = map-among _ _ (names (getD (questionOf m) k [])) (λ x i. ap (λ (z : Option ℕ). who z (σ x)) (let v = firsts-among x [] (vars (getD (questionOf m) k [])) i in
+          pair-each m (λ (y z : Option ℕ). y ≡ z) _ _ _ _ x (λ q. now 0 (s .count) x q v) (λ q. now 1 (s .count + 1) x q v) (λ n p. refl)))
+        where
+          now : (v a x : ℕ) → x ≡ carriedAt m v → elem x (vars (getD (questionOf m) k [])) ≡ true → some a ≡ there (chosen m v (suc k)) a
+          now v a x q i = rw (chosen-with m v k (subst (λ (y : ℕ). elem y (vars (getD (questionOf m) k [])) ≡ true) q i)) refl
+
+      meeting-leads : On (post m s k (chosen m 0 (suc k)) e (chosen m 1 (suc k)) f) (meet (suc k) (map (acting (λ o. o) (pair m (some (s .count)) (some (s .count + 1))) σ) (names (getD (questionOf m) k []))) ∷ [])
+          (post m s (suc k) (chosen m 0 (suc k)) e (chosen m 1 (suc k)) f)
+      meeting-leads = rw same-objects
+          (meet-on m (known .model) (row s) (by s) (from s) (known .found) (row s) (λ o. o) own-copy nobody (λ x i l. no-none) (post m s k (chosen m 0 (suc k)) e (chosen m 1 (suc k)) f) more σ meets before stood-both kept empty)
+
+    meeting-on : (e f : ℕ) (ps : List Place) → Met m s k e f ps → On (post m s k (chosen m 0 (suc k)) e (chosen m 1 (suc k)) f) ps (post m s (suc k) (chosen m 0 (suc k)) e (chosen m 1 (suc k)) f)
+    meeting-on e f ps h = rw (h .3) (meeting-leads e f (h .0) (h .1) (h .2))
+
+    -- what is played from post q is played from post p
+    played-on : (p q : Post) (G : List Place → Type 0) → ((ps : List Place) → G ps → On p ps q) → (most few : ℕ) (run₀ run run′ : List ℕ) (at at′ : ℕ)
+        → Written (PlaysFrom m (row s) nobody q) most run₀ 0 run at → Written G few run at run′ at′ → Written (PlaysFrom m (row s) nobody p) (few + most) run₀ 0 run′ at′
+    played-on p q G leads = written-on (PlaysFrom m (row s) nobody q) G (PlaysFrom m (row s) nobody p)
+        (λ ps qs g h. plays-on m (known .model) (row s) (by s) (from s) (known .found) (row s) (λ o. o) own-copy nobody (λ x i l. no-none) p q ps qs (leads ps g) h)
+
+-- an errand has at most one step for each state
+pub effort-most : (n : ℕ) (h c : Bool) → effort n h c ≤ n
+effort-most n false c = omega arith
+effort-most n true false = omega arith
+effort-most n true true = omega arith
+
+-- how many steps a carried object may have taken, with an errand more
+ahead-more : (n k : ℕ) (h c : Bool) → effort n h c + ahead n k c ≤ ahead n (suc k) (c || h)
+ahead-more n k false true = omega arith
+ahead-more n k false false = omega arith
+ahead-more n k true true = omega arith
+ahead-more n k true false = omega arith
+
+module _ (m : Model) (w : List ℕ) (s : States) (rows table steps ways : List ℕ) (rec : Recorded m w s rows table steps ways) where
+  -- a variable of the stage has its slot
+  seated-in : (h : Bool) (σ : ℕ → ℕ) (x e : ℕ) → Seated h σ x e → h ≡ true → σ x ≡ e
+  seated-in true σ x e seat q = seat
+  seated-in false σ x e seat q = clash q refl
+
+  -- HOW A PAIR CAME to level k + 1
+  module _ (k e f : ℕ) (here : k < m .stagecount) (sits : Sits rows (suc k) e f) where
+    next : Next m (row s) w ways k (pairAt rows k) e f
+    next = rec .levels .stages k here .pairs e f (sits .0) (sits .1) .0 (sits .2)
+
+    pub came-from : (u v : ℕ) × LeadsTo m rows ways k e f u v
+    came-from = let n = next .0 in (n .0, n .1, ((n .2, n .3, n .4), n .5, n .6))
+
+    pub came-met : (σ : ℕ → ℕ) × Shows (row s) (tableOf w) σ (getD (questionOf m) k []) × Seats m k σ e f
+    came-met = let n = next .1 in (n .0, n .1, (seated-in (holder m 0 k) (n .0) (carriedAt m 0) e (n .2), seated-in (holder m 1 k) (n .0) (carriedAt m 1) f (n .3)))
+
+    -- each object can do its errand
+    ready : (v u e : ℕ) → e < 128 → (holder m v k ≡ true → came-met .0 (carriedAt m v) ≡ e) → Moved ways (holder m v k) (chosen m v k) u e → Ready m s (holder m v k) (chosen m v k) u e
+    ready v u e l seat = go (holder m v k) refl (chosen m v k)
+      where
+        go : (h : Bool) → holder m v k ≡ h → (c : Bool) → Moved ways h c u e → Ready m s h c u e
+        go false q c moved = tt
+        go true q false moved = omega (arith, seat q, came-met .1 .0 (carriedAt m v) q, length-row s (rec .known .proper))
+        go true q true moved = rec .comes .bits u e l .0 moved
+
+    module _ (u v : ℕ) (leads : LeadsTo m rows ways k e f u v) where
+      pub ready-first : Ready m s (holder m 0 k) (chosen m 0 k) u e
+      ready-first = ready 0 u e (sits .0) (came-met .2 .0) (leads .1)
+
+      pub ready-second : Ready m s (holder m 1 k) (chosen m 1 k) v f
+      ready-second = ready 1 v f (sits .1) (came-met .2 .1) (leads .2)
 
   module _ (run₀ : List ℕ) where
-    -- THE LAST: a slot of the last level
-    pub behind-start : (e : ℕ) → Sits (chosen m (m .stagecount)) s l (m .stagecount) e → Behind m s l run₀ run₀ (m .stagecount) e 0
-    behind-start e h = record {
+    -- THE LAST: a pair of the last level
+    pub behind-start : (e f : ℕ) → Sits rows (m .stagecount) e f → Behind m s rows run₀ run₀ (m .stagecount) e f 0
+    behind-start e f h = record {
       level = omega arith;
       sits = h;
       most = 0;
-      played = record { places = []; plays = ends (carriedAt s e); numerable = tt; written = sym (backwards-none run₀ 0); index = refl; few = omega arith };
-      few = fits (carriedAt s e);
+      played = record { places = []; good = λ d a n. sym (stages m (rec .known .model)); few = omega arith; numerable = tt; written = sym (backwards-none run₀ 0); index = omega arith };
+      few = fits (chosen m 0 (m .stagecount)) (chosen m 1 (m .stagecount));
     }
       where
-        ends : (c : Option ℕ) → standing m s (m .stagecount) c .met ≡ length (questionOf m)
-        ends none = sym (stages m (rec .known .model))
-        ends (some c) = sym (stages m (rec .known .model))
+        fits : (c d : Bool) → 0 + m .stagecount + ahead (s .count) (m .stagecount) c + ahead (s .count) (m .stagecount) d ≤ m .stagecount + limit.carried * suc (m .stagecount * (s .count - 1))
+        fits true true = omega arith
+        fits true false = omega arith
+        fits false true = omega arith
+        fits false false = omega arith
 
-        fits : (c : Option ℕ) → 0 + ahead (s .count) (m .stagecount) c ≤ m .stagecount + suc (m .stagecount * (s .count - 1))
-        fits none = omega arith
-        fits (some c) = omega arith
+    -- few places are written
+    behind-few : (run : List ℕ) (i e f at : ℕ) (h : Behind m s rows run₀ run i e f at) → h .most ≤ limit.carried * limit.walked + limit.stages
+    behind-few run i e f at h = let a = h .few in let b = rec .known .model .stages in let c = rec .known .proper .count in omega (arith, mul-le-mul b (let k : s .count - 1 ≤ 126 = omega arith in k))
 
-    -- at most 509 places are written
-    pub behind-few : (run : List ℕ) (i e at : ℕ) (h : Behind m s l run₀ run i e at) → h .most ≤ 509
-    behind-few run i e at h = let a = h .few in let b = rec .known .model .stages in let c = rec .known .proper .count in omega (arith, mul-le-mul b (let k : s .count - 1 ≤ 126 = omega arith in k))
+    pub behind-index : (run : List ℕ) (i e f at : ℕ) → Behind m s rows run₀ run i e f at → at ≤ limit.carried * limit.walked + limit.stages
+    behind-index run i e f at h = omega (arith, behind-few run i e f at h, h .played .index, h .played .few)
 
-    pub behind-index : (run : List ℕ) (i e at : ℕ) → Behind m s l run₀ run i e at → at ≤ 509
-    behind-index run i e at h = omega (arith, behind-few run i e at h, h .played .index, h .played .few)
-
-    -- THE FIRST: with no stage met nothing is carried
-    pub behind-end : (run : List ℕ) (i e at : ℕ) → i ≡ 0 → Behind m s l run₀ run i e at → Walked m s run₀ run at
-    behind-end run i e at z h = go (subst (λ (n : ℕ). Behind m s l run₀ run n e at) z h)
+    -- THE FIRST: with no stage met no object is carried
+    pub behind-end : (run : List ℕ) (i e f at : ℕ) → i ≡ 0 → Behind m s rows run₀ run i e f at → Walked m s run₀ run at
+    behind-end run i e f at z h = go (subst (λ (n : ℕ). Behind m s rows run₀ run n e f at) z h)
       where
-        go : Behind m s l run₀ run 0 e at → Walked m s run₀ run at
+        nothing : (x : ℕ) → pair m none none x ≡ none
+        nothing x = pair-each m (λ (y z : Option ℕ). y ≡ none) none none none none x (λ q. refl) (λ q. refl) (λ n p. refl)
+
+        begin : Walking (row s) nobody (row s) (pair m none none) (pair m none none)
+        begin = subst (λ (f : Stand). Walking (row s) nobody (row s) f f) (sym (fun-ext nothing))
+            (record { grown = omega arith; each = λ x. tt; apart = λ x y o n p q. no-none p; stays = λ o l n. refl; old = λ x o q l. no-none q })
+
+        go : Behind m s rows run₀ run 0 e f at → Walked m s run₀ run at
         go k =
-            let p = subst (λ (u : ℕ). Played m (standing m s 0 (carriedAt s u)) (k .most) run₀ run at) (k .sits .0) (k .played) in
-            record { places = p .places; plays = p .plays; numerable = p .numerable; written = p .written; index = p .index; few = omega (arith, p .few, behind-few run 0 e at k) }
+            let p = k .played in
+            record { places = p .places; good = subst (λ (g : ℕ → Option ℕ). Plays (programOf m) (questionOf m) (session (row s) 0 g) (p .places)) (fun-ext nothing) (p .good (row s) begin (length-row s (rec .known .proper) ∙ omega arith)); few = omega (arith, p .few, behind-few run 0 e f at k); numerable = p .numerable; written = p .written; index = p .index }
 
     -- a level that is not the first, with the one before
-    pub behind-level : (run : List ℕ) (i e at : ℕ) → 0 < i → Behind m s l run₀ run i e at → Behind m s l run₀ run (suc (i - 1)) e at
-    behind-level run i e at p h = let z : i ≡ suc (i - 1) = omega arith in subst (λ (n : ℕ). Behind m s l run₀ run n e at) z h
+    pub behind-level : (run : List ℕ) (i e f at : ℕ) → 0 < i → Behind m s rows run₀ run i e f at → Behind m s rows run₀ run (suc (i - 1)) e f at
+    behind-level run i e f at p h = let z : i ≡ suc (i - 1) = omega arith in subst (λ (n : ℕ). Behind m s rows run₀ run n e f at) z h
 
-    -- ONE STAGE BACK
-    module _ (run : List ℕ) (k e at : ℕ) (h : Behind m s l run₀ run (suc k) e at) where
-      here : k < m .stagecount
-      here = h .level
+    -- ONE STAGE BACK: its meeting is written, then the second object's errand, then the first's
+    pub behind-back : (run run₁ run₂ run₃ : List ℕ) (k e f u v at at₁ at₂ at₃ : ℕ) → Behind m s rows run₀ run (suc k) e f at → LeadsTo m rows ways k e f u v
+        → Written (Met m s k e f) 1 run at run₁ at₁
+        → Written (Errand m s (s .count + 1) (holder m 1 k) (chosen m 1 k) v f) (effort (s .count) (holder m 1 k) (chosen m 1 k)) run₁ at₁ run₂ at₂
+        → Written (Errand m s (s .count) (holder m 0 k) (chosen m 0 k) u e) (effort (s .count) (holder m 0 k) (chosen m 0 k)) run₂ at₂ run₃ at₃
+        → Behind m s rows run₀ run₃ k u v at₃
+    behind-back run run₁ run₂ run₃ k e f u v at at₁ at₂ at₃ h leads met second first = record {
+      level = omega (arith, h .level);
+      sits = leads .0;
+      most = effort (s .count) (holder m 0 k) (chosen m 0 k) + (effort (s .count) (holder m 1 k) (chosen m 1 k) + (1 + h .most));
+      played = played-on m w s (rec .known) k here (post m s k (chosen m 0 k) u (chosen m 1 k) v) (post m s k (chosen m 0 (suc k)) e (chosen m 1 k) v) _
+          (errand-first m w s (rec .known) k here (holder m 0 k) (chosen m 0 k) (chosen m 1 k) u e v (variables-apart m (rec .known .model) k) (λ y z. alone z) (stays (holder m 0 k) (chosen m 0 k) u e (leads .1)) (ready-first k e f here (h .sits) u v leads))
+          _ _ run₀ run₂ run₃ at₂ at₃
+          (played-on m w s (rec .known) k here (post m s k (chosen m 0 (suc k)) e (chosen m 1 k) v) (post m s k (chosen m 0 (suc k)) e (chosen m 1 (suc k)) f) _
+          (errand-second m w s (rec .known) k here (holder m 1 k) (chosen m 0 (suc k)) (chosen m 1 k) e v f (λ y z. first-there m (rec .known .model) (suc k) (chosen-with m 1 k y)) (stays (holder m 1 k) (chosen m 1 k) v f (leads .2)) (ready-second k e f here (h .sits) u v leads))
+          _ _ run₀ run₁ run₂ at₁ at₂
+          (played-on m w s (rec .known) k here (post m s k (chosen m 0 (suc k)) e (chosen m 1 (suc k)) f) (post m s (suc k) (chosen m 0 (suc k)) e (chosen m 1 (suc k)) f) _ (meeting-on m w s (rec .known) k here e f) _ _ run₀ run run₁ at at₁ (h .played) met) second) first;
+      few = omega (arith, h .few, ahead-more (s .count) k (holder m 0 k) (chosen m 0 k), ahead-more (s .count) k (holder m 1 k) (chosen m 1 k));
+    }
+      where
+        here : k < m .stagecount
+        here = h .level
 
-      behind-by : (d most : ℕ) (run′ : List ℕ) (at′ : ℕ) → Sits (chosen m k) s l k d → Played m (standing m s k (carriedAt s d)) most run₀ run′ at′
-          → most + ahead (s .count) k (carriedAt s d) ≤ h .most + ahead (s .count) (suc k) (carriedAt s e) → Behind m s l run₀ run′ k d at′
-      behind-by d most run′ at′ sits p f = record { level = omega (arith, h .level); sits = sits; most = most; played = p; few = omega (arith, f, h .few) }
+        -- where the first object is made, the second is not there yet
+        alone : chosen m 0 k ≡ false → chosen m 1 k ≡ false
+        alone z = ⊎-elim (λ q. clash (first-there m (rec .known .model) k q) z) (λ q. q) (either (chosen m 1 k))
 
-      -- the stage is met without the carried variable
-      pub back-without : holder m k ≡ false → (run′ : List ℕ) (at′ : ℕ)
-          → Leg m (standing m s k (carriedAt s e)) (standing m s (suc k) (carriedAt s e)) (suc (effort (s .count) (carriedAt s e) (carriedAt s e))) run at run′ at′ → Behind m s l run₀ run′ k e at′
-      back-without z run′ at′ g = behind-by e _ run′ at′ (without-sits k e here (h .sits) z .0) (played-on m _ _ _ (h .most) run₀ run run′ at at′ g (h .played)) (fits (carriedAt s e))
-        where
-          fits : (c : Option ℕ) → suc (effort (s .count) c c) + h .most + ahead (s .count) k c ≤ h .most + ahead (s .count) (suc k) c
-          fits none = omega arith
-          fits (some c) = omega arith
-
-      module _ (z : holder m k ≡ true) where
-        -- the carried object is made for it
-        pub back-made : chosen m k ≡ false → (run′ : List ℕ) (at′ : ℕ)
-            → Leg m (standing m s k none) (standing m s (suc k) (carriedAt s e)) (suc (effort (s .count) none (carriedAt s e))) run at run′ at′ → Behind m s l run₀ run′ k noSlot at′
-        back-made c run′ at′ g = behind-by noSlot _ run′ at′ (made-sits k e here (h .sits) z c .0) (played-on m _ _ _ (h .most) run₀ run run′ at at′ g (h .played))
-            (rw (carried-some s (rec .known .proper) e (with-slot k e here (h .sits) z)) (omega arith))
-
-        -- the carried object comes to it
-        pub back-kept : chosen m k ≡ true → (u : ℕ) → u < s .count → Joins ways (l .rows) k e u → (run′ run″ : List ℕ) (at′ at″ : ℕ)
-            → Leg m (standing m s k (carriedAt s e)) (standing m s (suc k) (carriedAt s e)) (suc (effort (s .count) (carriedAt s e) (carriedAt s e))) run at run′ at′
-            → Leg m (standing m s k (some (state (row s) u))) (standing m s k (some (state (row s) e))) (s .count - 1) run′ at′ run″ at″ → Behind m s l run₀ run″ k u at″
-        back-kept c u b j run′ run″ at′ at″ g f = behind-by u _ run″ at″ (kept-sits k e here (h .sits) z c u b j)
-            (played-on m (standing m s k (carriedAt s u)) (standing m s k (carriedAt s e)) (s .count - 1) (suc (effort (s .count) (carriedAt s e) (carriedAt s e)) + h .most) run₀ run′ run″ at′ at″
-            (rw (carried-some s (rec .known .proper) u b, carried-some s (rec .known .proper) e slot) f) (played-on m _ _ _ (h .most) run₀ run run′ at at′ g (h .played)))
-            (rw (carried-some s (rec .known .proper) u b, carried-some s (rec .known .proper) e slot) (omega arith))
-          where
-            slot : e < s .count
-            slot = with-slot k e here (h .sits) z
+        stays : (d c : Bool) (a b : ℕ) → Moved ways d c a b → d ≡ false → a ≡ b
+        stays false c a b moved q = moved
+        stays true c a b moved q = clash refl q

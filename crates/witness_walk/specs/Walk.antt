@@ -1,16 +1,16 @@
--- THE WALK of the carried object along the levels, from a slot of the last level back.
--- A slot is a place in the row of found states.
+-- THE WALK of the carried objects along the levels, from a pair of slots of the last level back.
+-- A slot is a place in the row of found states. One object of each state stands by; the first carried variable's object is made behind them, and then the second's.
 use mathlib.Core.Path.{_≡_}
 use mathlib.Core.Bool.{Bool, true, false, cond}
-use mathlib.Core.List.{List}
+use mathlib.Core.List.{List, []}
 use mathlib.Core.Option.{Option, none, some}
 use Prim.Native.Nat.{ℕ, suc, _+_, _-_, _*_, _≤_, _<_}
-use lib.Dec.{eqb}
 use lib.ListN.{length}
-use Rattle.semantics.specs.Facts.{state}
-use Rattle.semantics.specs.Runs.{Place, Session, nobody, Plays}
-use Rattle.semantics.specs.Building.{session}
-use Rattle.semantics.specs.Walkers.{Whole, Comes}
+use Rattle.limits.specs.Limits as limit
+use Rattle.semantics.specs.Facts.{Database, state}
+use Rattle.semantics.specs.Runs.{Place, nobody, Plays}
+use Rattle.semantics.specs.Building.{session, places, with}
+use Rattle.semantics.specs.Walkers.{Whole, Way, Comes, Stand, Walking}
 use Rattle.model.specs.declared.Model.{Model}
 use Rattle.model.specs.Records.{programOf, questionOf}
 use Rattle.facts_bits.specs.Bits.{inRow}
@@ -18,10 +18,9 @@ use Rattle.search_states.specs.declared.States.{States}
 use Rattle.search_states.specs.States.{row}
 use Rattle.search_ways.specs.Moves.{Marks, CanTake}
 use Rattle.search_ways.specs.Steps.{Between, OneStep}
-use Rattle.search_levels.specs.declared.Levels.{Levels}
-use Rattle.search_levels.specs.Levels.{chosen, Filled}
-use Rattle.witness_table.specs.Runs.{AllNumerable, backwards}
-use Rattle.witness_meetings.specs.Legs.{Known, standing}
+use Rattle.search_levels.specs.Levels.{holder, chosen, pairAt, Moved, Filled}
+use Rattle.witness_lineage.specs.Lineage.{making}
+use Rattle.witness_meetings.specs.Meetings.{Known, Written, pair}
 
 -- no line adds a state, and the tables have the moves and the single steps between the found states
 pub record Mapped (m : Model) (s : States) (table steps : List ℕ) : Type 0 where
@@ -31,49 +30,87 @@ pub record Mapped (m : Model) (s : States) (table steps : List ℕ) : Type 0 whe
   pub stepped : length steps ≡ 2048
   pub single : Marks steps (Between (s .count) (OneStep (programOf m) (row s)))
 
--- WHAT THE SEARCH RECORDED: the states with their facts and moves, who can come from which to which, and the slots of each level
-pub record Recorded (m : Model) (w : List ℕ) (s : States) (l : Levels) (table steps ways : List ℕ) : Type 0 where
+-- WHAT THE SEARCH RECORDED: the states with their facts and moves, who can come from which to which, and the pairs of each level
+pub record Recorded (m : Model) (w : List ℕ) (s : States) (rows table steps ways : List ℕ) : Type 0 where
   pub known : Known m w s
   pub mapped : Mapped m s table steps
   pub long : length ways ≡ 2048
   pub comes : Marks ways (Between (s .count) (λ e t. Comes (programOf m) (row s) (state (row s) e) (state (row s) t)))
-  pub levels : Filled m (row s) w ways l
+  pub levels : Filled m (row s) w ways (record { rows = rows })
 
--- the number in the place of a slot as long as nothing is carried
-abbrev pub noSlot : ℕ
-noSlot = 255
+-- ERRANDS: what a carried object does before a stage is met. Whether its variable stands in the stage, and whether it stood in one before, decide it.
+-- It can come to slot e: where it is made, e is the slot of a state, and where it was in slot u, it can come to e from there.
+abbrev pub Ready : Model → States → Bool → Bool → ℕ → ℕ → Type 0
+Ready m s false began u e = Unit {0}
+Ready m s true false u e = e < s .count
+Ready m s true true u e = Between (s .count) (λ i j. Comes (programOf m) (row s) (state (row s) i) (state (row s) j)) u e
 
--- what is carried, by its slot
-abbrev pub carriedAt : States → ℕ → Option ℕ
-carriedAt s e = cond (eqb e noSlot) none (some (state (row s) e))
+-- the places by which object o comes to slot e: none, its making, or a way from slot u
+abbrev pub Errand : Model → States → ℕ → Bool → Bool → ℕ → ℕ → List Place → Type 0
+Errand m s o false began u e ps = ps ≡ []
+Errand m s o true false u e ps = ps ≡ making m s o e
+Errand m s o true true u e ps = (ls : List ℕ) × Way (programOf m) (row s) (state (row s) u) ls (state (row s) e) × (ps ≡ places (with o ls))
 
--- e is a slot of level i; as long as nothing is carried there is none, and bit 0 says that the stages can be met
-abbrev pub Sits : Bool → States → Levels → ℕ → ℕ → Type 0
-Sits true s l i e = (e < s .count) × (inRow (l .rows) i e ≡ true)
-Sits false s l i e = (e ≡ noSlot) × (inRow (l .rows) i 0 ≡ true)
+-- how many these are at most, where there are n states
+abbrev pub effort : ℕ → Bool → Bool → ℕ
+effort n false began = 0
+effort n true false = n
+effort n true true = n - 1
 
--- PLAYED FROM a TO THE END in at most that many places, which are written the last first; index `at` is the next
-pub record Played (m : Model) (a : Session) (most : ℕ) (run₀ run : List ℕ) (at : ℕ) : Type 0 where
-  pub places : List Place
-  pub plays : Plays (programOf m) (questionOf m) a places
-  pub numerable : AllNumerable places
-  pub written : run ≡ backwards run₀ 0 places
-  pub index : at ≡ length places
-  pub few : length places ≤ most
+-- A POST of the run: the stages met, the objects that their meetings carried, the states of the walkers and their objects, and how many objects there are
+pub record Post : Type 0 where
+  pub met : ℕ
+  pub carried : ℕ → Option ℕ
+  pub states : Stand
+  pub objects : ℕ → Option ℕ
+  pub many : ℕ
 
--- The places that may come before level i, where there are n states: a meeting for each stage. Where an object is carried also n steps for its making, and n - 1 before each later meeting: together 1 + i (n - 1).
-abbrev pub ahead : ℕ → ℕ → Option ℕ → ℕ
-ahead n i none = i
-ahead n i (some c) = i + suc (i * (n - 1))
+-- the places are played to the end from the post, whatever database that came from B, with the walkers w₀, it is reached with
+abbrev pub PlaysFrom : Model → Database → (ℕ → Option ℕ) → Post → List Place → Type 0
+PlaysFrom m B w₀ p ps = (d : Database) → Walking B w₀ d (p .states) (p .objects) → length d ≡ p .many → Plays (programOf m) (questionOf m) (session d (p .met) (p .carried)) ps
 
--- BEHIND slot e of level i the run is written: it is played from there to its end, and what is still to come fits
-pub record Behind (m : Model) (s : States) (l : Levels) (run₀ run : List ℕ) (i e at : ℕ) : Type 0 where
+-- x where there is an object
+abbrev pub there : Bool → ℕ → Option ℕ
+there c x = cond c (some x) none
+
+-- the objects of the two carried variables, where c and d say whether these are there
+abbrev pub walkers : Model → States → Bool → Bool → ℕ → Option ℕ
+walkers m s c d = pair m (there c (s .count)) (there d (s .count + 1))
+
+-- the post with i stages met and the carried objects in slots e and f, as far as they are there
+abbrev pub post : Model → States → ℕ → Bool → ℕ → Bool → ℕ → Post
+post m s i c e d f = record {
+  met = i;
+  carried = walkers m s (chosen m 0 i) (chosen m 1 i);
+  states = pair m (there c (state (row s) e)) (there d (state (row s) f));
+  objects = walkers m s c d;
+  many = s .count + cond c 1 0 + cond d 1 0;
+}
+
+-- the pair of slots e f is on level i
+abbrev pub Sits : List ℕ → ℕ → ℕ → ℕ → Type 0
+Sits rows i e f = (e < 128) × (f < 128) × (pairAt rows i e f ≡ true)
+
+-- the pair u v of level k leads to the pair e f of the next level
+abbrev pub LeadsTo : Model → List ℕ → List ℕ → ℕ → ℕ → ℕ → ℕ → ℕ → Type 0
+LeadsTo m rows ways k e f u v = Sits rows k u v × Moved ways (holder m 0 k) (chosen m 0 k) u e × Moved ways (holder m 1 k) (chosen m 1 k) v f
+
+-- slot u of row j goes with an object that can go from it to slot e
+abbrev pub Source : List ℕ → List ℕ → ℕ → Bool → Bool → ℕ → ℕ → Type 0
+Source rows ways j stands began e u = (inRow rows j u ≡ true) × Moved ways stands began u e
+
+-- the steps that a carried object may have taken before level i, where there are n states: n for its making, and n - 1 before each later meeting, together 1 + i (n - 1)
+abbrev pub ahead : ℕ → ℕ → Bool → ℕ
+ahead n i c = cond c (suc (i * (n - 1))) 0
+
+-- BEHIND the pair e f of level i the run is written: it is played from there to its end, and what is still to come fits
+pub record Behind (m : Model) (s : States) (rows run₀ run : List ℕ) (i e f at : ℕ) : Type 0 where
   pub level : i ≤ m .stagecount
-  pub sits : Sits (chosen m i) s l i e
+  pub sits : Sits rows i e f
   pub most : ℕ
-  pub played : Played m (standing m s i (carriedAt s e)) most run₀ run at
-  pub few : most + ahead (s .count) i (carriedAt s e) ≤ m .stagecount + suc (m .stagecount * (s .count - 1))
+  pub played : Written (PlaysFrom m (row s) nobody (post m s i (chosen m 0 i) e (chosen m 1 i) f)) most run₀ 0 run at
+  pub few : most + i + ahead (s .count) i (chosen m 0 i) + ahead (s .count) i (chosen m 1 i) ≤ m .stagecount + limit.carried * suc (m .stagecount * (s .count - 1))
 
--- THE WALK is written: it is played with one object of each state, and has at most 509 places: 127 steps for the carried object, 3 x 126 between stages, and 4 meetings
+-- THE WALK is written: it is played with one object of each state, and has at most 1,014 places: 505 steps for each carried object, and 4 meetings
 abbrev pub Walked : Model → States → List ℕ → List ℕ → ℕ → Type 0
-Walked m s run run′ r = Played m (session (row s) 0 nobody) 509 run run′ r
+Walked m s run run′ r = Written (Plays (programOf m) (questionOf m) (session (row s) 0 nobody)) (limit.carried * limit.walked + limit.stages) run 0 run′ r

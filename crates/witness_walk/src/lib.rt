@@ -1,73 +1,64 @@
-// The walk of the carried object along the levels, with the meetings, written from its end.
+// The walk of the carried objects along the levels, with the meetings, written from its end.
 use model::Model;
 use model::Place;
-use search_levels::Levels;
 use search_states::States;
 ghost use mathlib.Core.Path.{_≡_};
-ghost use mathlib.Core.Logic.{_⊎_};
+ghost use mathlib.Core.Bool.{true};
 ghost use mathlib.Core.List.{List};
-ghost use mathlib.Core.Option.{some};
-ghost use Prim.Native.Nat.{ℕ, _+_, _-_, _≤_, _<_};
+ghost use Prim.Native.Nat.{ℕ, _+_, _-_, _*_, _≤_, _<_};
 ghost use lib.ListN.{length, take};
 ghost use Rattle.limits.specs.Limits as limit;
-ghost use Rattle.semantics.specs.Facts.{state};
 ghost use Rattle.semantics.specs.Building.{places, with};
-ghost use Rattle.semantics.specs.Walkers.{Comes};
 ghost use Rattle.model.specs.Records.{programOf};
 ghost use Rattle.model.specs.WellFormed.{WellFormed};
 ghost use Rattle.facts_candidates.specs.Choices.{Own};
-ghost use Rattle.search_states.specs.States.{row, Proper};
-ghost use Rattle.search_levels.specs.Levels.{holder, chosen};
+ghost use Rattle.search_states.specs.States.{Proper, Discovered};
+ghost use Rattle.search_ways.specs.Shortest.{Says};
+ghost use Rattle.search_levels.specs.Levels.{holder, chosen, Moved};
 ghost use Rattle.witness_table.specs.Runs.{AllNumerable, backwards};
-ghost use Rattle.witness_meetings.specs.Legs.{entryOf, standing, Leg};
-ghost use Rattle.witness_walk.specs.Walk.{Mapped, Recorded, noSlot, carriedAt, Sits, Behind, Walked};
+ghost use Rattle.witness_meetings.specs.Meetings.{Written};
+ghost use Rattle.witness_walk.specs.Walk.{Mapped, Recorded, Ready, Errand, effort, Sits, LeadsTo, Source, Behind, Walked};
 
-// A level, the carried object's slot there, and the index at which the place before is written.
-pub struct Stand {
-    pub level: usize,
-    pub slot: usize,
-    pub at: usize,
+// The slots of the two carried objects; a slot says nothing as long as its variable stood in no stage.
+pub struct Pair {
+    pub first: usize,
+    pub second: usize,
 }
 
-// What stands in the place of a slot as long as nothing is carried.
-pub const NO_SLOT: usize = 255;
-// The lines that a way has room for.
-const LINES: usize = 128;
+// A level, the slots of the carried objects there, and the index at which the place before is written.
+struct Stand {
+    level: usize,
+    first: usize,
+    second: usize,
+    at: usize,
+}
 
-// Does the carried variable stand in stage k, counted from 0?
-fn holds(m: Model, k: usize) -> bool
-    requires { ⌜ WellFormed m × (k < m .stagecount) ⌝ }
-    ensures { λ r. ⌜ r ≡ holder m k ⌝ }
+// The slots that a row has, and the rows that a matrix has.
+const SLOTS: usize = 128;
+
+// Does the carried variable of cell v stand in stage k, counted from 0?
+fn holds(m: Model, v: usize, k: usize) -> bool
+    requires { ⌜ WellFormed m × (v < limit.carried) × (k < m .stagecount) ⌝ }
+    ensures { λ r. ⌜ r ≡ holder m v k ⌝ }
 {
     let stage = m.stages[k];
     let variables = stage.variables as usize;
-    witness_meetings::spot(stage, m.carried) < variables
+    witness_meetings::spot(stage, m.carried[v]) < variables
 }
 
-// Is an object carried when k stages are met?
-pub fn carries(m: Model, k: usize) -> bool
-    requires { ⌜ WellFormed m × (k ≤ m .stagecount) ⌝ }
-    ensures { λ r. ⌜ r ≡ chosen m k ⌝ }
+// Does it stand in one of the first k stages?
+fn carries(m: Model, v: usize, k: usize) -> bool
+    requires { ⌜ WellFormed m × (v < limit.carried) × (k ≤ m .stagecount) ⌝ }
+    ensures { λ r. ⌜ r ≡ chosen m v k ⌝ }
 {
     let mut i: usize = 0;
     while i < k {
-        if holds(m, i) {
+        if holds(m, v, i) {
             return true;
         }
         i += 1;
     }
     false
-}
-
-// The number that stands for what is carried: 0 for nothing, else 1 more than the state.
-fn carried(s: States, slot: usize) -> u32
-    requires { ⌜ Proper s × ((slot ≡ noSlot) ⊎ (slot < s .count)) ⌝ }
-    ensures { λ r. ⌜ entryOf r ≡ carriedAt s slot ⌝ }
-{
-    if slot == NO_SLOT {
-        return 0;
-    }
-    s.states[slot] + 1
 }
 
 // Writes the first n of the lines as steps of the object, the last first, from index k on. Returns the index behind them.
@@ -86,7 +77,7 @@ fn tell(run: &mut [u32], lines: &[u32], n: usize, object: u32, k: usize) -> usiz
     at
 }
 
-// Writes a shortest way of the carried object from one slot to another, the last step first, from index `at` on. Returns the index behind it.
+// Writes a shortest way of the object from one slot to another, the last step first, from index `at` on. Returns the index behind it.
 fn lead(
     run: &mut [u32],
     m: Model,
@@ -95,83 +86,157 @@ fn lead(
     steps: &[u8],
     from: usize,
     to: usize,
+    object: u32,
     at: usize,
 ) -> usize
-    requires { ⌜ WellFormed m × Proper s × Mapped m s (now table) (now steps) × (from < s .count) × (to < s .count) × Comes (programOf m) (row s) (state (row s) from) (state (row s) to) × (at + s .count ≤ length (now run)) ⌝ }
-    ensures { λ r. ⌜ ((k : ℕ) → k < m .stagecount → Leg m (standing m s k (some (state (row s) from))) (standing m s k (some (state (row s) to))) (s .count - 1) (now (run .entry)) at (now (run .exit)) r) ⌝ }
+    requires { ⌜ WellFormed m × Proper s × Mapped m s (now table) (now steps) × Ready m s true true from to × (object < limit.objects) × (at + s .count ≤ length (now run)) ⌝ }
+    ensures { λ r. ⌜ Written (Errand m s object true true from to) (s .count - 1) (now (run .entry)) at (now (run .exit)) r ⌝ }
 {
-    let mut lines = [0u32; LINES];
+    let mut lines = [0u32; SLOTS];
     let n = search_ways::way(m, s, table, steps, from, to, &mut lines);
-    tell(run, &lines, n, s.count as u32, at)
+    tell(run, &lines, n, object, at)
 }
 
-// Writes the places by which the carried object came to a slot of its level from the level before, and goes back to its slot there.
+// Writes what the object of cell v does before stage k + 1 is met, the last step first, from index `at` on. Returns the index behind it.
+fn errand(
+    run: &mut [u32],
+    m: Model,
+    s: States,
+    table: &[u8],
+    steps: &[u8],
+    v: usize,
+    k: usize,
+    from: usize,
+    to: usize,
+    object: u32,
+    at: usize,
+) -> usize
+    requires { ⌜ WellFormed m × Proper s × Discovered (programOf m) s × Mapped m s (now table) (now steps) × (v < limit.carried) × (k < m .stagecount) × Ready m s (holder m v k) (chosen m v k) from to × (object < limit.objects) × (at + s .count ≤ length (now run)) ⌝ }
+    ensures { λ r. ⌜ Written (Errand m s object (holder m v k) (chosen m v k) from to) (effort (s .count) (holder m v k) (chosen m v k)) (now (run .entry)) at (now (run .exit)) r ⌝ }
+{
+    if !holds(m, v, k) {
+        return at;
+    }
+    if !carries(m, v, k) {
+        return witness_lineage::make(run, m, s, to, object, at);
+    }
+    lead(run, m, s, table, steps, from, to, object, at)
+}
+
+// Can an object go from slot u to slot e before a stage is met?
+fn moves(ways: &[u8], stands: bool, began: bool, u: usize, e: usize) -> bool
+    requires { ⌜ (length (now ways) ≡ 2048) × (u < 128) × (e < 128) ⌝ }
+    ensures { λ r. ⌜ Says r (Moved (now (ways .entry)) stands began u e) ⌝ }
+{
+    if !stands {
+        return u == e;
+    }
+    if !began {
+        return u == 0;
+    }
+    facts_bits::get(ways, u * SLOTS + e)
+}
+
+// The first slot of row j from which an object can go to slot e, or SLOTS where there is none.
+fn source(rows: &[u8], ways: &[u8], j: usize, stands: bool, began: bool, e: usize) -> usize
+    requires { ⌜ (length (now ways) ≡ 2048) × (length (now rows) ≡ 10240) × (j < 640) × (e < 128) ⌝ }
+    ensures found { λ r. ⌜ (r < 128 → Source (now (rows .entry)) (now (ways .entry)) j stands began e r) ⌝ }
+    ensures first { λ r. ⌜ ((u : ℕ) → u < 128 → Source (now (rows .entry)) (now (ways .entry)) j stands began e u → r < 128) ⌝ }
+{
+    let mut u: usize = 0;
+    while u < SLOTS {
+        if facts_bits::get(rows, j * SLOTS + u) {
+            if moves(ways, stands, began, u, e) {
+                return u;
+            }
+        }
+        u += 1;
+    }
+    u
+}
+
+// A pair of level k that leads to a pair of the next level.
+fn previous(rows: &[u8], ways: &[u8], m: Model, k: usize, first: usize, second: usize) -> Pair
+    requires { ⌜ WellFormed m × (k < m .stagecount) × (length (now rows) ≡ 10240) × (length (now ways) ≡ 2048) × (first < 128) × (second < 128) × ((u v : ℕ) × LeadsTo m (now rows) (now ways) k first second u v) ⌝ }
+    ensures { λ r. ⌜ LeadsTo m (now (rows .entry)) (now (ways .entry)) k first second (r .first) (r .second) ⌝ }
+{
+    let one = holds(m, 0, k);
+    let two = holds(m, 1, k);
+    let begun = carries(m, 0, k);
+    let began = carries(m, 1, k);
+    let mut v: usize = 0;
+    while v < SLOTS {
+        if moves(ways, two, began, v, second) {
+            let u = source(rows, ways, SLOTS * k + v, one, begun, first);
+            if u < SLOTS {
+                return Pair {
+                    first: u,
+                    second: v,
+                };
+            }
+        }
+        v += 1;
+    }
+    Pair { first, second }
+}
+
+// Writes the places by which the carried objects came to a pair of their level from the level before, and goes back to their pair there.
 fn back(
     run: &mut [u32],
     work: &[u8],
     slots: &[u8],
     m: Model,
     s: States,
-    l: Levels,
+    rows: &[u8],
     table: &[u8],
     steps: &[u8],
     ways: &[u8],
     p: Stand,
 ) -> Stand
-    requires { ⌜ Recorded m (now work) s l (now table) (now steps) (now ways) × Own 128 (now slots) × (0 < p .level) × (limit.run ≤ length (now run)) × ((run₀ : List ℕ) × Behind m s l run₀ (now run) (p .level) (p .slot) (p .at)) ⌝ }
-    ensures { λ r. ⌜ ((run₀ : List ℕ) → Behind m s l run₀ (now (run .entry)) (p .level) (p .slot) (p .at) → Behind m s l run₀ (now (run .exit)) (r .level) (r .slot) (r .at)) × (r .level < p .level) × (length (now (run .exit)) ≡ length (now (run .entry))) ⌝ }
+    requires { ⌜ Recorded m (now work) s (now rows) (now table) (now steps) (now ways) × Own 128 (now slots) × (0 < p .level) × (limit.run ≤ length (now run)) × ((run₀ : List ℕ) × Behind m s (now rows) run₀ (now run) (p .level) (p .first) (p .second) (p .at)) ⌝ }
+    ensures { λ r. ⌜ ((run₀ : List ℕ) → Behind m s (now (rows .entry)) run₀ (now (run .entry)) (p .level) (p .first) (p .second) (p .at) → Behind m s (now (rows .entry)) run₀ (now (run .exit)) (r .level) (r .first) (r .second) (r .at)) × (r .level < p .level) × (length (now (run .exit)) ≡ length (now (run .entry))) ⌝ }
 {
     let k = p.level - 1;
-    let slot = p.slot;
-    let at = p.at;
-    let now = carried(s, slot);
-    if !holds(m, k) {
-        let met = witness_meetings::meet(run, work, slots, m, s, k, now, now, at);
-        return Stand {
-            level: k,
-            slot,
-            at: met,
-        };
-    }
-    if !carries(m, k) {
-        let made = witness_meetings::meet(run, work, slots, m, s, k, 0, now, at);
-        return Stand {
-            level: k,
-            slot: NO_SLOT,
-            at: made,
-        };
-    }
-    let rows = l.rows;
-    let from = search_ways::before(ways, &rows, s.count, k, slot);
-    let met = witness_meetings::meet(run, work, slots, m, s, k, now, now, at);
-    let led = lead(run, m, s, table, steps, from, slot, met);
+    let first = p.first;
+    let second = p.second;
+    let one = s.count as u32;
+    let two = one + 1;
+    let q = previous(rows, ways, m, k, first, second);
+    let met = witness_meetings::meet(run, work, slots, m, s, k, first, second, p.at);
+    let then = errand(run, m, s, table, steps, 1, k, q.second, second, two, met);
+    let at = errand(run, m, s, table, steps, 0, k, q.first, first, one, then);
     Stand {
         level: k,
-        slot: from,
-        at: led,
+        first: q.first,
+        second: q.second,
+        at,
     }
 }
 
-// Writes the walk to a slot of the last level, the last place first. Returns how many places it has.
+// Writes the walk to a pair of the last level, the last place first. Returns how many places it has.
 pub fn walk(
     run: &mut [u32],
     work: &[u8],
     slots: &[u8],
     m: Model,
     s: States,
-    l: Levels,
+    rows: &[u8],
     table: &[u8],
     steps: &[u8],
     ways: &[u8],
-    slot: usize,
+    goal: Pair,
 ) -> usize
-    requires { ⌜ Recorded m (now work) s l (now table) (now steps) (now ways) × Own 128 (now slots) × Sits (chosen m (m .stagecount)) s l (m .stagecount) slot × (limit.run ≤ length (now run)) ⌝ }
+    requires { ⌜ Recorded m (now work) s (now rows) (now table) (now steps) (now ways) × Own 128 (now slots) × Sits (now rows) (m .stagecount) (goal .first) (goal .second) × (limit.run ≤ length (now run)) ⌝ }
     ensures { λ r. ⌜ Walked m s (now (run .entry)) (now (run .exit)) r ⌝ }
 {
-    let level = m.stagecount;
-    let mut p = Stand { level, slot, at: 0 };
+    let mut p = Stand {
+        level: m.stagecount,
+        first: goal.first,
+        second: goal.second,
+        at: 0,
+    };
     while 0 < p.level {
-        let q = back(run, work, slots, m, s, l, table, steps, ways, p);
+        let q = back(run, work, slots, m, s, rows, table, steps, ways, p);
         p = q;
     }
     p.at

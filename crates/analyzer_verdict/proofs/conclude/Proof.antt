@@ -1,4 +1,4 @@
-use mathlib.Core.Path.{_≡_, refl, sym, subst}
+use mathlib.Core.Path.{_≡_, refl, subst}
 use mathlib.Core.Bool.{true}
 use native.Mathlib.Omega.{arith}
 use borrow.Author.Needs.{needs}
@@ -21,18 +21,22 @@ reached : (c : tie.Else1) → c .before .before .before .before .args .found .re
 reached c = not-false (c .before .before .before .before .args .found .reached) (c .if1 .left)
 
 slice-aggregate-witness : tie.Need-slice-aggregate-witness
-slice-aggregate-witness c = sym (c .before .before .before .before .before .before .before .before .before .before .before .before .pre .1 .moves .tabled)
+slice-aggregate-witness c = search needs
 
 slice-aggregate-witness-2 : tie.Need-slice-aggregate-witness-2
-slice-aggregate-witness-2 c = sym (c .before .before .before .before .before .before .before .before .before .before .before .before .before .pre .1 .moves .stepped)
+slice-aggregate-witness-2 c = search needs
 
 slice-aggregate-witness-3 : tie.Need-slice-aggregate-witness-3
-slice-aggregate-witness-3 c = sym (c .before .before .before .before .before .before .before .before .before .before .before .before .before .before .pre .1 .moves .closed)
+slice-aggregate-witness-3 c = search needs
+
+slice-aggregate-witness-4 : tie.Need-slice-aggregate-witness-4
+slice-aggregate-witness-4 c = search needs
 
 witness-requires : tie.Need-witness-requires
 witness-requires c κs =
-    let s = c .before .before .before .before .before .before .before .before .before .before .before .before .before .before in
-    (recorded (s .args .m) (s .pre .0) (now (s .args .work)) (s .args .found) (s .pre .1), s .pre .1 .entered (reached (c .before .before .before .before .before .before .before .before .before .before)), s .pre .2)
+    let s = c .before .before .before .before .before .before .before .before .before .before .before .before .before .before .before .before in
+    let g = s .pre .1 .entered (reached (c .before .before .before .before .before .before .before .before .before .before .before .before)) in
+    (recorded (s .args .m) (s .pre .0) (now (s .args .work)) (s .args .found) (s .pre .1), (g .0, g .1, (g .2, g .3, g .4)), s .pre .2)
 
 sub-place-of : tie.Need-sub-place-of
 sub-place-of c =
@@ -53,9 +57,9 @@ same-length c = search needs
 
 returns-2 : tie.Need-returns-2
 returns-2 c =
-    let s = c .before .before .before .before .before .before .before .before .before .before .before .before .before .before .before .before .before .before .before in
+    let s = c .before .before .before .before .before .before .before .before .before .before .before .before .before .before .before .before .before .before .before .before .before in
     let w = c .before .before .before .before .witness in (
-      subst (Verdict (programOf (s .args .m)) (questionOf (s .args .m))) (reached (c .before .before .before .before .before .before .before .before .before .before .before .before .before .before .before)) (s .pre .1 .verdict),
+      subst (Verdict (programOf (s .args .m)) (questionOf (s .args .m))) (reached (c .before .before .before .before .before .before .before .before .before .before .before .before .before .before .before .before .before)) (s .pre .1 .verdict),
       shown (s .args .m) (s .pre .0) (now (s .args .run)) _ (w .result) _ (w .ensures) (c .place-of .ensures),
     )
 
@@ -67,6 +71,7 @@ conclude-spec =
     slice-aggregate-witness
     slice-aggregate-witness-2
     slice-aggregate-witness-3
+    slice-aggregate-witness-4
     witness-requires
     sub-place-of
     mul-place-of

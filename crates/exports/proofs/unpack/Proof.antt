@@ -12,7 +12,7 @@ use Rattle.exports.proofs.unpack.Statement.{statement}
 use Rattle.exports.proofs.unpack.Tie as tie
 
 -- the row of cells has its size
-whole : (c : tie.Start) → length (c .args .t1) ≡ 259
+whole : (c : tie.Start) → length (c .args .t1) ≡ 260
 whole c = search needs
 
 -- each cell has 32 bits
@@ -34,28 +34,31 @@ copy-requires c κs = omega (arith, length-take-le 255 (c .before .before .args 
 array-read-t12 : tie.Need-array-read-t12
 array-read-t12 c = search needs
 
-cast-t13 : tie.Need-cast-t13
-cast-t13 c = search needs
+array-read-t15 : tie.Need-array-read-t15
+array-read-t15 c = search needs
 
-array-read-t16 : tie.Need-array-read-t16
-array-read-t16 c = search needs
+array-read-t12-2 : tie.Need-array-read-t12-2
+array-read-t12-2 c = search needs
 
-cast-t17 : tie.Need-cast-t17
-cast-t17 c = search needs
+cast-t19 : tie.Need-cast-t19
+cast-t19 c = search needs
 
-array-read-t20 : tie.Need-array-read-t20
-array-read-t20 c = search needs
+array-read-t15-2 : tie.Need-array-read-t15-2
+array-read-t15-2 c = search needs
 
-array-read-t23 : tie.Need-array-read-t23
-array-read-t23 c = search needs
+cast-t22 : tie.Need-cast-t22
+cast-t22 c = search needs
 
-cast-t24 : tie.Need-cast-t24
-cast-t24 c = search needs
+array-read-t25 : tie.Need-array-read-t25
+array-read-t25 c = search needs
+
+cast-t26 : tie.Need-cast-t26
+cast-t26 c = search needs
 
 returns : tie.Need-returns
 returns c =
     let s = c .before .before .before .before in
-    (rw (c .before .copy .ensures ∙ states-copied (s .args .t1) (whole s)) refl, record { objects = narrow s 255 .fits; met = narrow s 256 .fits; kept = narrow s 258 .fits })
+    (rw (c .before .copy .ensures ∙ states-copied (s .args .t1) (whole s)) refl, record { objects = narrow s 255 .fits; met = narrow s 256 .fits; kept = narrow s 259 .fits })
 
 pub unpack-spec : {M : Type 1} → statement M
 unpack-spec =
@@ -66,10 +69,11 @@ unpack-spec =
     slice-aggregate-copy-2
     copy-requires
     array-read-t12
-    cast-t13
-    array-read-t16
-    cast-t17
-    array-read-t20
-    array-read-t23
-    cast-t24
+    array-read-t15
+    array-read-t12-2
+    cast-t19
+    array-read-t15-2
+    cast-t22
+    array-read-t25
+    cast-t26
     returns)

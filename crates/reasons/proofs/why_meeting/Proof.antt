@@ -1,15 +1,15 @@
 use mathlib.Core.Path.{_≡_, refl, sym, _∙_, subst}
 use mathlib.Core.Logic.{_≢_}
 use mathlib.Core.List.{[], _∷_}
-use Prim.Native.Nat.{ℕ, suc, _≤_}
+use Prim.Native.Nat.{ℕ, suc, _≤_, _<_}
 use native.Mathlib.Omega.{arith}
 use borrow.Author.Needs.{needs}
 use denote.Ref.{now}
-use lib.ListN.{length, take}
+use lib.ListN.{length, take, getD}
 use Rattle.limits.specs.Limits as limit
 use Rattle.semantics.specs.Runs.{meet}
 use Rattle.model.specs.Places.{objects}
-use Rattle.model.specs.Records.{programOf, stageBody}
+use Rattle.model.specs.Records.{programOf, stageBody, carriedAt}
 use Rattle.facts_find.specs.Bodies.{Fixed}
 use Rattle.facts_rests.specs.Rests.{Within}
 use Rattle.replay_session.specs.Sessions.{Says, sessionIn}
@@ -19,7 +19,7 @@ use Rattle.replay_meetings.proofs.Objects.{choice}
 use Rattle.replay_meetings.proofs.Meetings.{lent, of-record, part-within, part-good, part-supported, few-variables, slots-enough}
 use Rattle.reasons_bodies.specs.Blames.{Blames}
 use Rattle.reasons.specs.Reasons.{Swapped, Beyond}
-use Rattle.reasons.proofs.Meetings.{other-stage, other-count, no-object, swapped, stage-literal}
+use Rattle.reasons.proofs.Meetings.{other-stage, other-count, swapped-row, none-swapped, no-object, swapped, stage-literal}
 use Rattle.reasons.proofs.why_meeting.Statement.{statement}
 use Rattle.reasons.proofs.why_meeting.Tie as tie
 
@@ -55,19 +55,16 @@ returns-3 c = let a = c .before .before .before .before .before .before .before 
     let d = of-record m (now (a .numbers)) (now (a .literals)) (plainly m v (sessionIn states (a .at)) (now (a .numbers)) (now (a .literals)) (now (a .slots)) (now (a .work)) (meet (a .stage) (objects (a .first ∷ a .second ∷ a .third ∷ []))) l) (a .at .met) (l .left) (c .before .before .before .before .before .before .stage-at .result) (c .before .before .before .before .before .before .stage-at .ensures) (λ x y. Beyond (choice (a .first) (a .second) (a .third)) (y .variables) (a .at .objects)) (subst (Says _) (c .if3 .taken) (c .before .beyond .ensures)) in
     no-object m (sessionIn states (a .at)) v (now (a .work)) (l .ready) (l .left) (a .first) (a .second) (a .third) (a .stage) next (of-record m (now (a .numbers)) (now (a .literals)) (plainly m v (sessionIn states (a .at)) (now (a .numbers)) (now (a .literals)) (now (a .slots)) (now (a .work)) (meet (a .stage) (objects (a .first ∷ a .second ∷ a .third ∷ []))) l) (a .at .met) (l .left) (c .before .before .before .before .before .before .stage-at .result) (c .before .before .before .before .before .before .stage-at .ensures) (λ x y. length (objects (a .first ∷ a .second ∷ a .third ∷ [])) ≡ y .variables) (sym (c .before .before .before .before .before .count .ensures) ∙ c .before .before .before .if2 .left)) (d .0) (d .1) (d .2)
 
-shared-slice-read-swapped : tie.Need-shared-slice-read-swapped
-shared-slice-read-swapped c = search needs
-
-swapped-requires : tie.Need-swapped-requires
-swapped-requires c κs = let s = c .before .before .before .before .before .before .before .before .before .before .before .before .before in let a = s .args in few-variables (s .pre .0) (now (a .numbers)) (now (a .literals)) (plainly (s .pre .0) (s .pre .1) (sessionIn (s .pre .2) (a .at)) (now (a .numbers)) (now (a .literals)) (now (a .slots)) (now (a .work)) (meet (a .stage) (objects (a .first ∷ a .second ∷ a .third ∷ []))) (s .pre .3)) (a .at .met) ((s .pre .3) .left) (c .before .before .before .before .before .before .before .stage-at .result) (c .before .before .before .before .before .before .before .stage-at .ensures)
+any-swapped-requires : tie.Need-any-swapped-requires
+any-swapped-requires c κs = let s = c .before .before .before .before .before .before .before .before .before .before .before .before .before in let a = s .args in (few-variables (s .pre .0) (now (a .numbers)) (now (a .literals)) (plainly (s .pre .0) (s .pre .1) (sessionIn (s .pre .2) (a .at)) (now (a .numbers)) (now (a .literals)) (now (a .slots)) (now (a .work)) (meet (a .stage) (objects (a .first ∷ a .second ∷ a .third ∷ []))) (s .pre .3)) (a .at .met) ((s .pre .3) .left) (c .before .before .before .before .before .before .before .stage-at .result) (c .before .before .before .before .before .before .before .stage-at .ensures), s .pre .3 .numbered .long)
 
 returns-4 : tie.Need-returns-4
 returns-4 c = let a = c .before .before .before .before .before .before .before .before .before .before .before .before .before .before .before .args in
     let e1 = c .before .before .before .before .before .before .before .before .before .before .if1 .left in
     let next : a .stage ≡ suc (a .at .met) = omega arith in
     λ m v states l.
-    let d = subst (λ (k : ℕ). Swapped (c .before .before .before .before .before .before .before .before .before .stage-at .result) k (a .at .carried) (choice (a .first) (a .second) (a .third))) (l .numbered .carried) (subst (Says _) (c .if4 .taken) (c .before .swapped .ensures)) in
-    swapped m (sessionIn states (a .at)) v (now (a .work)) (l .ready) (l .left) (a .first) (a .second) (a .third) (a .stage) next (of-record m (now (a .numbers)) (now (a .literals)) (plainly m v (sessionIn states (a .at)) (now (a .numbers)) (now (a .literals)) (now (a .slots)) (now (a .work)) (meet (a .stage) (objects (a .first ∷ a .second ∷ a .third ∷ []))) l) (a .at .met) (l .left) (c .before .before .before .before .before .before .before .before .before .stage-at .result) (c .before .before .before .before .before .before .before .before .before .stage-at .ensures) (λ x y. length (objects (a .first ∷ a .second ∷ a .third ∷ [])) ≡ y .variables) (sym (c .before .before .before .before .before .before .before .before .count .ensures) ∙ c .before .before .before .before .before .before .if2 .left)) (of-record m (now (a .numbers)) (now (a .literals)) (plainly m v (sessionIn states (a .at)) (now (a .numbers)) (now (a .literals)) (now (a .slots)) (now (a .work)) (meet (a .stage) (objects (a .first ∷ a .second ∷ a .third ∷ []))) l) (a .at .met) (l .left) (c .before .before .before .before .before .before .before .before .before .stage-at .result) (c .before .before .before .before .before .before .before .before .before .stage-at .ensures) (λ x y. Swapped y (m .carried) (a .at .carried) (choice (a .first) (a .second) (a .third))) d)
+    let d = swapped-row m (now (a .numbers)) (c .before .before .before .before .before .before .before .before .before .stage-at .result) (a .at .carried) (choice (a .first) (a .second) (a .third)) (l .numbered) (subst (Says _) (c .if4 .taken) (c .before .any-swapped .ensures)) in
+    swapped m (sessionIn states (a .at)) v (now (a .work)) (l .ready) (l .left) (a .first) (a .second) (a .third) (a .stage) next (of-record m (now (a .numbers)) (now (a .literals)) (plainly m v (sessionIn states (a .at)) (now (a .numbers)) (now (a .literals)) (now (a .slots)) (now (a .work)) (meet (a .stage) (objects (a .first ∷ a .second ∷ a .third ∷ []))) l) (a .at .met) (l .left) (c .before .before .before .before .before .before .before .before .before .stage-at .result) (c .before .before .before .before .before .before .before .before .before .stage-at .ensures) (λ x y. length (objects (a .first ∷ a .second ∷ a .third ∷ [])) ≡ y .variables) (sym (c .before .before .before .before .before .before .before .before .count .ensures) ∙ c .before .before .before .before .before .before .if2 .left)) (of-record m (now (a .numbers)) (now (a .literals)) (plainly m v (sessionIn states (a .at)) (now (a .numbers)) (now (a .literals)) (now (a .slots)) (now (a .work)) (meet (a .stage) (objects (a .first ∷ a .second ∷ a .third ∷ []))) l) (a .at .met) (l .left) (c .before .before .before .before .before .before .before .before .before .stage-at .result) (c .before .before .before .before .before .before .before .before .before .stage-at .ensures) (λ x y. (u : ℕ) × (u < limit.carried) × Swapped y (carriedAt m u) (getD (a .at .carried) u 0) (choice (a .first) (a .second) (a .third))) d)
 
 blame-requires : tie.Need-blame-requires
 blame-requires c κs = let s = c .before .before .before .before .before .before .before .before .before .before .before .before .before .before .before in
@@ -86,8 +83,8 @@ returns-5 c = let a = c .before .before .before .before .before .before .before 
     let e1 = c .before .before .before .before .before .before .before .before .before .before .before .if1 .left in
     let next : a .stage ≡ suc (a .at .met) = omega arith in
     λ m v states l.
-    let none = subst (λ (k : ℕ). Swapped (c .before .before .before .before .before .before .before .before .before .before .stage-at .result) k (a .at .carried) (choice (a .first) (a .second) (a .third)) → ⊥) (l .numbered .carried) (subst (Says _) (c .before .if4 .left) (c .before .before .swapped .ensures)) in
-    stage-literal m (sessionIn states (a .at)) v (now (a .work)) (l .ready) (l .left) (a .first) (a .second) (a .third) (a .stage) next (of-record m (now (a .numbers)) (now (a .literals)) (plainly m v (sessionIn states (a .at)) (now (a .numbers)) (now (a .literals)) (now (a .slots)) (now (a .work)) (meet (a .stage) (objects (a .first ∷ a .second ∷ a .third ∷ []))) l) (a .at .met) (l .left) (c .before .before .before .before .before .before .before .before .before .before .stage-at .result) (c .before .before .before .before .before .before .before .before .before .before .stage-at .ensures) (λ x y. length (objects (a .first ∷ a .second ∷ a .third ∷ [])) ≡ y .variables) (sym (c .before .before .before .before .before .before .before .before .before .count .ensures) ∙ c .before .before .before .before .before .before .before .if2 .left)) (of-record m (now (a .numbers)) (now (a .literals)) (plainly m v (sessionIn states (a .at)) (now (a .numbers)) (now (a .literals)) (now (a .slots)) (now (a .work)) (meet (a .stage) (objects (a .first ∷ a .second ∷ a .third ∷ []))) l) (a .at .met) (l .left) (c .before .before .before .before .before .before .before .before .before .before .stage-at .result) (c .before .before .before .before .before .before .before .before .before .before .stage-at .ensures) (λ x y. Swapped y (m .carried) (a .at .carried) (choice (a .first) (a .second) (a .third)) → ⊥) none) (c .blame .result)
+    let none = none-swapped m (now (a .numbers)) (c .before .before .before .before .before .before .before .before .before .before .stage-at .result) (a .at .carried) (choice (a .first) (a .second) (a .third)) (l .numbered) (subst (Says _) (c .before .if4 .left) (c .before .before .any-swapped .ensures)) in
+    stage-literal m (sessionIn states (a .at)) v (now (a .work)) (l .ready) (l .left) (a .first) (a .second) (a .third) (a .stage) next (of-record m (now (a .numbers)) (now (a .literals)) (plainly m v (sessionIn states (a .at)) (now (a .numbers)) (now (a .literals)) (now (a .slots)) (now (a .work)) (meet (a .stage) (objects (a .first ∷ a .second ∷ a .third ∷ []))) l) (a .at .met) (l .left) (c .before .before .before .before .before .before .before .before .before .before .stage-at .result) (c .before .before .before .before .before .before .before .before .before .before .stage-at .ensures) (λ x y. length (objects (a .first ∷ a .second ∷ a .third ∷ [])) ≡ y .variables) (sym (c .before .before .before .before .before .before .before .before .before .count .ensures) ∙ c .before .before .before .before .before .before .before .if2 .left)) (of-record m (now (a .numbers)) (now (a .literals)) (plainly m v (sessionIn states (a .at)) (now (a .numbers)) (now (a .literals)) (now (a .slots)) (now (a .work)) (meet (a .stage) (objects (a .first ∷ a .second ∷ a .third ∷ []))) l) (a .at .met) (l .left) (c .before .before .before .before .before .before .before .before .before .before .stage-at .result) (c .before .before .before .before .before .before .before .before .before .before .stage-at .ensures) (λ x y. (u : ℕ) × (u < limit.carried) × Swapped y (carriedAt m u) (getD (a .at .carried) u 0) (choice (a .first) (a .second) (a .third)) → ⊥) none) (c .blame .result)
     (of-record m (now (a .numbers)) (now (a .literals)) (plainly m v (sessionIn states (a .at)) (now (a .numbers)) (now (a .literals)) (now (a .slots)) (now (a .work)) (meet (a .stage) (objects (a .first ∷ a .second ∷ a .third ∷ []))) l) (a .at .met) (l .left) (c .before .before .before .before .before .before .before .before .before .before .stage-at .result) (c .before .before .before .before .before .before .before .before .before .before .stage-at .ensures) (λ x y. ((σ : ℕ → ℕ) → Holding m (sessionIn states (a .at)) (stageBody x y) (y .variables) (choice (a .first) (a .second) (a .third)) σ → ⊥) → Blames (programOf m) (take (a .at .objects) states) (stageBody x y) (Fixed (y .variables) (choice (a .first) (a .second) (a .third))) (c .blame .result))
     (λ no. c .blame .ensures m v (sessionIn states (a .at)) (l .ready) (lent m (now (a .numbers)) (now (a .literals)) (plainly m v (sessionIn states (a .at)) (now (a .numbers)) (now (a .literals)) (now (a .slots)) (now (a .work)) (meet (a .stage) (objects (a .first ∷ a .second ∷ a .third ∷ []))) l) (a .at .met) (l .left) (c .before .before .before .before .before .before .before .before .before .before .stage-at .result) (c .before .before .before .before .before .before .before .before .before .before .stage-at .ensures) (λ x y. Within (l .ready .relations) (stageBody x y)) (l .rests (a .at .met) (l .left) next)) (l .seats) refl no))
 
@@ -103,8 +100,7 @@ why-meeting-spec =
     cast-beyond
     beyond-requires
     returns-3
-    shared-slice-read-swapped
-    swapped-requires
+    any-swapped-requires
     returns-4
     blame-requires
     returns-5)

@@ -1,23 +1,24 @@
 use mathlib.Core.Path.{_≡_, refl, sym, _∙_, subst}
 use mathlib.Core.Logic.{inl, _≢_}
 use mathlib.Core.List.{[], _∷_}
-use Prim.Native.Nat.{ℕ, suc, _+_}
+use Prim.Native.Nat.{ℕ, suc, _+_, _<_}
 use native.Mathlib.Omega.{arith}
 use borrow.Author.Tests.{not-true, not-false}
 use denote.Ref.{now}
-use lib.ListN.{length}
+use lib.ListN.{length, getD}
+use Rattle.limits.specs.Limits as limit
 use Rattle.semantics.specs.Runs.{meet}
 use Rattle.model.specs.Places.{objects}
-use Rattle.model.specs.Records.{stageBody}
+use Rattle.model.specs.Records.{stageBody, carriedAt}
 use Rattle.facts_find.specs.declared.Found.the-variants.{At, Nowhere}
 use Rattle.facts_find.specs.Bodies.{Decides}
 use Rattle.facts_rests.specs.Rests.{Within}
 use Rattle.replay_session.specs.Sessions.{Says, sessionIn}
 use Rattle.replay_steps.specs.Tries.{Holding}
 use Rattle.replay_steps.proofs.Steps.{plainly, left-as-before}
-use Rattle.replay_meetings.specs.Carried.{Named, Agrees, carriedOn}
-use Rattle.replay_meetings.proofs.Objects.{choice}
-use Rattle.replay_meetings.proofs.Meetings.{named-small, lent, of-record, part-within, part-good, part-supported, few-variables, slots-enough, other-stage, other-count, not-held, disagrees, meeting-kept, kept-states}
+use Rattle.replay_meetings.specs.Carried.{Named, AllAgree}
+use Rattle.replay_meetings.proofs.Objects.{choice, chosen-small}
+use Rattle.replay_meetings.proofs.Meetings.{named-row, lent, of-record, part-within, part-good, part-supported, few-variables, slots-enough, other-stage, other-count, not-held, disagrees, meeting-kept, kept-states}
 use borrow.Author.Needs.{needs}
 use Rattle.replay_meetings.proofs.meet_place.Statement.{statement}
 use Rattle.replay_meetings.proofs.meet_place.Tie as tie
@@ -62,11 +63,8 @@ returns-2 c =
       c .disallow2 .ensures .1,
     )
 
-shared-slice-read-named : tie.Need-shared-slice-read-named
-shared-slice-read-named c = search needs
-
-named-requires : tie.Need-named-requires
-named-requires c κs =
+all-named-requires : tie.Need-all-named-requires
+all-named-requires c κs =
     let s = c .before .before .before .before .before .before .before .before .before .before in
     let a = s .args in
     let m = s .pre .0 .0 in
@@ -74,16 +72,10 @@ named-requires c κs =
     let z = sessionIn (s .pre .0 .2) (a .at) in
     let l = s .pre .0 .3 in
     let g = c .before .before .before .before .stage-at in
-    few-variables m (now (a .numbers)) (now (a .literals)) (plainly m v z (now (a .numbers)) (now (a .literals)) (now (a .slots)) (now (a .work)) (meet (a .stage) (objects (a .first ∷ a .second ∷ a .third ∷ []))) l) (a .at .met) (l .left) (g .result) (g .ensures)
+    (few-variables m (now (a .numbers)) (now (a .literals)) (plainly m v z (now (a .numbers)) (now (a .literals)) (now (a .slots)) (now (a .work)) (meet (a .stage) (objects (a .first ∷ a .second ∷ a .third ∷ []))) l) (a .at .met) (l .left) (g .result) (g .ensures), l .numbered .long, λ x. chosen-small (a .first) (a .second) (a .third) x (s .pre .1) (s .pre .2) (s .pre .3))
 
-cast-object : tie.Need-cast-object
-cast-object c =
-    let s = c .before .before .before .before .before .before .before .before .before .before .before in
-    let a = s .args in
-    record { fits = omega (arith, named-small (c .before .before .before .before .before .stage-at .result) _ (a .first) (a .second) (a .third) (c .named .result) (s .pre .1) (s .pre .2) (s .pre .3) (c .named .ensures)) }
-
-agrees-requires : tie.Need-agrees-requires
-agrees-requires c κs = search needs
+all-agree-requires : tie.Need-all-agree-requires
+all-agree-requires c κs = search needs
 
 disallow-requires-3 : tie.Need-disallow-requires-3
 disallow-requires-3 c κs = search needs
@@ -99,9 +91,9 @@ returns-3 c =
       (λ m v states l.
           let z = sessionIn states (a .at) in
           let many = of-record m (now (a .numbers)) (now (a .literals)) (plainly m v z (now (a .numbers)) (now (a .literals)) (now (a .slots)) (now (a .work)) (meet (a .stage) (objects (a .first ∷ a .second ∷ a .third ∷ []))) l) (a .at .met) (l .left) (g .result) (g .ensures) (λ x y. length (objects (a .first ∷ a .second ∷ a .third ∷ [])) ≡ y .variables) count in
-          let f = c .before .before .before .named in
-          let found = of-record m (now (a .numbers)) (now (a .literals)) (plainly m v z (now (a .numbers)) (now (a .literals)) (now (a .slots)) (now (a .work)) (meet (a .stage) (objects (a .first ∷ a .second ∷ a .third ∷ []))) l) (a .at .met) (l .left) (g .result) (g .ensures) (λ x y. Named y (m .carried) (choice (a .first) (a .second) (a .third)) (f .result)) (subst (λ (k : ℕ). Named (g .result) k (choice (a .first) (a .second) (a .third)) (f .result)) (l .numbered .carried) (f .ensures)) in
-          let n = subst (Says (Agrees (a .at .carried) (f .result))) (not-true (c .before .before .agrees .result) (c .before .if3 .taken)) (c .before .before .agrees .ensures) in
+          let f = c .before .before .before .all-named in
+          let found = of-record m (now (a .numbers)) (now (a .literals)) (plainly m v z (now (a .numbers)) (now (a .literals)) (now (a .slots)) (now (a .work)) (meet (a .stage) (objects (a .first ∷ a .second ∷ a .third ∷ []))) l) (a .at .met) (l .left) (g .result) (g .ensures) (λ x y. (u : ℕ) → u < limit.carried → Named y (carriedAt m u) (choice (a .first) (a .second) (a .third)) (getD (f .result) u 0)) (named-row m (now (a .numbers)) (g .result) (choice (a .first) (a .second) (a .third)) (f .result) (l .numbered) (f .ensures)) in
+          let n = subst (Says (AllAgree (a .at .carried) (f .result))) (not-true (c .before .before .all-agree .result) (c .before .if3 .taken)) (c .before .before .all-agree .ensures) in
           left-as-before m states (a .at) _ (c .disallow3 .result) (c .disallow3 .ensures .0) (l .ready .long)
           (disagrees m z v (now (a .work)) (l .ready) (l .left) (a .first) (a .second) (a .third) (a .stage) next many (f .result) found n)),
       c .disallow3 .ensures .1,
@@ -145,17 +137,17 @@ returns-4 c =
       c .disallow4 .ensures .1,
     )
 
-carry-requires : tie.Need-carry-requires
-carry-requires c κs = search needs
-
-add-t21 : tie.Need-add-t21
-add-t21 c = search needs
-
 add-t24 : tie.Need-add-t24
-add-t24 c = record { fits = omega (arith, c .before .before .before .before .before .before .before .before .before .before .before .before .before .before .before .before .before .before .pre .0 .3 .ready .room) }
+add-t24 c = search needs
 
-cast-t20 : tie.Need-cast-t20
-cast-t20 c = search needs
+carry-all-requires : tie.Need-carry-all-requires
+carry-all-requires c κs = search needs
+
+add-t20 : tie.Need-add-t20
+add-t20 c = record { fits = omega (arith, c .before .before .before .before .before .before .before .before .before .before .before .before .before .before .before .before .before .before .pre .0 .3 .ready .room) }
+
+cast-t21 : tie.Need-cast-t21
+cast-t21 c = search needs
 
 returns-5 : tie.Need-returns-5
 returns-5 c =
@@ -168,14 +160,13 @@ returns-5 c =
       (λ m v states l.
           let z = sessionIn states (a .at) in
           let many = of-record m (now (a .numbers)) (now (a .literals)) (plainly m v z (now (a .numbers)) (now (a .literals)) (now (a .slots)) (now (a .work)) (meet (a .stage) (objects (a .first ∷ a .second ∷ a .third ∷ []))) l) (a .at .met) (l .left) (g .result) (g .ensures) (λ x y. length (objects (a .first ∷ a .second ∷ a .third ∷ [])) ≡ y .variables) count in
-          let f = c .before .before .before .before .before .before .before .named in
-          let found = of-record m (now (a .numbers)) (now (a .literals)) (plainly m v z (now (a .numbers)) (now (a .literals)) (now (a .slots)) (now (a .work)) (meet (a .stage) (objects (a .first ∷ a .second ∷ a .third ∷ []))) l) (a .at .met) (l .left) (g .result) (g .ensures) (λ x y. Named y (m .carried) (choice (a .first) (a .second) (a .third)) (f .result)) (subst (λ (k : ℕ). Named (g .result) k (choice (a .first) (a .second) (a .third)) (f .result)) (l .numbered .carried) (f .ensures)) in
-          let agree = subst (Says (Agrees (a .at .carried) (f .result))) (not-false (c .before .before .before .before .before .before .agrees .result) (c .before .before .before .before .before .if3 .left)) (c .before .before .before .before .before .before .agrees .ensures) in
+          let f = c .before .before .before .before .before .before .before .all-named in
+          let found = of-record m (now (a .numbers)) (now (a .literals)) (plainly m v z (now (a .numbers)) (now (a .literals)) (now (a .slots)) (now (a .work)) (meet (a .stage) (objects (a .first ∷ a .second ∷ a .third ∷ []))) l) (a .at .met) (l .left) (g .result) (g .ensures) (λ x y. (u : ℕ) → u < limit.carried → Named y (carriedAt m u) (choice (a .first) (a .second) (a .third)) (getD (f .result) u 0)) (named-row m (now (a .numbers)) (g .result) (choice (a .first) (a .second) (a .third)) (f .result) (l .numbered) (f .ensures)) in
+          let agree = subst (Says (AllAgree (a .at .carried) (f .result))) (not-false (c .before .before .before .before .before .before .all-agree .result) (c .before .before .before .before .before .if3 .left)) (c .before .before .before .before .before .before .all-agree .ensures) in
           let held = of-record m (now (a .numbers)) (now (a .literals)) (plainly m v z (now (a .numbers)) (now (a .literals)) (now (a .slots)) (now (a .work)) (meet (a .stage) (objects (a .first ∷ a .second ∷ a .third ∷ []))) l) (a .at .met) (l .left) (g .result) (g .ensures) (λ x y. Decides (y .variables) (Holding m z (stageBody x y) (y .variables) (choice (a .first) (a .second) (a .third))) (At (c .before .before .enum-told .given .0 .0)))
           (subst (Decides (g .result .variables) _) (c .before .before .enum-told .given .1) (c .before .before .before .before .decide .ensures m v z (l .ready) (lent m (now (a .numbers)) (now (a .literals)) (plainly m v z (now (a .numbers)) (now (a .literals)) (now (a .slots)) (now (a .work)) (meet (a .stage) (objects (a .first ∷ a .second ∷ a .third ∷ []))) l) (a .at .met) (l .left) (g .result) (g .ensures) (λ x y. Within (l .ready .relations) (stageBody x y)) (l .rests (a .at .met) (l .left) next)) (l .seats) refl)) in
-          rw (c .before .carry .ensures)
-          (kept-states m states (a .at) (record { objects = a .at .objects; met = a .at .met + 1; carried = carriedOn (a .at .carried) (f .result); kept = a .at .kept + 1 }) (meet (a .stage) (objects (a .first ∷ a .second ∷ a .third ∷ []))) (l .ready .long)
-          (meeting-kept m z v (now (a .work)) (l .ready) (l .left) (a .first) (a .second) (a .third) (a .stage) next many (f .result) found agree _ (held .good)))),
+          kept-states m states (a .at) (record { objects = a .at .objects; met = a .at .met + 1; carried = c .before .carry-all .result; kept = a .at .kept + 1 }) (meet (a .stage) (objects (a .first ∷ a .second ∷ a .third ∷ []))) (l .ready .long)
+          (meeting-kept m z v (now (a .work)) (l .ready) (l .left) (a .first) (a .second) (a .third) (a .stage) next many (f .result) found agree (c .before .carry-all .result) (c .before .carry-all .ensures) _ (held .good))),
       inl (refl, refl),
     )
 
@@ -190,10 +181,8 @@ meet-place-spec =
     count-requires
     disallow-requires-2
     returns-2
-    shared-slice-read-named
-    named-requires
-    cast-object
-    agrees-requires
+    all-named-requires
+    all-agree-requires
     disallow-requires-3
     returns-3
     decide-requires
@@ -201,8 +190,8 @@ meet-place-spec =
     enum-told-2
     disallow-requires-4
     returns-4
-    carry-requires
-    add-t21
     add-t24
-    cast-t20
+    carry-all-requires
+    add-t20
+    cast-t21
     returns-5)

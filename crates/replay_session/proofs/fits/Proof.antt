@@ -1,8 +1,8 @@
 use mathlib.Core.Path.{_≡_, subst}
-use mathlib.Core.Logic.{inl, inr, ⊎-elim}
 use mathlib.Core.Bool.{true}
 use Prim.Native.Nat.{ℕ, _<_}
 use native.Mathlib.Omega.{arith}
+use borrow.Author.Tests.{not-true, not-false}
 use borrow.Author.Needs.{needs}
 use Rattle.semantics.specs.Labels.{has}
 use Rattle.model.specs.WellFormed.{declaredIn}
@@ -21,11 +21,11 @@ returns-2 c = λ f. let s = c .before .before .before .before .before in let q =
 returns-3 : tie.Need-returns-3
 returns-3 c = search needs
 
-cast-if5 : tie.Need-cast-if5
-cast-if5 c = search needs
+carried-created-requires : tie.Need-carried-created-requires
+carried-created-requires c κs = search needs
 
 returns-4 : tie.Need-returns-4
-returns-4 c = λ f. ⊎-elim (λ e. c .before .before .before .if4 .taken e) (λ l. let g = c .if5 .taken in omega arith) (f .carried)
+returns-4 c = λ f. subst (Says _) (not-true (c .before .carried-created .result) (c .if4 .taken)) (c .before .carried-created .ensures) (f .carried)
 
 declared-states-requires : tie.Need-declared-states-requires
 declared-states-requires c κs = search needs
@@ -33,16 +33,16 @@ declared-states-requires c κs = search needs
 relations-declared-requires : tie.Need-relations-declared-requires
 unfolding declaredIn
 relations-declared-requires c κs =
-    let w = c .before .before .before .before .before .before .before .before .before .before .before .pre in
+    let w = c .before .before .before .before .before .before .before .before .before .before .before .before .pre in
     (search needs, omega (arith, c .declared-states .ensures, w .relations .states))
 
 returns-5 : tie.Need-returns-5
 unfolding declaredIn
 returns-5 c =
-    let s = c .before .before .before .before .before .before .before .before .before .before .before .before in
-    let k = c .before .before .before .before .before in
+    let s = c .before .before .before .before .before .before .before .before .before .before .before .before .before in
+    let k = c .before .before .before .before .before .before in
     fits-says (s .args .m) (s .args .s) (c .relations-declared .result) (k .before .before .before .before .before .if1 .left) (let q = stages (s .args .m) (s .pre) in omega (arith, k .before .before .if2 .left)) (k .if3 .left)
-    (⊎-elim (λ w. inr (w .3 .left)) (λ w. inl (w .left)) (c .before .before .before .if4 .came))
+    (subst (Says _) (not-false (c .before .before .before .before .carried-created .result) (c .before .before .before .if4 .left)) (c .before .before .before .before .carried-created .ensures))
     (subst (λ (n : ℕ). Says ((o a : ℕ) → o < s .args .s .objects → has (stateIn (s .args .s) o) a ≡ true → a < n) (c .relations-declared .result)) (c .before .declared-states .ensures) (c .relations-declared .ensures))
 
 pub fits-spec : {M : Type 1} → statement M
@@ -52,7 +52,7 @@ fits-spec =
     returns
     returns-2
     returns-3
-    cast-if5
+    carried-created-requires
     returns-4
     declared-states-requires
     relations-declared-requires

@@ -20,7 +20,7 @@ returns c = search needs
 
 returns-2 : tie.Need-returns-2
 returns-2 c =
-    let a = c .before .args in
+    let a = c .before .before .args in
     let n : length (a .s .states) ≡ 255 = search needs in
     ap (λ (l : List ℕ). sessionIn l (a .at)) (sym (set-out (a .s .states) (a .object) (a .state) (omega arith)))
 

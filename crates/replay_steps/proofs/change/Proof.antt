@@ -75,8 +75,8 @@ shared-slice-read-relabel c = search needs
 relabel-requires : tie.Need-relabel-requires
 relabel-requires c κs = search needs
 
-add-t21 : tie.Need-add-t21
-add-t21 c = search needs
+onward-requires : tie.Need-onward-requires
+onward-requires c κs = search needs
 
 returns-3 : tie.Need-returns-3
 returns-3 c =
@@ -84,10 +84,10 @@ returns-3 c =
     let a = s .args in (
       (λ m v t.
           let first = subst (Decides (a .c .variables) _) (c .before .before .before .before .before .before .found .given .1) (c .before .before .before .before .before .before .before .before .decide .ensures m v (sessionIn (now (a .states)) (a .at)) (t .ready) (t .rests) (t .seats) refl) in
-          rw (c .before .relabel .ensures) (next-kept m (sessionIn (now (a .states)) (a .at)) v (now (a .work)) (t .ready) (t .left) (a .c .line) (a .object) (a .plus) (a .minus) (clauseBody (now (a .literals)) (a .c)) (a .c .variables)
+          rw (c .onward .ensures, c .before .relabel .ensures) (next-kept m (sessionIn (now (a .states)) (a .at)) v (now (a .work)) (t .ready) (t .left) (a .c .line) (a .object) (a .plus) (a .minus) (clauseBody (now (a .literals)) (a .c)) (a .c .variables)
           (on-action m v (sessionIn (now (a .states)) (a .at)) (now (a .literals)) (now (a .slots)) (now (a .work)) (a .c) t (Next (a .plus) (a .minus)) (s .pre .2))
           (line-variables m v (sessionIn (now (a .states)) (a .at)) (now (a .literals)) (now (a .slots)) (now (a .work)) (a .c) t (Next (a .plus) (a .minus)) (s .pre .2)) (next-variable m v (sessionIn (now (a .states)) (a .at)) (now (a .literals)) (now (a .slots)) (now (a .work)) (a .c) t (a .plus) (a .minus) (s .pre .2)) (s .pre .1) (c .before .before .before .before .before .before .before .before .before .if1 .left) _ (c .before .before .before .number .result) first (c .before .before .before .number .ensures))),
-      inr (record { here = c .before .before .before .before .before .before .before .before .before .if1 .left; grows = omega arith; few = s .pre .0 .2 .ready .fits .objects; rest = λ p l n. l }),
+      rw (c .onward .ensures) (inr (record { here = c .before .before .before .before .before .before .before .before .before .if1 .left; grows = omega arith; few = s .pre .0 .2 .ready .fits .objects; rest = λ p l n. l })),
     )
 
 pub change-spec : {M : Type 1} → statement M
@@ -106,5 +106,5 @@ change-spec =
     mul-relabel
     shared-slice-read-relabel
     relabel-requires
-    add-t21
+    onward-requires
     returns-3)

@@ -66,11 +66,11 @@ number-requires c κs =
     let first = subst (Decides (a .c .variables) _) (c .before .before .found .given .1) (c .before .before .before .before .decide .ensures m v z (t .ready) (t .rests) (t .seats) refl) in
     objects-below m z v (now (a .work)) (t .ready) (t .left) (a .c .line) (a .object) (clauseBody (now (a .literals)) (a .c)) (a .c .variables) (only 255) _ (part-vars m v z (now (a .literals)) (now (a .slots)) (now (a .work)) (a .c) t) (first .good)
 
-add-t16 : tie.Need-add-t16
-add-t16 c = search needs
+add-onward : tie.Need-add-onward
+add-onward c = search needs
 
-add-t18 : tie.Need-add-t18
-add-t18 c = search needs
+onward-requires : tie.Need-onward-requires
+onward-requires c κs = search needs
 
 returns-3 : tie.Need-returns-3
 returns-3 c =
@@ -78,10 +78,10 @@ returns-3 c =
     let a = s .args in (
       (λ m v states t.
           let first = subst (Decides (a .c .variables) _) (c .before .before .before .before .found .given .1) (c .before .before .before .before .before .before .decide .ensures m v (sessionIn states (a .at)) (t .ready) (t .rests) (t .seats) refl) in
-          new-kept m (sessionIn states (a .at)) v (now (a .work)) (t .ready) (t .left) (a .c .line) (a .object) (a .set) (clauseBody (now (a .literals)) (a .c)) (a .c .variables)
+          rw (c .onward .ensures) (new-kept m (sessionIn states (a .at)) v (now (a .work)) (t .ready) (t .left) (a .c .line) (a .object) (a .set) (clauseBody (now (a .literals)) (a .c)) (a .c .variables)
           (on-action m v (sessionIn states (a .at)) (now (a .literals)) (now (a .slots)) (now (a .work)) (a .c) t (New (a .set)) (s .pre .2))
-          (line-variables m v (sessionIn states (a .at)) (now (a .literals)) (now (a .slots)) (now (a .work)) (a .c) t (New (a .set)) (s .pre .2)) (c .before .before .before .before .before .before .before .if1 .left) _ (c .before .number .result) first (c .before .number .ensures)),
-      inr (record { here = omega arith; grows = omega arith; few = omega (arith, s .pre .1, c .before .before .before .before .before .before .before .if1 .left); rest = λ p l n. omega arith }),
+          (line-variables m v (sessionIn states (a .at)) (now (a .literals)) (now (a .slots)) (now (a .work)) (a .c) t (New (a .set)) (s .pre .2)) (c .before .before .before .before .before .before .before .if1 .left) _ (c .before .number .result) first (c .before .number .ensures))),
+      rw (c .onward .ensures) (inr (record { here = omega arith; grows = omega arith; few = omega (arith, s .pre .1, c .before .before .before .before .before .before .before .if1 .left); rest = λ p l n. omega arith })),
     )
 
 pub create-spec : {M : Type 1} → statement M
@@ -97,6 +97,6 @@ create-spec =
     returns-2
     cast-number
     number-requires
-    add-t16
-    add-t18
+    add-onward
+    onward-requires
     returns-3)

@@ -1,94 +1,126 @@
-use mathlib.Core.Path.{_≡_, refl, sym, _∙_, subst}
+use mathlib.Core.Path.{_≡_, refl, sym, ap, _∙_, subst}
+use mathlib.Core.Logic.{_↔_}
+use mathlib.Core.Bool.{Bool, true, _||_}
 use mathlib.Core.List.{List}
-use Prim.Native.Nat.{ℕ, suc, _+_, _-_, _≤_}
+use Prim.Native.Nat.{ℕ, suc, _+_, _-_, _*_, _≤_, _<_}
 use native.Mathlib.Omega.{arith}
 use native.Mathlib.Numerals.{add-one}
-use lib.ListN.{length}
-use Rattle.facts_bits.specs.Bits.{Joined}
-use Rattle.facts_table.specs.Table.{Rows}
+use lib.ListN.{length, replicate}
+use Rattle.model.specs.Records.{stageAt}
 use Rattle.facts_candidates.specs.Choices.{Own}
+use Rattle.facts_bits.proofs.Laws.{with-bit-length}
 use Rattle.search_states.specs.States.{row}
 use Rattle.search_states.proofs.Laws.{length-row}
-use Rattle.search_levels.specs.Levels.{chosen}
-use Rattle.search_levels.proofs.Filling.{Sofar, sofar-none, sofar-more}
+use Rattle.search_levels.specs.declared.Meeting.{Meeting}
+use Rattle.search_levels.specs.Levels.{chosen, pairAt, Passed}
+use Rattle.search_levels.specs.Passing.{Led, Met, Over, Ready, meetingOf, Clear}
+use Rattle.search_levels.proofs.Stages.{numbers-long, stage-ready, chosen-after, passed-stage}
+use Rattle.search_levels.proofs.Filling.{begun, begun-clear, passed-more}
 use borrow.Author.Needs.{needs}
 use Rattle.search_levels.proofs.fill.Statement.{statement}
 use Rattle.search_levels.proofs.fill.Tie as tie
 
 abbrev Inv-loop : tie.InvT-loop
-Inv-loop work m ways slots n rows₀ here₀ k₀ rows here k = (k ≤ m .stagecount) × Own 128 slots × (length rows ≡ 80) × (here .chosen ≡ chosen m k) × ((S : List ℕ) → Rows S work → length S ≡ n → Sofar m S work ways k rows (here .row))
+Inv-loop work ways m slots n rows₀ first₀ second₀ k₀ rows first second k = (k ≤ m .stagecount) × Own 128 slots × (length rows ≡ 10240) × (first ≡ chosen m 0 k) × (second ≡ chosen m 1 k) × Clear (128 * suc k) rows × ((e f : ℕ) → e < 128 → f < 128 → (pairAt rows 0 e f ≡ true) ↔ ((e ≡ 0) × (f ≡ 0))) × Over work n (λ S. (j : ℕ) → j < k → Passed m S work ways j (pairAt rows j) (pairAt rows (suc j)))
 
 abbrev μ-loop : tie.MeasureT-loop
-μ-loop work m ways slots n rows₀ here₀ k₀ rows here k = m .stagecount - k
+μ-loop work ways m slots n rows₀ first₀ second₀ k₀ rows first second k = m .stagecount - k
 
 slots-requires : tie.Need-slots-requires Inv-loop μ-loop
 slots-requires c κs = search needs
 
-start-requires : tie.Need-start-requires Inv-loop μ-loop
-start-requires c κs = search needs
+slice-aggregate-put : tie.Need-slice-aggregate-put Inv-loop μ-loop
+slice-aggregate-put c = search needs
 
-slice-aggregate-join : tie.Need-slice-aggregate-join Inv-loop μ-loop
-slice-aggregate-join c = search needs
-
-join-requires : tie.Need-join-requires Inv-loop μ-loop
-join-requires c κs = search needs
+put-requires : tie.Need-put-requires Inv-loop μ-loop
+put-requires c κs = search needs
 
 loop-holds : tie.Need-loop-holds Inv-loop μ-loop
 loop-holds c =
-    let a = c .before .before .before .before .before .before .before .args in
-    let first = c .before .before .before .start in
-    let j = c .before .join in
-    (omega arith, c .before .before .before .before .slots .ensures, j .kept .0, refl, λ S r n. sofar-none (a .m) S (a .work .now) (a .ways .now) 80 (first .result) (j .last .0) (first .ensures) (j .ensures))
+    let put = c .before .put in
+    let e = put .ensures in (
+      omega arith,
+      c .before .before .before .slots .ensures,
+      ap length e ∙ with-bit-length (replicate 10240 0) 0,
+      refl,
+      refl,
+      subst (λ (rows : List ℕ). Clear (128 * suc 0) rows) (sym e) (begun-clear 10240 (omega arith)),
+      subst (λ (rows : List ℕ). (e f : ℕ) → e < 128 → f < 128 → (pairAt rows 0 e f ≡ true) ↔ ((e ≡ 0) × (f ≡ 0))) (sym e) (begun 10240 (omega arith)),
+      λ S R n j l. absurd (omega (arith, l)),
+    )
+
+mul-asked : tie.Need-mul-asked Inv-loop μ-loop
+mul-asked c = search needs
+
+element-copy-out-asked : tie.Need-element-copy-out-asked Inv-loop μ-loop
+element-copy-out-asked c = search needs
+
+asked-requires : tie.Need-asked-requires Inv-loop μ-loop
+asked-requires c κs = let s = c .before .before .before .before .before .before .before .before .before .before in numbers-long (s .args .t2) (s .pre .0) (c .before .before .before .loop .k) (c .before .before .loop-test .taken)
+
+-- the stage as it is asked
+met-as : (c : tie.After-asked Inv-loop μ-loop) → let a = c .before .before .before .before .before .before .before .before .before .before .before .args in let k = c .before .before .before .before .loop .k in c .asked .result ≡ meetingOf (stageAt (a .t2) k) (a .t2 .carried) (chosen (a .t2) 0 k) (chosen (a .t2) 1 k)
+met-as c =
+    let a = c .before .before .before .before .before .before .before .before .before .before .before .args in
+    let l = c .before .before .before .before .loop in
+    c .asked .ensures ∙ (ap (λ (b : Bool). meetingOf (stageAt (a .t2) (l .k)) (a .t2 .carried) b (l .second)) (l .inv .3) ∙ ap (meetingOf (stageAt (a .t2) (l .k)) (a .t2 .carried) (chosen (a .t2) 0 (l .k))) (l .inv .4))
 
 slice-aggregate-pass : tie.Need-slice-aggregate-pass Inv-loop μ-loop
 slice-aggregate-pass c = search needs
 
+slice-aggregate-pass-2 : tie.Need-slice-aggregate-pass-2 Inv-loop μ-loop
+slice-aggregate-pass-2 c = search needs
+
 pass-requires : tie.Need-pass-requires Inv-loop μ-loop
 pass-requires c κs =
-    let s = c .before .before .before .before .before .before .before .before .before .before .before in
-    let l = c .before .before .before .loop in
-    let few : s .args .s .count ≤ 128 = omega (arith, s .pre .1 .proper .count) in
-    (s .pre .0, c .before .if1 .taken, s .pre .1 .agree, l .inv .1, few, s .pre .2, l .inv .3)
+    let s = c .before .before .before .before .before .before .before .before .before .before .before .before .before .before .before .before in
+    let a = s .args in
+    let l = c .before .before .before .before .before .before .before .before .before .loop in
+    let few : a .s .count ≤ 128 = omega (arith, s .pre .1 .proper .count) in
+    (subst (λ (t : Meeting). Ready (a .work .now) (c .before .before .before .before .before .before .before .before .before .before .before .before .before .slots .result) (a .s .count) (a .t2 .literals) t) (sym (met-as (c .before .before .before .before .before))) (stage-ready (a .t2) (s .pre .0) (l .k) (c .before .before .before .before .before .before .before .before .loop-test .taken) (a .work .now) (c .before .before .before .before .before .before .before .before .before .before .before .before .before .slots .result) (a .s .count) (s .pre .1 .agree) (l .inv .1) few), s .pre .2, l .inv .2, omega (arith, s .pre .0 .stages, c .before .before .before .before .before .before .before .before .loop-test .taken), l .inv .5)
 
-slice-aggregate-join-2 : tie.Need-slice-aggregate-join-2 Inv-loop μ-loop
-slice-aggregate-join-2 c = search needs
+after-requires : tie.Need-after-requires Inv-loop μ-loop
+after-requires c κs = search needs
 
-add-join : tie.Need-add-join Inv-loop μ-loop
-add-join c = record { fits = omega (arith, c .before .before .before .before .before .before .before .before .before .before .before .before .before .before .pre .0 .stages, c .before .before .before .before .if1 .taken) }
-
-join-requires-2 : tie.Need-join-requires-2 Inv-loop μ-loop
-join-requires-2 c κs = search needs
+after-requires-2 : tie.Need-after-requires-2 Inv-loop μ-loop
+after-requires-2 c κs = search needs
 
 add-k : tie.Need-add-k Inv-loop μ-loop
-add-k c = record { fits = omega (arith, c .before .before .before .before .before .before .before .before .before .before .before .before .before .before .before .before .pre .0 .stages, c .before .before .before .before .before .before .if1 .taken) }
+add-k c = record { fits = omega (arith, c .before .before .before .before .before .before .before .before .before .before .before .before .before .before .before .before .before .before .before .before .pre .0 .stages, c .before .before .before .before .before .before .before .before .before .before .before .before .loop-test .taken) }
 
 loop-less : tie.Need-loop-less Inv-loop μ-loop
-loop-less c = omega (arith, c .before .before .before .before .before .before .if1 .taken)
+loop-less c = omega (arith, c .before .before .before .before .before .before .before .before .before .before .before .before .loop-test .taken)
 
 loop-again : tie.Need-loop-again Inv-loop μ-loop
 loop-again c =
-    let a = c .before .before .before .before .before .before .before .before .before .before .before .before .before .before .before .before .args in
-    let l = c .before .before .before .before .before .before .before .before .loop in
-    let next = c .before .before .before .before .pass in
-    let j = c .before .join2 in
-    let e : l .k + 1 ≡ suc (l .k) = add-one (l .k) in (
-      omega (arith, c .before .before .before .before .before .before .if1 .taken),
+    let s = c .before .before .before .before .before .before .before .before .before .before .before .before .before .before .before .before .before .before .before .before in
+    let a = s .args in
+    let l = c .before .before .before .before .before .before .before .before .before .before .before .before .before .loop in
+    let p = c .before .before .before .pass in
+    let new : List ℕ = p .last .1 .1 .1 .1 .1 .1 .0 in
+    let here = c .before .before .before .before .before .before .before .before .before .before .before .before .loop-test .taken in
+    let e : suc (l .k) ≡ l .k + 1 = sym (add-one (l .k)) in
+    let w = p .ensures .0 in (
+      omega (arith, here),
       l .inv .1,
-      j .kept .0 ∙ l .inv .2,
-      subst (λ (k : ℕ). next .result .chosen ≡ chosen (a .m) k) (sym e) (next .ensures .0),
-      λ S r n. subst (λ (k : ℕ). Sofar (a .m) S (a .work .now) (a .ways .now) k (j .last .0) (next .result .row)) (sym e)
-          (sofar-more (a .m) S (a .work .now) (a .ways .now) (l .k) (l .rows) (l .here .row) (next .result .row) (j .last .0) (l .inv .4 S r n) (next .ensures .1 S r n)
-          (subst (λ (k : ℕ). Joined (l .rows) k (next .result .row) (j .last .0)) e (j .ensures))),
+      w .long ∙ l .inv .2,
+      c .before .after .ensures ∙ ap (λ (t : Meeting). t .first .chosen || t .first .stands) (met-as (c .before .before .before .before .before .before .before .before .before)) ∙ chosen-after (a .t2) (s .pre .0) (l .k) here 0 ∙ ap (chosen (a .t2) 0) e,
+      c .after2 .ensures ∙ ap (λ (t : Meeting). t .second .chosen || t .second .stands) (met-as (c .before .before .before .before .before .before .before .before .before)) ∙ chosen-after (a .t2) (s .pre .0) (l .k) here 1 ∙ ap (chosen (a .t2) 1) e,
+      subst (λ (k : ℕ). Clear (128 * suc k) new) e (w .clear),
+      (λ u v g h. let b = l .inv .6 u v g h in let z = w .kept (128 * 0 + v) u (omega (arith, h)) g in ((λ q. b .0 (sym z ∙ q)), λ q. z ∙ b .1 q)),
+      λ S R n. subst (λ (k : ℕ). (j : ℕ) → j < k → Passed (a .t2) S (a .work .now) (a .ways .now) j (pairAt new j) (pairAt new (suc j))) e
+          (passed-more (a .t2) S (a .work .now) (a .ways .now) (l .k) (l .rows) new (w .kept) (l .inv .7 S R n)
+          (passed-stage (a .t2) (s .pre .0) (l .k) here S (a .work .now) (a .ways .now) (l .rows) new
+          (subst (λ (t : Meeting). (u v : ℕ) → u < 128 → v < 128 → (pairAt new (suc (l .k)) u v ≡ true) ↔ (Led (a .ways .now) t (pairAt (l .rows) (l .k)) u v × Met S (a .work .now) (a .t2 .literals) t u v)) (met-as (c .before .before .before .before .before .before .before .before .before)) (p .ensures .1 S R n)))),
     )
 
 returns : tie.Need-returns Inv-loop μ-loop
 returns c =
-    let s = c .before .before .before .before .before .before .before .before .before .before in
+    let s = c .before .before .before .before .before .before .before .before in
     let a = s .args in
-    let l = c .before .before .loop in
-    let e : l .k ≡ a .m .stagecount = omega (arith, l .inv .0, c .if1 .left) in
-    let f = l .inv .4 (row (a .s)) (s .pre .1 .shown) (length-row (a .s) (s .pre .1 .proper)) in
-    record { long = l .inv .2; begins = f .begins; stages = λ k h. f .stages k (omega (arith, e, h)) }
+    let l = c .before .loop in
+    let e : l .k ≡ a .t2 .stagecount = omega (arith, l .inv .0, c .loop-test .left) in
+    record { long = l .inv .2; begins = l .inv .6; stages = λ k h. l .inv .7 (row (a .s)) (s .pre .1 .shown) (length-row (a .s) (s .pre .1 .proper)) k (omega (arith, e, h)) }
 
 pub fill-spec : {M : Type 1} → statement M
 fill-spec =
@@ -97,15 +129,17 @@ fill-spec =
     Inv-loop
     μ-loop
     slots-requires
-    start-requires
-    slice-aggregate-join
-    join-requires
+    slice-aggregate-put
+    put-requires
     loop-holds
+    mul-asked
+    element-copy-out-asked
+    asked-requires
     slice-aggregate-pass
+    slice-aggregate-pass-2
     pass-requires
-    slice-aggregate-join-2
-    add-join
-    join-requires-2
+    after-requires
+    after-requires-2
     add-k
     loop-less
     loop-again

@@ -1,88 +1,128 @@
 use mathlib.Core.Path.{_≡_, sym, _∙_, subst}
+use mathlib.Core.Logic.{_↔_}
 use mathlib.Core.Bool.{true}
-use Prim.Native.Nat.{ℕ, _<_}
-use Rattle.semantics.specs.Facts.{In}
-use Rattle.model.specs.Records.{stageBody, stageAt}
-use Rattle.facts_bits.specs.Bits.{bitAt}
-use Rattle.facts_table.specs.Table.{tableOf}
-use Rattle.facts_holds.specs.Shows.{Anyhow, Tells}
-use Rattle.search_ways.specs.Moves.{HoldsAt}
-use Rattle.search_levels.specs.Levels.{Has}
-use Rattle.search_levels.proofs.Stages.{stage-evaluable, numbers-long, chosen-here, chosen-same, passed-with, passed-on, passed-none}
+use mathlib.Core.List.{List}
+use Prim.Native.Nat.{ℕ, suc, _+_, _-_, _*_, _≤_, _<_}
+use native.Mathlib.Omega.{arith}
+use Rattle.semantics.specs.Facts.{Database}
+use Rattle.facts_bits.specs.Bits.{Joined}
+use Rattle.search_levels.specs.declared.Meeting.{Meeting}
+use Rattle.search_levels.specs.Levels.{pairAt}
+use Rattle.search_levels.specs.Passing.{Led, Met, Hopeful, Over, Written}
+use Rattle.search_levels.proofs.Rows.{has-so}
+use Rattle.search_levels.proofs.Passing.{led-so, hopeful-so}
+use Rattle.search_levels.proofs.Filling.{written-none, written-more, rows-more}
 use borrow.Author.Needs.{needs}
 use Rattle.search_levels.proofs.pass.Statement.{statement}
 use Rattle.search_levels.proofs.pass.Tie as tie
 
-mul-stage : tie.Need-mul-stage
-mul-stage c = search needs
+-- the stage holds with a pair to which level k leads
+abbrev Paired : Database → List ℕ → List ℕ → List ℕ → Meeting → List ℕ → ℕ → ℕ → ℕ → Type 0
+Paired S work literals ways t rows k e f = Led ways t (pairAt rows k) e f × Met S work literals t e f
 
-element-copy-out-stage : tie.Need-element-copy-out-stage
-element-copy-out-stage c = search needs
+abbrev Inv-loop : tie.InvT-loop
+Inv-loop work slots n literals t ways rows₀ k able f₀ rows f = (f ≤ 128) × Written (128 * suc k) (128 * suc k + f) rows₀ rows × Over work n (λ S. (e g : ℕ) → e < 128 → g < f → (pairAt rows (suc k) e g ≡ true) ↔ Paired S work literals ways t rows₀ k e g)
 
-cast-variables : tie.Need-cast-variables
-cast-variables c = search needs
+abbrev μ-loop : tie.MeasureT-loop
+μ-loop work slots n literals t ways rows₀ k able f₀ rows f = 128 - f
 
-slice-aggregate-seek : tie.Need-slice-aggregate-seek
-slice-aggregate-seek c = let s = c .before .before .before .before .before .before .before in let a = s .args in sym (s .pre .0 .numbers (a .k) (s .pre .1))
+hopeful-requires : tie.Need-hopeful-requires Inv-loop μ-loop
+hopeful-requires c κs = search needs
 
-seek-requires : tie.Need-seek-requires
-seek-requires c κs = let s = c .before .before .before .before .before .before .before in let a = s .args in numbers-long (a .t4) (s .pre .0) (a .k) (s .pre .1)
+loop-holds : tie.Need-loop-holds Inv-loop μ-loop
+loop-holds c =
+    let s = c .before .before .before .before .before .before .before in
+    let a = s .args in
+    (omega arith, written-none (128 * suc (a .k)) (a .rows .now) (s .pre .4), λ S R n e g l q. absurd (omega (arith, q)))
 
-onward-requires : tie.Need-onward-requires
-onward-requires c κs = search needs
+-- level k is as it was
+before-same : (c : tie.At-loop Inv-loop μ-loop) → (u v : ℕ) → u < 128 → v < 128 → pairAt (c .loop .rows) (c .before .before .before .before .before .before .before .before .args .k) u v ≡ pairAt (c .before .before .before .before .before .before .before .before .args .rows .now) (c .before .before .before .before .before .before .before .before .args .k) u v
+before-same c u v l h = c .loop .inv .1 .kept (128 * c .before .before .before .before .before .before .before .before .args .k + v) u (omega (arith, h)) l
 
-met-requires : tie.Need-met-requires
-met-requires c κs = let s = c .before .before .before .before .before .before .before .before .before .before .before .before .before in let a = s .args in (s .pre .2, s .pre .3, s .pre .4, stage-evaluable (a .t4) (s .pre .0) (a .k) (s .pre .1), c .before .before .before .before .if1 .taken)
+next-row-requires : tie.Need-next-row-requires Inv-loop μ-loop
+next-row-requires c κs =
+    let s = c .before .before .before .before .before .before .before .before .before .before in
+    let a = s .args in
+    let l = c .before .before .loop in (
+      s .pre .0,
+      s .pre .1,
+      l .inv .1 .long ∙ s .pre .2,
+      omega (arith, s .pre .3),
+      c .before .loop-test .taken,
+      λ S R n.
+          has-so (c .before .before .before .hopeful .result) (Hopeful S (a .work .now) (a .literals .now) (a .ways .now) (a .t) (pairAt (a .rows .now) (a .k))) (Hopeful S (a .work .now) (a .literals .now) (a .ways .now) (a .t) (pairAt (l .rows) (a .k)))
+          (λ e g. (
+            hopeful-so (a .ways .now) (a .t) (pairAt (a .rows .now) (a .k)) (pairAt (l .rows) (a .k)) (λ u v p q. sym (before-same (c .before .before) u v p q)) S (a .work .now) (a .literals .now) e,
+            hopeful-so (a .ways .now) (a .t) (pairAt (l .rows) (a .k)) (pairAt (a .rows .now) (a .k)) (before-same (c .before .before)) S (a .work .now) (a .literals .now) e,
+          ))
+          (c .before .before .before .hopeful .ensures S R n),
+    )
 
-returns : tie.Need-returns
+add-join : tie.Need-add-join Inv-loop μ-loop
+add-join c = search needs
+
+mul-join : tie.Need-mul-join Inv-loop μ-loop
+mul-join c = search needs
+
+add-join-2 : tie.Need-add-join-2 Inv-loop μ-loop
+add-join-2 c = search needs
+
+join-requires : tie.Need-join-requires Inv-loop μ-loop
+join-requires c κs = search needs
+
+add-f : tie.Need-add-f Inv-loop μ-loop
+add-f c = search needs
+
+loop-less : tie.Need-loop-less Inv-loop μ-loop
+loop-less c = search needs
+
+loop-again : tie.Need-loop-again Inv-loop μ-loop
+loop-again c =
+    let s = c .before .before .before .before .before .before .before .before .before .before .before .before .before .before .before in
+    let a = s .args in
+    let l = c .before .before .before .before .before .before .before .loop in
+    let j = c .before .before .join in
+    let at : 128 * (a .k + 1) + l .f ≡ 128 * suc (a .k) + l .f = omega arith in
+    let joined = subst (λ (i : ℕ). Joined (l .rows) i (c .before .before .before .before .next-row .result) (j .last .0)) at (j .ensures) in (
+      omega (arith, c .before .before .before .before .before .before .loop-test .taken),
+      written-more (128 * suc (a .k)) (l .f) (a .rows .now) (l .rows) (l .inv .1) (c .before .before .before .before .next-row .result) (j .last .0) joined (j .kept .0),
+      λ S R n. rows-more (128 * suc (a .k)) (l .f) (a .rows .now) (l .rows) (l .inv .1) (c .before .before .before .before .next-row .result) (j .last .0) joined
+          (Paired S (a .work .now) (a .literals .now) (a .ways .now) (a .t) (a .rows .now) (a .k))
+          (has-so (c .before .before .before .before .next-row .result) (λ e. Paired S (a .work .now) (a .literals .now) (a .ways .now) (a .t) (l .rows) (a .k) e (l .f)) (λ e. Paired S (a .work .now) (a .literals .now) (a .ways .now) (a .t) (a .rows .now) (a .k) e (l .f))
+          (λ e g. (
+            (λ q. (led-so (a .ways .now) (a .t) (pairAt (l .rows) (a .k)) (pairAt (a .rows .now) (a .k)) (before-same (c .before .before .before .before .before .before .before)) e (l .f) (q .0), q .1)),
+            λ q. (led-so (a .ways .now) (a .t) (pairAt (a .rows .now) (a .k)) (pairAt (l .rows) (a .k)) (λ u v p y. sym (before-same (c .before .before .before .before .before .before .before) u v p y)) e (l .f) (q .0), q .1),
+          ))
+          (c .before .before .before .before .next-row .ensures S R n))
+          (l .inv .2 S R n),
+    )
+
+same-length : tie.Need-same-length Inv-loop μ-loop
+same-length c = c .before .loop .inv .1 .long
+
+returns : tie.Need-returns Inv-loop μ-loop
 returns c =
-    let s = c .before .before .before .before .before .before .before .before .before .before .before .before .before .before in
+    let s = c .before .before .before .before .before .before .before .before .before in
     let a = s .args in
-    let x = c .before .before .before .before .before .before .seek in
-    let here = c .before .before .before .before .before .if1 .taken in
-    let free = c .before .before .before .before .onward in (
-      chosen-here (a .t4) (s .pre .0) (a .k) (s .pre .1) (x .result) (x .ensures) here,
-      λ S r n. passed-with (a .t4) (s .pre .0) (a .k) (s .pre .1) (x .result) (x .ensures) S (a .work .now) (a .ways .now) here (a .here .row) (free .result) (c .met .result) (a .here .chosen) (s .pre .6) (free .ensures)
-          (subst (λ (j : ℕ). Has (c .met .result) (λ e. (e < j) × (bitAt (free .result) e ≡ true) × HoldsAt S (In (tableOf (a .work .now))) (x .result) e (stageBody (a .t4 .literals) (stageAt (a .t4) (a .k))))) (sym n) (c .met .ensures S r n)),
-    )
-
-anyhow-requires : tie.Need-anyhow-requires
-anyhow-requires c κs = let s = c .before .before .before .before .before .before .before .before .before .before .before .before in let a = s .args in (s .pre .2, s .pre .3, s .pre .4, stage-evaluable (a .t4) (s .pre .0) (a .k) (s .pre .1))
-
-returns-2 : tie.Need-returns-2
-returns-2 c =
-    let s = c .before .before .before .before .before .before .before .before .before .before .before .before .before .before in
-    let a = s .args in
-    let x = c .before .before .before .before .before .before .seek in
-    let none = c .before .before .before .before .before .if1 .left in (
-      s .pre .6 ∙ chosen-same (a .t4) (s .pre .0) (a .k) (s .pre .1) (x .result) (x .ensures) none,
-      λ S r n. passed-on (a .t4) (s .pre .0) (a .k) (s .pre .1) (x .result) (x .ensures) S (a .work .now) (a .ways .now) none
-          (subst (Tells S (a .work .now) (stageBody (a .t4 .literals) (stageAt (a .t4) (a .k))) Anyhow) (c .if2 .taken) (c .before .anyhow .ensures S r n)) (a .here .row),
-    )
-
-returns-3 : tie.Need-returns-3
-returns-3 c =
-    let s = c .before .before .before .before .before .before .before .before .before .before .before .before .before .before in
-    let a = s .args in
-    let x = c .before .before .before .before .before .before .seek in
-    let none = c .before .before .before .before .before .if1 .left in (
-      s .pre .6 ∙ chosen-same (a .t4) (s .pre .0) (a .k) (s .pre .1) (x .result) (x .ensures) none,
-      λ S r n. passed-none (a .t4) (s .pre .0) (a .k) (s .pre .1) (x .result) (x .ensures) S (a .work .now) (a .ways .now) none
-          (subst (Tells S (a .work .now) (stageBody (a .t4 .literals) (stageAt (a .t4) (a .k))) Anyhow) (c .if2 .left) (c .before .anyhow .ensures S r n)) (a .here .row),
-    )
+    let l = c .before .loop in
+    let e : l .f ≡ 128 = omega (arith, l .inv .0, c .loop-test .left) in
+    (record { long = l .inv .1 .long; kept = l .inv .1 .kept; clear = λ i u g h. l .inv .1 .clear i u (omega (arith, e)) h }, λ S R n u v p q. l .inv .2 S R n u v p (omega (arith, e, q)))
 
 pub pass-spec : {M : Type 1} → statement M
 pass-spec =
     tie.close
     (tie.spec
-    mul-stage
-    element-copy-out-stage
-    cast-variables
-    slice-aggregate-seek
-    seek-requires
-    onward-requires
-    met-requires
-    returns
-    anyhow-requires
-    returns-2
-    returns-3)
+    Inv-loop
+    μ-loop
+    hopeful-requires
+    loop-holds
+    next-row-requires
+    add-join
+    mul-join
+    add-join-2
+    join-requires
+    add-f
+    loop-less
+    loop-again
+    same-length
+    returns)

@@ -1,29 +1,74 @@
-use mathlib.Core.Path.{refl, sym, _∙_, subst}
-use mathlib.Core.Bool.{Bool}
+use mathlib.Core.Path.{_≡_, sym, _∙_}
+use mathlib.Core.Bool.{true}
+use Prim.Native.Nat.{ℕ, _-_, _≤_, _<_}
+use native.Mathlib.Omega.{arith}
+use borrow.Author.Count.{below-more}
+use Rattle.semantics.proofs.Tools.{clash}
+use Rattle.search_levels.specs.Levels.{pairAt}
 use borrow.Author.Needs.{needs}
-use borrow.Author.Tests.{not-true, not-false}
-use Rattle.witness_walk.specs.Walk.{noSlot}
-use Rattle.witness.specs.Witness.{Ends}
 use Rattle.witness.proofs.goal.Statement.{statement}
 use Rattle.witness.proofs.goal.Tie as tie
 
-carries-requires : tie.Need-carries-requires
-carries-requires c κs = search needs
+abbrev Inv-loop : tie.InvT-loop
+Inv-loop rows k f₀ f = (f ≤ 128) × ((g : ℕ) → g < f → (e : ℕ) × (e < 128) × (pairAt rows k e g ≡ true) → ⊥)
 
-returns : tie.Need-returns
+abbrev μ-loop : tie.MeasureT-loop
+μ-loop rows k f₀ f = 128 - f
+
+loop-holds : tie.Need-loop-holds Inv-loop μ-loop
+loop-holds c = (omega arith, λ g l. omega arith)
+
+mul-row : tie.Need-mul-row Inv-loop μ-loop
+mul-row c = search needs
+
+add-row : tie.Need-add-row Inv-loop μ-loop
+add-row c = search needs
+
+row-requires : tie.Need-row-requires Inv-loop μ-loop
+row-requires c κs = search needs
+
+next-requires : tie.Need-next-requires Inv-loop μ-loop
+next-requires c κs = search needs
+
+returns : tie.Need-returns Inv-loop μ-loop
 returns c =
-    let a = c .before .before .args in
-    let q = c .before .carries in
-    subst (λ (b : Bool). Ends b (a .t2) (a .m .stagecount) noSlot) (sym (not-true (q .result) (c .if1 .taken)) ∙ q .ensures) refl
+    let r = c .before .before .row .ensures in
+    let n = c .before .next in
+    (c .if1 .taken, c .before .before .before .loop-test .taken, sym (r .bits (n .result) (c .if1 .taken)) ∙ n .ensures .set (c .if1 .taken))
 
-first-requires : tie.Need-first-requires
-first-requires c κs = search needs
+add-f : tie.Need-add-f Inv-loop μ-loop
+add-f c = search needs
 
-returns-2 : tie.Need-returns-2
+loop-less : tie.Need-loop-less Inv-loop μ-loop
+loop-less c = search needs
+
+loop-again : tie.Need-loop-again Inv-loop μ-loop
+loop-again c = (
+  omega (arith, c .before .before .before .loop-test .taken),
+  below-more _ _ (c .before .before .before .before .loop .inv .1) (λ h.
+      let l = c .if1 .left in
+      clash (h .2) (sym (c .before .before .row .ensures .bits (h .0) (h .1)) ∙ c .before .next .ensures .clear (h .0) (omega arith) (omega (arith, h .1)))),
+)
+
+returns-2 : tie.Need-returns-2 Inv-loop μ-loop
 returns-2 c =
-    let a = c .before .before .before .before .before .before .args in
-    let q = c .before .before .before .before .before .carries in
-    subst (λ (b : Bool). Ends b (a .t2) (a .m .stagecount) (c .first .result)) (sym (not-false (q .result) (c .before .before .before .before .if1 .left)) ∙ q .ensures) (c .first .ensures)
+    let q = c .before .before .before .pre .2 in
+    let s = q .2 in
+    absurd (c .before .loop .inv .1 (q .1) (omega (arith, s .1, c .loop-test .left)) (q .0, s .0, s .2))
 
 pub goal-spec : {M : Type 1} → statement M
-goal-spec = tie.close (tie.spec carries-requires returns first-requires returns-2)
+goal-spec =
+    tie.close
+    (tie.spec
+    Inv-loop
+    μ-loop
+    loop-holds
+    mul-row
+    add-row
+    row-requires
+    next-requires
+    returns
+    add-f
+    loop-less
+    loop-again
+    returns-2)

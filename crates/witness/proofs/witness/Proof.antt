@@ -2,7 +2,7 @@ use mathlib.Core.Path.{ap}
 use native.Mathlib.Omega.{arith}
 use lib.ListN.{length}
 use Rattle.witness_table.proofs.Laws.{length-backwards}
-use Rattle.witness.proofs.Laws.{ends-sits, building-few, turn-fits, shown}
+use Rattle.witness.proofs.Laws.{building-few, turn-fits, shown}
 use borrow.Author.Needs.{needs}
 use Rattle.witness.proofs.witness.Statement.{statement}
 use Rattle.witness.proofs.witness.Tie as tie
@@ -17,16 +17,12 @@ slice-aggregate-walk : tie.Need-slice-aggregate-walk
 slice-aggregate-walk c = search needs
 
 walk-requires : tie.Need-walk-requires
-walk-requires c κs =
-    let b = c .before .before .before .before .before .before .before .before .before in
-    let p = b .pre in
-    let a = b .args in
-    (p .0, c .before .before .before .slots .ensures, ends-sits (a .m) (a .work .now) (a .s) (a .l) (a .table .now) (a .steps .now) (a .ways .now) (p .0) (p .1 .0) (p .1 .1) (p .1 .2) (c .before .before .goal .result) (c .before .before .goal .ensures), p .2)
+walk-requires c κs = search needs
 
 build-requires : tie.Need-build-requires
 build-requires c κs =
-    let p = c .before .before .before .before .before .before .before .before .before .before .before .before .before .pre in
-    let a = c .before .before .before .before .before .before .before .before .before .before .before .before .before .args in
+    let p = c .before .before .before .before .before .before .before .before .before .before .before .before .before .before .pre in
+    let a = c .before .before .before .before .before .before .before .before .before .before .before .before .before .before .args in
     let h = c .before .before .before .walk .ensures in
     let few = building-few (a .m) (a .work .now) (a .s) (p .0 .known) in (
       p .0 .known .model,
@@ -37,8 +33,8 @@ build-requires c κs =
 
 turn-requires : tie.Need-turn-requires
 turn-requires c κs =
-    let p = c .before .before .before .before .before .before .before .before .before .before .before .before .before .before .before .before .before .pre in
-    let a = c .before .before .before .before .before .before .before .before .before .before .before .before .before .before .before .before .before .args in
+    let p = c .before .before .before .before .before .before .before .before .before .before .before .before .before .before .before .before .before .before .pre in
+    let a = c .before .before .before .before .before .before .before .before .before .before .before .before .before .before .before .before .before .before .args in
     let b = c .before .before .before .build .ensures in
     turn-fits (a .m) (a .work .now) (a .s) (p .0 .known) (a .run .now) _ _ _ _ (c .before .before .before .before .before .before .before .walk .ensures) (p .2) (b .0) (b .1)
 
@@ -47,8 +43,8 @@ same-length c = search needs
 
 returns : tie.Need-returns
 returns c =
-    let p = c .before .before .before .before .before .before .before .before .before .before .before .before .before .before .before .before .before .before .before .before .pre in
-    let a = c .before .before .before .before .before .before .before .before .before .before .before .before .before .before .before .before .before .before .before .before .args in
+    let p = c .before .before .before .before .before .before .before .before .before .before .before .before .before .before .before .before .before .before .before .before .before .pre in
+    let a = c .before .before .before .before .before .before .before .before .before .before .before .before .before .before .before .before .before .before .before .before .before .args in
     let b = c .before .before .before .before .before .before .build .ensures in
     shown (a .m) (a .work .now) (a .s) (p .0 .known) (a .run .now) _ _ _ _ (c .before .before .before .before .before .before .before .before .before .before .walk .ensures) (p .2) (b .0) (b .1) _ (c .before .before .turn .ensures)
 

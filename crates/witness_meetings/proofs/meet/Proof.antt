@@ -1,14 +1,6 @@
-use mathlib.Core.Path.{_≡_, sym, ap, _∙_, subst}
-use mathlib.Core.Logic.{⊎-elim, _≢_}
-use mathlib.Core.Option.{some}
-use Prim.Native.Nat.{ℕ, _-_, _≤_, _<_}
 use native.Mathlib.Omega.{arith}
-use lib.ListN.{getD}
-use Rattle.semantics.specs.Tables.{seat}
 use Rattle.model.specs.Records.{numberIn, stageAt}
-use Rattle.search_states.specs.States.{row}
-use Rattle.witness_meetings.specs.Legs.{entryOf, Meetable}
-use Rattle.witness_meetings.proofs.Laws.{few-variables, carried-slot}
+use Rattle.witness_meetings.proofs.Laws.{shows-body, few-variables, both-fixed, objects-small, meeting-written}
 use borrow.Author.Needs.{needs}
 use Rattle.witness_meetings.proofs.meet.Statement.{statement}
 use Rattle.witness_meetings.proofs.meet.Tie as tie
@@ -19,81 +11,68 @@ mul-stage c = search needs
 element-copy-out-stage : tie.Need-element-copy-out-stage
 element-copy-out-stage c = search needs
 
-cast-variables : tie.Need-cast-variables
-cast-variables c = search needs
+free-requires : tie.Need-free-requires
+free-requires c κs = search needs
 
-spot-requires : tie.Need-spot-requires
-spot-requires c κs =
-    let b = c .before .before .before .before .before in
+name-both-requires : tie.Need-name-both-requires
+name-both-requires c κs = search needs
+
+choose-requires : tie.Need-choose-requires
+choose-requires c κs =
+    let b = c .before .before .before .before .before .before in
     let p = b .pre in
     let a = b .args in
-    (p .0 .model .numbers (a .k) (p .2), few-variables (a .t4) (a .work .now) (a .t5) (p .0) (a .k) (p .2))
-
--- the carried variable is the stage's variable x
-own : (c : tie.Then1) → let a = c .before .before .before .before .before .before .before .args in numberIn (stageAt (a .t4) (a .k)) (c .before .spot .result) ≡ a .t4 .carried
-own c = ⊎-elim (λ w. w .1) (λ w. absurd (let l = c .if1 .taken in omega (arith, w .0))) (c .before .spot .ensures)
-
--- which slot its state has
-slotted : (c : tie.Then1) → let a = c .before .before .before .before .before .before .before .args in
-    (1 ≤ a .after) × (seat (a .after - 1) (row (a .t5)) < a .t5 .count) × (entryOf (a .after) ≡ some (getD (row (a .t5)) (seat (a .after - 1) (row (a .t5))) 0))
-slotted c =
-    let b = c .before .before .before .before .before .before .before in
-    let p = b .pre in
-    let a = b .args in
-    carried-slot (a .t4) (a .work .now) (a .t5) (p .0) (a .k) (p .2) (c .before .spot .result) (c .if1 .taken) (own c) (entryOf (a .before)) (a .after) (p .3)
-
-same : (c : tie.After-seek) → let a = c .before .before .before .before .before .before .before .before .before .before .before .args in entryOf (a .after) ≡ some (getD (row (a .t5)) (c .seek .result) 0)
-same c = let a = c .before .before .before .before .before .before .before .before .before .before .before .args in slotted (c .before .before .before .before) .2 ∙ ap (λ (j : ℕ). some (getD (row (a .t5)) j 0)) (sym (c .seek .ensures))
-
--- the stage has not the carried variable
-without : (c : tie.Else1) → let a = c .before .before .before .before .before .before .before .args in (y : ℕ) → y < stageAt (a .t4) (a .k) .variables → numberIn (stageAt (a .t4) (a .k)) y ≢ a .t4 .carried
-without c = ⊎-elim (λ w. absurd (let l = c .if1 .left in omega (arith, w .0))) (λ w. w .1) (c .before .spot .ensures)
-
-sub-seek : tie.Need-sub-seek
-sub-seek c = slotted (c .before .before .before) .0
-
-seek-requires : tie.Need-seek-requires
-seek-requires c κs = search needs
-
-meet-with-requires : tie.Need-meet-with-requires
-meet-with-requires c κs =
-    let b = c .before .before .before .before .before .before .before .before .before .before .before .before in
-    let p = b .pre in
-    let a = b .args in (
+    let σ = p .3 .0 in (
       p .0,
       p .1,
       p .2,
-      c .before .before .before .before .before .if1 .taken,
-      own (c .before .before .before .before .before),
-      rw (c .before .seek .ensures) (slotted (c .before .before .before .before .before) .1),
-      subst (Meetable (a .t4) (a .t5) (a .k) (entryOf (a .before))) (same (c .before)) (p .3),
-      p .4,
+      (
+        (λ x. σ (numberIn (stageAt (a .t4) (a .k)) x)),
+        shows-body (a .t4) (a .work .now) (a .s) (p .0) (a .k) (p .2) σ (p .3 .1),
+        both-fixed (a .t4) (a .work .now) (a .s) (p .0) (a .k) (p .2) (a .first) (a .second) _ _ (c .name-both .ensures) σ (p .3 .2) (λ x l n. absurd (n (c .before .free .ensures x))),
+      ),
     )
+
+add-name-both : tie.Need-add-name-both
+add-name-both c = search needs
+
+name-both-requires-2 : tie.Need-name-both-requires-2
+name-both-requires-2 c κs = search needs
+
+cast-number : tie.Need-cast-number
+cast-number c = search needs
+
+number-requires : tie.Need-number-requires
+number-requires c κs =
+    let b = c .before .before .before .before .before .before .before .before .before in
+    let p = b .pre in
+    let a = b .args in
+    let four = p .0 .model .stages in
+    let d = c .before .before .choose .ensures in (
+      omega (arith, p .2),
+      few-variables (a .t4) (a .work .now) (a .s) (p .0) (a .k) (p .2),
+      objects-small (a .t4) (a .work .now) (a .s) (p .0) (a .k) (p .2) (a .first) (a .second) (p .3 .0) (p .3 .1) (p .3 .2) _ _ _ _ (c .before .before .before .name-both .ensures) (d .0) (d .1) (c .before .name-both2 .ensures),
+    )
+
+mul-run : tie.Need-mul-run
+mul-run c = let b = c .before .before .before .before .before .before .before .before .before .before in record { fits = omega (arith, b .pre .4) }
+
+slice-write-run : tie.Need-slice-write-run
+slice-write-run c = search needs
+
+add-result : tie.Need-add-result
+add-result c = let b = c .before .before .before .before .before .before .before .before .before .before in record { fits = omega (arith, b .pre .4) }
 
 same-length : tie.Need-same-length
 same-length c = search needs
 
 returns : tie.Need-returns
 returns c =
-    let b = c .before .before .before .before .before .before .before .before .before .before .before .before .before .before .before in
-    let a = b .args in
-    rw (same (c .before .before .before .before)) (c .before .before .meet-with .ensures)
-
-meet-without-requires : tie.Need-meet-without-requires
-meet-without-requires c κs =
-    let b = c .before .before .before .before .before .before .before .before in
+    let b = c .before .before .before .before .before .before .before .before .before .before in
     let p = b .pre in
     let a = b .args in
-    (p .0, p .1, p .2, without (c .before), (entryOf (a .before), entryOf (a .after), p .3), omega (arith, p .4))
-
-same-length-2 : tie.Need-same-length-2
-same-length-2 c = search needs
-
-returns-2 : tie.Need-returns-2
-returns-2 c =
-    let b = c .before .before .before .before .before .before .before .before .before .before .before in
-    let a = b .args in
-    c .before .before .meet-without .ensures (entryOf (a .before)) (entryOf (a .after)) (b .pre .3)
+    let d = c .before .before .before .choose .ensures in
+    meeting-written (a .t4) (a .work .now) (a .s) (p .0) (a .k) (p .2) (a .first) (a .second) (p .3 .0) (p .3 .1) (p .3 .2) _ _ _ _ (c .before .before .before .before .name-both .ensures) (d .0) (d .1) (c .before .before .name-both2 .ensures) (a .run .now) (a .at) (c .number .result) (c .number .ensures)
 
 pub meet-spec : {M : Type 1} → statement M
 meet-spec =
@@ -101,13 +80,15 @@ meet-spec =
     (tie.spec
     mul-stage
     element-copy-out-stage
-    cast-variables
-    spot-requires
-    sub-seek
-    seek-requires
-    meet-with-requires
+    free-requires
+    name-both-requires
+    choose-requires
+    add-name-both
+    name-both-requires-2
+    cast-number
+    number-requires
+    mul-run
+    slice-write-run
+    add-result
     same-length
-    returns
-    meet-without-requires
-    same-length-2
-    returns-2)
+    returns)

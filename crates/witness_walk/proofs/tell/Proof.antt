@@ -6,7 +6,7 @@ use lib.Seq.{slice, slice-empty}
 use Rattle.semantics.specs.Building.{places, with}
 use Rattle.witness_table.specs.Runs.{backwards}
 use Rattle.witness_table.proofs.Laws.{backwards-none}
-use Rattle.witness_walk.proofs.Ways.{told-more}
+use Rattle.witness_walk.proofs.Errands.{told-more}
 use borrow.Author.Needs.{needs}
 use Rattle.witness_walk.proofs.tell.Statement.{statement}
 use Rattle.witness_walk.proofs.tell.Tie as tie
