@@ -1,0 +1,4 @@
+pub mod Orders
+pub mod Named
+pub mod Records
+pub mod Gathering

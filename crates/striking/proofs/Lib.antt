@@ -1,0 +1,4 @@
+pub mod Striking
+pub mod Choices
+pub mod Numbers
+pub mod Cases

@@ -1,0 +1,2 @@
+pub mod Striking
+pub mod Numbers
