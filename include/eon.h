@@ -26,13 +26,14 @@
  * 4 one declaration or clause too many; 5 a name declared again; 6 a name undeclared or of the wrong kind; 7 a wrong number of variables;
  * 8 `not` before a derived relation; 9 a variable only under `not` or only in the head, a fourth variable, one repeated in a rule's head;
  * 10 a line after `ask`, or no `ask`; 11 three or more carried variables; 12 a work area under EON_WORK bytes, or a table lent for writing
- * under EON_RUN places; 14 a run over EON_RUN places, or a state that has kept EON_RUN.
- * The first line is 1; the line is 0 for numbers 1, 12 and 14.
+ * under EON_RUN places; 14 a run over EON_RUN places, or a state that has kept EON_RUN; 15 more than 127 non-empty atomic states are reachable.
+ * The first line is 1; the line is 0 for numbers 1, 12, 14 and 15. 15 comes after all others, from eon_analyze, and from eon_mark where the verdict is
+ * needed. A replay of such a text works as ever, and the calls for display take it as accepted.
  *
- * After a refusal the lent buffers are as they were, but for `out`, and so they are after an unreadable hand-in. After every other answer the first
- * EON_WORK bytes of the work area are zero, and the rest is as it was.
+ * After a refusal other than 15 the lent buffers are as they were, but for `out`, and so they are after an unreadable hand-in. After 15 and after every
+ * other answer the first EON_WORK bytes of the work area are zero, and the rest is as it was.
  *
- * A call needs under 192 KB of stack, and no memory but the stack and what is lent.
+ * A call needs under 512 KB of stack, and no memory but the stack and what is lent.
  *
  * A place of a run is a number of 32 bits. A step is line * 256 + object. A meeting is
  * 2,147,483,648 + stage * 16,777,216 + o1 * 65,536 + o2 * 256 + o3, with 255 where there is no object.
@@ -41,7 +42,8 @@
  * order of first appearance in the line, a `next` line's own variable first. It is o1 * 65,536 + o2 * 256 + o3, with 255 where there is no variable;
  * 16,777,215 for a line without variables. A meeting has 0.
  *
- * An atomic state is a number of 32 bits: the relation of the first `state` line counts 1, the next 2, then 4, and so on; the empty state is 0.
+ * An atomic state is a number of 32 bits: the relation of the first `state` line counts 1, the next 2, then 4, and so on up to the 24th, which counts
+ * 8,388,608; the empty state is 0.
  */
 #ifndef EON_H
 #define EON_H
@@ -54,22 +56,22 @@ extern "C" {
 #endif
 
 /* The sizes that buffers need: bytes of the work area, places of a run table lent for writing, cells beside an answer, cells of a replay state. */
-#define EON_WORK 32768
+#define EON_WORK 65536
 #define EON_RUN 9344
 #define EON_OUT 130
 #define EON_SESSION 260
 
 /* The bytes that a hand-in has at most. */
-#define EON_HANDIN 262144
+#define EON_HANDIN 524288
 
-/* Analyzes a text: kind 0, 1 or 2.
+/* Analyzes a text: kind 0, 1 or 2. It is refused 15 exactly if more than 127 non-empty atomic states are reachable, whatever is asked.
  *
  * out has EON_OUT cells, and all of them are written. out[0] is the number of reachable atomic states; out[1] and so on are these states by rising
  * number, so that the empty one, 0, comes first if it is reachable, with zeros behind them up to out[128]; out[129] is the number of the last place
  * of the run shown, 0 where there is none.
  * After a refusal all are 0.
  *
- * run is written only for reached, and only its first n places. */
+ * run is written only for reached, and only its first n places; so it is as it was after 15. */
 uint64_t eon_analyze(const uint8_t *text, size_t bytes, uint8_t *work, size_t work_bytes, uint32_t *run, size_t places, uint32_t *out);
 
 /* Replays a run over a text: kind 2, 3 or 4.
@@ -110,12 +112,14 @@ uint64_t eon_line(const uint8_t *text, size_t bytes, size_t i);
  * run is written only for kind 10, and only its first places: the numbers of the hand-in's run. */
 uint64_t eon_handin(const uint8_t *handin, size_t length, uint32_t *run, size_t places);
 
-/* Marks a hand-in to a text: kind 2, 5, 6, 7 or 8. A refusal of the text comes before what the hand-in says. A hand-in that says no is right exactly
- * if the question is unreached, and one that says yes exactly if its run is kept; a run that breaks is of kind 8 if the question is reached, else of
- * kind 7.
+/* Marks a hand-in to a text: kind 2, 5, 6, 7 or 8. A refusal of the text other than 15 comes before what the hand-in says. A hand-in that says no is
+ * right exactly if the question is unreached, and one that says yes exactly if its run is kept; a run that breaks is of kind 8 if the question is
+ * reached, else of kind 7. Where more than 127 non-empty atomic states are reachable there is no verdict: a run that is kept is right all the same, and
+ * a no, or a run that breaks, is refused 15 with line 0.
  *
- * run and stood are tables lent for writing. Where the text is accepted and the hand-in says yes, run gets the numbers of its run, as from eon_handin,
- * and stood the numbers of those who stood by, as from eon_replay. Otherwise both are left as they were, and so are all other places of them. */
+ * run and stood are tables lent for writing. Where the text is accepted or refused 15, and the hand-in says yes, run gets the numbers of its run, as
+ * from eon_handin, and stood the numbers of those who stood by, as from eon_replay. Otherwise both are left as they were, and so are all other places
+ * of them. */
 uint64_t eon_mark(const uint8_t *text, size_t bytes, const uint8_t *handin, size_t length, uint8_t *work, size_t work_bytes, uint32_t *run, size_t places, uint32_t *stood, size_t numbers);
 
 /* What a line of an accepted text makes of an object in an atomic state: 2 * 2^32 + the state of the object that a `new` line creates, 3 * 2^32 + the

@@ -15,40 +15,47 @@ const VARIABLES: [&str; 5] = ["X", "Y", "Z", "U", "V"];
 /// Where those of carried objects begin.
 const OTHERS: usize = 3;
 
-impl Spelling {
+/// A spelling of so many labels.
+#[derive(Clone, Copy)]
+struct Form {
+    spelling: Spelling,
+    labels: usize,
+}
+
+impl Form {
     /// The terms of a variable.
     fn terms(self, v: usize) -> String {
-        match self {
-            Spelling::Vector => (0..7).map(|i| format!("{}{i}", VARIABLES[v])).collect::<Vec<_>>().join(","),
+        match self.spelling {
+            Spelling::Vector => (0..self.labels).map(|i| format!("{}{i}", VARIABLES[v])).collect::<Vec<_>>().join(","),
             Spelling::Number => VARIABLES[v].to_string(),
         }
     }
 
     /// The terms of a set of state relations.
     fn set(self, set: u32) -> String {
-        match self {
-            Spelling::Vector => (0..7).map(|i| (set >> i & 1).to_string()).collect::<Vec<_>>().join(","),
+        match self.spelling {
+            Spelling::Vector => (0..self.labels).map(|i| (set >> i & 1).to_string()).collect::<Vec<_>>().join(","),
             Spelling::Number => set.to_string(),
         }
     }
 
     /// The terms of variable 0 after a step, and what else the body needs.
     fn after(self, plus: u32, minus: u32) -> (String, String) {
-        match self {
+        match self.spelling {
             Spelling::Vector => {
-                let term = |i: u32| match (plus >> i & 1, minus >> i & 1) {
+                let term = |i: usize| match (plus >> i & 1, minus >> i & 1) {
                     (_, 1) => "0".to_string(),
                     (1, _) => "1".to_string(),
                     _ => format!("X{i}"),
                 };
-                ((0..7).map(term).collect::<Vec<_>>().join(","), String::new())
+                ((0..self.labels).map(term).collect::<Vec<_>>().join(","), String::new())
             }
-            Spelling::Number => ("W".to_string(), format!(", W = (X ? {plus}) & {}, W != 0", 127 & !minus)),
+            Spelling::Number => ("W".to_string(), format!(", W = (X ? {plus}) & {}, W != 0", ((1 << self.labels) - 1) & !minus)),
         }
     }
 
     fn literal(self, l: &Literal) -> String {
-        match (l.kind, self) {
+        match (l.kind, self.spelling) {
             (Kind::State(i), Spelling::Vector) => format!("{}({}{i})", if l.negated { "false" } else { "true" }, VARIABLES[l.variables[0]]),
             (Kind::State(i), Spelling::Number) => format!("{}{i}({})", if l.negated { "n" } else { "s" }, VARIABLES[l.variables[0]]),
             (Kind::Derived(r, _), _) => self.atom(r, &l.variables),
@@ -78,7 +85,7 @@ impl Spelling {
 }
 
 /// The atom of a level: so many stages are met, and these are the terms of the carried objects that are chosen.
-fn level(s: Spelling, met: usize, chosen: &[usize]) -> String {
+fn level(s: Form, met: usize, chosen: &[usize]) -> String {
     let terms: Vec<String> = chosen.iter().map(|&v| s.terms(v)).collect();
     match terms.is_empty() {
         true => format!("level{met}"),
@@ -93,7 +100,7 @@ fn chosen(m: &Model, met: usize) -> Vec<usize> {
 }
 
 /// The rules by which a `next` line changes each carried object of each level, the others staying what they are.
-fn walks(t: &mut String, m: &Model, s: Spelling, line: u32, after: &str, more: &str) {
+fn walks(t: &mut String, m: &Model, s: Form, line: u32, after: &str, more: &str) {
     for met in 0..m.stages.len() {
         let carried = chosen(m, met);
         for walker in 0..carried.len() {
@@ -106,22 +113,34 @@ fn walks(t: &mut String, m: &Model, s: Spelling, line: u32, after: &str, more: &
 }
 
 /// The rule by which a stage leads from a level to the next: the pair that met the stages before is the pair that meets this one.
-fn meeting(t: &mut String, m: &Model, s: Spelling, met: usize) {
+fn meeting(t: &mut String, m: &Model, s: Form, met: usize) {
     let stage = &m.stages[met];
     let seat = |c: &usize| stage.variables.iter().position(|&v| v == m.carried[*c]).unwrap_or(OTHERS + c);
     let [before, after] = [met, met + 1].map(|k| chosen(m, k).iter().map(seat).collect::<Vec<usize>>());
     writeln!(t, "{} :- {}, {}.", level(s, met + 1, &after), level(s, met, &before), s.body(&stage.body)).unwrap();
 }
 
-/// The Datalog program of a model, with an atom for each level of the question and the states of the carried objects.
-pub fn program(m: &Model, s: Spelling) -> String {
-    let mut t = String::from("reach0.\ntrue(1).\nfalse(0).\n");
-    if s == Spelling::Number {
-        for i in 0..7 {
-            for n in 1..128 {
-                writeln!(t, "{}{i}({n}).", if n >> i & 1 == 1 { "s" } else { "n" }).unwrap();
-            }
+/// The facts, or for more states than seven labels make the rules, that say which labels a number has.
+fn numbers(t: &mut String, labels: usize) {
+    for i in 0..labels {
+        if labels > 7 {
+            let bit = 1 << i;
+            writeln!(t, "s{i}(X) :- reach(X), X & {bit} != 0.\nn{i}(X) :- reach(X), X & {bit} == 0.").unwrap();
+            continue;
         }
+        for n in 1..1 << labels {
+            writeln!(t, "{}{i}({n}).", if n >> i & 1 == 1 { "s" } else { "n" }).unwrap();
+        }
+    }
+}
+
+/// The Datalog program of a model, with an atom for each level of the question and the states of the carried objects.
+pub fn program(m: &Model, spelling: Spelling) -> String {
+    let labels = m.names.iter().filter(|n| matches!(n.1, Kind::State(_))).count();
+    let s = Form { spelling, labels };
+    let mut t = String::from("reach0.\ntrue(1).\nfalse(0).\n");
+    if spelling == Spelling::Number {
+        numbers(&mut t, labels);
     }
     for c in &m.clauses {
         let body = s.body(&c.body);
@@ -146,7 +165,7 @@ pub fn program(m: &Model, s: Spelling) -> String {
     }
     let last = m.stages.len();
     let some: Vec<usize> = (0..chosen(m, last).len()).collect();
-    let labels = if s == Spelling::Vector { 7 } else { 1 };
+    let labels = if spelling == Spelling::Vector { labels } else { 1 };
     writeln!(t, "reached :- {}.\n#show reached/0.\n#show reach/{labels}.", level(s, last, &some)).unwrap();
     t
 }

@@ -70,76 +70,81 @@ fn ratio(other: Option<f64>, own: f64) -> String {
     other.map_or("-".to_string(), |t| format!("{:.3}", t / own))
 }
 
-/// A line of the table: what was timed, the product's time, and the others' with their ratios to it.
-fn line(name: &str, own: f64, others: [Option<f64>; 2], worst: &mut (f64, String)) {
-    println!(
-        "{name:44} {:>10} {:>10} {:>8} {:>10} {:>8}",
-        column(Some(own)),
-        column(others[0]),
-        ratio(others[0], own),
-        column(others[1]),
-        ratio(others[1], own)
-    );
-    for other in others.into_iter().flatten() {
-        if other / own < worst.0 {
-            *worst = (other / own, name.to_string());
+/// What the lines printed so far have at the worst: the least ratio and the longest time, with what they are of.
+struct Table {
+    worst: (f64, String),
+    slowest: (f64, String),
+}
+
+impl Table {
+    /// Prints a line: what was timed, the product's time, and the others' with their ratios to it.
+    fn line(&mut self, name: &str, own: f64, others: [Option<f64>; 2]) {
+        println!(
+            "{name:44} {:>10} {:>10} {:>8} {:>10} {:>8}",
+            column(Some(own)),
+            column(others[0]),
+            ratio(others[0], own),
+            column(others[1]),
+            ratio(others[1], own)
+        );
+        for other in others.into_iter().flatten() {
+            if other / own < self.worst.0 {
+                self.worst = (other / own, name.to_string());
+            }
+        }
+        if own > self.slowest.0 {
+            self.slowest = (own, name.to_string());
+        }
+    }
+
+    /// The replay of a run that is kept.
+    fn replay(&mut self, buffers: &mut product::Buffers, name: &str, bytes: &[u8], run: &[u32]) {
+        let (own, broken) = best(|| buffers.replay(bytes, run));
+        let (plain, expected) = best(|| method::replay(&method::text::read(bytes), run));
+        assert_eq!((broken, expected), (None, None), "{name}");
+        self.line(name, own, [Some(plain), None]);
+    }
+
+    /// The analysis of a text, and the replay of the run shown.
+    fn text(&mut self, buffers: &mut product::Buffers, name: &str, bytes: &[u8]) {
+        let (own, analysis) = best(|| buffers.analyze(bytes));
+        let (plain, expected) = best(|| method::analyze(&method::text::read(bytes)));
+        let (Some(analysis), Some(expected)) = (&analysis, &expected) else {
+            assert_eq!(analysis.is_some(), expected.is_some(), "{name}");
+            return self.line(&format!("{name} (refused 15)"), own, [Some(plain), None]);
+        };
+        assert_eq!(analysis.states, expected.states, "{name}");
+        assert_eq!(analysis.run.is_some(), expected.reached, "{name}");
+        let model = model::read(bytes);
+        let mut stock: Option<f64> = None;
+        for spelling in [Spelling::Number, Spelling::Vector] {
+            if let Some((time, reached)) = gringo(&datalog::program(&model, spelling)) {
+                assert_eq!(reached, analysis.run.is_some(), "{name}");
+                stock = Some(stock.map_or(time, |t| t.min(time)));
+            }
+        }
+        self.line(&format!("{name} ({} facts)", expected.facts), own, [Some(plain), stock]);
+        if let Some(run) = &analysis.run {
+            self.replay(buffers, &format!("  replay of its {} places", run.len()), bytes, run);
         }
     }
 }
 
 fn main() {
     let parts: Vec<String> = std::env::args().skip(1).collect();
+    let wanted = |name: &str| parts.is_empty() || parts.iter().any(|p| name.contains(p.as_str()));
     let mut buffers = product::Buffers::new();
-    let mut worst = (f64::INFINITY, String::new());
-    let mut slowest = (0.0, String::new());
+    let mut table = Table {
+        worst: (f64::INFINITY, String::new()),
+        slowest: (0.0, String::new()),
+    };
     println!("{:44} {:>10} {:>10} {:>8} {:>10} {:>8}", "", "product", "plain", "ratio", "gringo", "ratio");
-    for text in texts::all() {
-        if !parts.is_empty() && !parts.iter().any(|p| text.name.contains(p.as_str())) {
-            continue;
-        }
-        let bytes = text.bytes.as_bytes();
-        let (own, analysis) = best(|| buffers.analyze(bytes));
-        let (plain, expected) = best(|| method::analyze(&method::text::read(bytes)));
-        assert_eq!(analysis.states, expected.states, "{}", text.name);
-        assert_eq!(analysis.run.is_some(), expected.reached, "{}", text.name);
-        let model = model::read(bytes);
-        let mut stock: Option<f64> = None;
-        for spelling in [Spelling::Number, Spelling::Vector] {
-            if let Some((time, reached)) = gringo(&datalog::program(&model, spelling)) {
-                assert_eq!(reached, analysis.run.is_some(), "{}", text.name);
-                stock = Some(stock.map_or(time, |t| t.min(time)));
-            }
-        }
-        let name = format!("{} ({} facts)", text.name, expected.facts);
-        line(&name, own, [Some(plain), stock], &mut worst);
-        if own > slowest.0 {
-            slowest = (own, name.clone());
-        }
-        if let Some(run) = analysis.run {
-            let (own, broken) = best(|| buffers.replay(bytes, &run));
-            let (plain, expected) = best(|| method::replay(&method::text::read(bytes), &run));
-            assert_eq!((broken, expected), (None, None), "{}", text.name);
-            let name = format!("  replay of {} places", run.len());
-            line(&name, own, [Some(plain), None], &mut worst);
-            if own > slowest.0 {
-                slowest = (own, format!("{}: {}", text.name, name.trim()));
-            }
-        }
+    for text in texts::all().iter().filter(|t| wanted(t.name)) {
+        table.text(&mut buffers, text.name, text.bytes.as_bytes());
     }
-    for run in runs::all() {
-        let name = format!("changing states, {}", run.name);
-        if !parts.is_empty() && !parts.iter().any(|p| name.contains(p.as_str())) {
-            continue;
-        }
-        let bytes = run.bytes.as_bytes();
-        let (own, broken) = best(|| buffers.replay(bytes, &run.places));
-        let (plain, expected) = best(|| method::replay(&method::text::read(bytes), &run.places));
-        assert_eq!((broken, expected), (None, None), "{name}");
-        line(&name, own, [Some(plain), None], &mut worst);
-        if own > slowest.0 {
-            slowest = (own, name.clone());
-        }
+    for run in runs::all().iter().filter(|r| wanted(r.name)) {
+        table.replay(&mut buffers, run.name, run.bytes.as_bytes(), &run.places);
     }
-    println!("worst ratio {:.3}: {}", worst.0, worst.1.trim());
-    println!("slowest {}: {}", column(Some(slowest.0)), slowest.1);
+    println!("worst ratio {:.3}: {}", table.worst.0, table.worst.1.trim());
+    println!("slowest {}: {}", column(Some(table.slowest.0)), table.slowest.1.trim());
 }

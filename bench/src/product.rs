@@ -23,24 +23,25 @@ pub struct Buffers {
 impl Buffers {
     pub fn new() -> Self {
         Buffers {
-            work: vec![0; 32_768],
+            work: vec![0; 65_536],
             run: vec![0; 9_344],
             stood: vec![0; 9_344],
         }
     }
 
-    /// Analyzes an accepted text.
-    pub fn analyze(&mut self, text: &[u8]) -> Analysis {
+    /// Analyzes an accepted text; none where it has too many states.
+    pub fn analyze(&mut self, text: &[u8]) -> Option<Analysis> {
         let mut out = [0; 130];
         let answer = unsafe { eon_analyze(text, &mut self.work, &mut self.run, &mut out) };
         let value = answer as u32;
         let states = out[1..=out[0] as usize].to_vec();
-        match answer >> 32 {
-            0 => Analysis { states, run: None },
-            1 => Analysis {
+        match (answer >> 32, value >> 16) {
+            (0, _) => Some(Analysis { states, run: None }),
+            (1, _) => Some(Analysis {
                 states,
                 run: Some(self.run[..value as usize].to_vec()),
-            },
+            }),
+            (2, 15) => None,
             _ => panic!("refused {} at line {}", value >> 16, value & 65_535),
         }
     }

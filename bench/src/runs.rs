@@ -1,6 +1,6 @@
 //! Runs made to be slow: at nearly every place the last object of one state leaves it for a state that no object has, and every such step rests on all rules.
 
-use crate::texts::{declared, every, full_relations, halves, hand_round_rules, no_triangle, PAIRS, STATES};
+use crate::texts::{declared, every, full_relations, full_rules, halves, hand_round_rules, no_triangle, PAIRS, STATES};
 use std::fmt::Write;
 
 /// A text with a run of it.
@@ -128,23 +128,81 @@ fn handed_round() -> Run {
     fill(&mut places, &lines, 127, owner, |_| 0);
     meet(&mut places, owner[2]);
     Run {
-        name: "one fact handed round",
+        name: "changing states, one fact handed round",
         bytes: t,
         places,
+    }
+}
+
+/// The labels of 24 that tell 255 objects apart, of which the first is the one that the half-full relations look at; and those that come and go.
+const APART: [&str; 8] = ["A", "N1", "N2", "N3", "N4", "N5", "N6", "N7"];
+const CHANGING: [&str; 6] = ["C0", "C1", "C2", "C3", "C4", "C5"];
+
+/// A text of 24 labels with these rules. Objects have the label K and are told apart by eight others; six come and go where all rules were taken.
+/// The lines that set and clear the six follow those that create an object and set each of the eight.
+fn crowd_text(rules: impl Fn(&mut String)) -> (String, u32) {
+    let mut t = String::new();
+    let unused = (0..9).map(|i| format!("X{i}"));
+    for label in ["K"].iter().chain(&APART).chain(&CHANGING).map(|l| l.to_string()).chain(unused) {
+        writeln!(t, "(state {label})").unwrap();
+    }
+    t.push_str("(rel O 1)\n(rel N 0)\n");
+    for p in PAIRS {
+        writeln!(t, "(rel {p} 2)").unwrap();
+    }
+    let first = next_line(&t);
+    t.push_str("(new (K))\n");
+    for l in APART {
+        writeln!(t, "(next x ({l}) () (K x))").unwrap();
+    }
+    for l in CHANGING {
+        writeln!(t, "(next x ({l}) () (not ({l} x)) (O x) (N))\n(next x () ({l}) ({l} x) (O x) (N))").unwrap();
+    }
+    t.push_str("(rule (O x) (K x))\n");
+    rules(&mut t);
+    t.push_str("(rule (N) (O x))\n(rule (N) (U x y))\n(ask ((O x)))\n");
+    (t, first)
+}
+
+/// 255 objects in 255 states, then at each place an object goes on to a state that no object ever had: the six labels of each object count through
+/// their sets, one label at a time, and the objects take turns. No set of states comes twice.
+fn crowd(name: &'static str, places: usize, rules: impl Fn(&mut String)) -> Run {
+    let (bytes, first) = crowd_text(rules);
+    let mut run = Vec::new();
+    for object in 0..255 {
+        run.push(first * 256 + object);
+        run.extend((0..8).filter(|i| object >> i & 1 == 1).map(|i| (first + 1 + i) * 256 + object));
+    }
+    let changes = (1..64u32).flat_map(|turn| (0..255).map(move |object| (turn, object)));
+    for (turn, object) in changes.take(places - 1 - run.len()) {
+        let label = turn.trailing_zeros();
+        let cleared = turn >> (label + 1) & 1;
+        run.push((first + 9 + 2 * label + cleared) * 256 + object);
+    }
+    assert_eq!(run.len(), places - 1, "{name}");
+    meet(&mut run, 254);
+    Run { name, bytes, places: run }
+}
+
+/// Rules of eight literals that never hold over half-full relations.
+fn never(t: &mut String) {
+    halves(t, &["Q", "R", "S"], &["P", "T"]);
+    for i in 0..30 {
+        writeln!(t, "(rule (U x y){})", no_triangle(i)).unwrap();
     }
 }
 
 /// All runs.
 pub fn all() -> Vec<Run> {
     vec![
-        wandering("six full relations", |t| full_relations(t, 34)),
-        wandering("never all three", |t| {
+        wandering("changing states, six full relations", |t| full_relations(t, 34)),
+        wandering("changing states, never all three", |t| {
             every(t, "O");
-            halves(t, &["Q", "R", "S"], &["P", "T"]);
-            for i in 0..30 {
-                writeln!(t, "(rule (U x y){})", no_triangle(i)).unwrap();
-            }
+            never(t);
         }),
         handed_round(),
+        crowd("255 states, six full relations, 1,292 places", 1_292, |t| full_rules(t, 34)),
+        crowd("255 changing states, six full relations", PLACES, |t| full_rules(t, 34)),
+        crowd("255 changing states, never all three", PLACES, never),
     ]
 }

@@ -211,9 +211,14 @@ fn six_full(find: impl Fn(&mut String)) -> String {
     t
 }
 
-/// Lines that fill the six pair relations, and so many rules of eight literals over them.
+/// Lines that fill the six pair relations over all states, and so many rules of eight literals over them.
 pub fn full_relations(t: &mut String, rules: usize) {
     every(t, "O");
+    full_rules(t, rules);
+}
+
+/// Lines that fill the six pair relations over the states that have O, and so many rules of eight literals over them.
+pub fn full_rules(t: &mut String, rules: usize) {
     for p in PAIRS {
         writeln!(t, "(rule ({p} x y) (O x) (O y))").unwrap();
     }
@@ -360,6 +365,89 @@ fn chained_never() -> String {
     t
 }
 
+/// The 24 labels of the wide texts: at every third place one of the seven that count, and seventeen more.
+fn wide_labels() -> Vec<String> {
+    (0..24)
+        .map(|i| match (i % 3, i / 3) {
+            (0, k) if k < 7 => STATES[k].to_string(),
+            _ => format!("X{i}"),
+        })
+        .collect()
+}
+
+/// The labels that come and go together with one of the seven, which is the first.
+fn with(i: usize) -> Vec<String> {
+    let own = STATES[i].to_string();
+    let others = (0..24).map(|k| format!("X{k}")).filter(|l| wide_labels().contains(l));
+    [own].into_iter().chain(others.skip(i).step_by(7)).collect()
+}
+
+/// The lines that declare 24 labels, O and the pair relations.
+fn declared_wide() -> String {
+    let mut t: String = wide_labels().iter().map(|l| format!("(state {l})\n")).collect();
+    t.push_str("(rel O 1)\n");
+    for p in PAIRS {
+        writeln!(t, "(rel {p} 2)").unwrap();
+    }
+    t
+}
+
+/// The worst text for the joins with 127 states over 24 labels: the lines of the counter set and clear two to four labels for each of seven.
+fn chained_wide() -> String {
+    let mut t = declared_wide();
+    writeln!(t, "(new ({}))", with(0).join(" ")).unwrap();
+    writeln!(t, "(next x ({}) () (O x) (not (A x)) (U x y) (U y x) (O y))", with(0).join(" ")).unwrap();
+    for i in 1..7 {
+        let low: Vec<String> = (0..i).flat_map(with).collect();
+        let ones: String = STATES[..i].iter().map(|l| format!("({l} x) ")).collect();
+        writeln!(t, "(next x ({}) ({}) {ones}(not ({} x)) (U x y))", with(i).join(" "), low.join(" "), STATES[i]).unwrap();
+    }
+    full_relations(&mut t, 43);
+    t.push_str("(ask ((P x y) (Q y z) (R z x)))\n");
+    t
+}
+
+/// A line that gives the state 127, once a guard holds, an eighth label: the 128th state.
+fn one_more(t: &mut String, guard: &str) {
+    let at = t.find("(rel ").expect("a derived relation");
+    t.insert_str(at, "(state H)\n(rel Last 1)\n");
+    writeln!(t, "(rule (Last x){})\n(next x (H) () (Last x){guard})", is(127, "x")).unwrap();
+}
+
+/// States that come one at a time over full relations, and the 128th after pairs of all six.
+fn chained_over() -> String {
+    let mut t = declared(&["O"], &PAIRS);
+    chained(&mut t);
+    full_relations(&mut t, 41);
+    one_more(&mut t, " (P x y) (Q y x) (R x x) (S y y) (T x y) (U y x) (A y)");
+    t.push_str("(ask ((P x y) (Q y z) (R z x)))\n");
+    t
+}
+
+/// One fact handed round over all pairs of 127 states, the last of which brings the 128th state.
+fn hand_round_over() -> String {
+    let mut t = declared(&["First", "Low", "Row", "Next"], &PAIRS);
+    all_states(&mut t);
+    hand_round_rules(&mut t, 127);
+    one_more(&mut t, " (R x x)");
+    writeln!(t, "(ask ((R x x){}))", is(127, "x")).unwrap();
+    t
+}
+
+/// All sets of 24 labels, and so many rules of eight literals over full relations.
+fn millions(rules: Option<usize>) -> String {
+    let mut t = declared_wide();
+    writeln!(t, "(new ({}))", wide_labels().join(" ")).unwrap();
+    for l in wide_labels() {
+        writeln!(t, "(next x () ({l}) ({l} x))").unwrap();
+    }
+    if let Some(rules) = rules {
+        full_relations(&mut t, rules);
+    }
+    t.push_str("(ask ((A x) (X1 x)))\n");
+    t
+}
+
 /// The counter, and a line that begins it anew.
 fn cycle(t: &mut String, guarded: bool) {
     counter(t, guarded);
@@ -489,6 +577,11 @@ pub fn all() -> Vec<Text> {
         text("a pair, never all three", pair_never()),
         text("chained, six full relations", chained_full()),
         text("chained, never all three", chained_never()),
+        text("24 labels, chained, six full relations", chained_wide()),
+        text("2^24 states", millions(None)),
+        text("2^24 states, six full relations", millions(Some(26))),
+        text("128 states, chained, six full relations", chained_over()),
+        text("128 states, one fact handed round", hand_round_over()),
         text("longest text", longest_text()),
     ]
 }

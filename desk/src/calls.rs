@@ -4,11 +4,14 @@ include!("../../include/eon.rs");
 
 /// The most bytes of a model and of a hand-in that are read: one more than is taken, so that a longer file is refused for its length.
 pub const MODEL: usize = 16_385;
-pub const HANDIN: usize = 262_145;
+pub const HANDIN: usize = 524_289;
 
-const WORK: usize = 32_768;
+const WORK: usize = 65_536;
 const RUN: usize = 9_344;
 const OUT: usize = 130;
+
+/// The number of the refusal that leaves the verdict open and nothing else: too many states are reachable.
+pub const TOO_MANY: u32 = 15;
 
 /// A refusal of the model: its number and line.
 #[derive(Clone, Copy)]

@@ -7,7 +7,7 @@ mod rows;
 mod show;
 mod story;
 
-use calls::{Handin, Mark, Refusal, Replay};
+use calls::{Handin, Mark, Refusal, Replay, TOO_MANY};
 use model::{line_of, readable, Model};
 use std::fs::File;
 use std::io::{IsTerminal, Read, Write};
@@ -22,7 +22,10 @@ const MARK: &str = "usage: eon mark MODEL HANDIN
 
 Marks a hand-in. Its first line is yes or no (or the first line of a listing); after a yes come the
 places of a run, one a line, as a listing writes them: (step line object) and (meet stage object ..).
-A whole listing can be handed in as it is.
+A whole listing can be handed in as it is. At most 9,344 places and 524,288 bytes are taken.
+
+A model has at most 24 labels. Where more than 127 non-empty label sets are reachable there is no verdict:
+a run that is kept is right all the same, and any other hand-in is refused (15).
 
 Exit status: 0 right, 1 wrong, 2 the model is refused or the hand-in unreadable, 3 a file or the program failed.";
 
@@ -89,7 +92,7 @@ fn capital(sentence: &str) -> String {
 /// An unreadable hand-in.
 fn unreadable(name: &str, bytes: &[u8], line: usize) -> String {
     if line == 0 {
-        return format!("unreadable: {name} has over 262,144 bytes.\n");
+        return format!("unreadable: {name} has over 524,288 bytes.\n");
     }
     let shown = readable(line_of(bytes, line));
     let shown = if shown.is_empty() {
@@ -140,6 +143,10 @@ fn mark(model_name: &str, handin_name: &str) -> ! {
     let text = read(model_name, calls::MODEL);
     let handin = read(handin_name, calls::HANDIN);
     match calls::mark(&text, &handin) {
+        Mark::Refused(r) if r.number == TOO_MANY => {
+            let said = refused(model_name, &text, r);
+            end(&format!("{said}{}", break_of(&text, handin_name, &handin)), REFUSED)
+        }
         Mark::Refused(r) => end(&refused(model_name, &text, r), REFUSED),
         Mark::Unreadable { line } => end(&unreadable(handin_name, &handin, line), REFUSED),
         Mark::Right => {
@@ -176,11 +183,14 @@ fn break_of(text: &[u8], name: &str, handin: &[u8]) -> String {
 fn explain(all: bool, model_name: &str, handin_name: Option<&str>) -> ! {
     let text = read(model_name, calls::MODEL);
     let handin = handin_name.map(|n| (n, read(n, calls::HANDIN)));
-    let analysis = match calls::analyze(&text) {
-        Ok(a) => a,
-        Err(r) => end(&refused(model_name, &text, r), REFUSED),
-    };
-    let model = Model::new(text);
+    let analysis = calls::analyze(&text);
+    let refusal = |r: Refusal| -> ! { end(&refused(model_name, &text, r), REFUSED) };
+    if let Err(r) = &analysis {
+        if r.number != TOO_MANY {
+            refusal(*r);
+        }
+    }
+    let model = Model::new(text.clone());
     let style = show::Style {
         all,
         colour: std::io::stdout().is_terminal(),
@@ -206,6 +216,7 @@ fn explain(all: bool, model_name: &str, handin_name: Option<&str>) -> ! {
             Handin::No => {}
         }
     }
+    let analysis = analysis.unwrap_or_else(|r| refusal(r));
     match analysis.run {
         Some(run) => {
             let (stood, _) = calls::replay(&model.bytes, &run);

@@ -32,6 +32,10 @@ pub fn row(number: u32) -> (&'static str, &'static str) {
             "three or more variables stand in more than one stage",
             "carry at most two variables from stage to stage",
         ),
+        15 => (
+            "more than 127 non-empty label sets are reachable, too many for a verdict",
+            "split the model, or leave labels out that the question does not need; a yes whose run is kept is marked right all the same",
+        ),
         _ => ("the program did not lend what the call needs", "report this"),
     }
 }

@@ -4,11 +4,12 @@ use crate::calls::{Answer, KEPT, RUN, WORK};
 use crate::cases::long_text;
 use crate::report::Report;
 use crate::subject::{fresh, Subject};
+use crate::wide;
 
-const AREAS: [usize; 6] = [0, 1, WORK - 1, WORK, WORK + 1, 40_000];
+const AREAS: [usize; 7] = [0, 1, 32_768, WORK - 1, WORK, WORK + 1, 70_000];
 const TABLES: [usize; 6] = [0, 1, RUN - 1, RUN, RUN + 1, 10_000];
 
-/// A reached text, an unreached one, and texts of several rows.
+/// A reached text, an unreached one, texts of several rows, and one with too many states.
 fn texts() -> Vec<Vec<u8>> {
     let small: [&[u8]; 9] = [
         b"(state A)\n(new (A))\n(ask ((A x)))\n",
@@ -24,6 +25,7 @@ fn texts() -> Vec<Vec<u8>> {
     let mut all: Vec<Vec<u8>> = small.iter().map(|t| t.to_vec()).collect();
     all.push(long_text(16_384));
     all.push(long_text(16_385));
+    all.push(wide::free(8, "(ask ((L0 x)))\n").into_bytes());
     all
 }
 

@@ -3,7 +3,7 @@
 include!("../../include/eon.rs");
 
 /// The work bytes that a call needs, and uses.
-pub const WORK: usize = 32_768;
+pub const WORK: usize = 65_536;
 /// The places that a run table lent for writing needs.
 pub const RUN: usize = 9_344;
 /// The most states that are listed: 127 and the empty one.
@@ -48,6 +48,11 @@ impl Answer {
     fn is_refusal(&self) -> bool {
         matches!(self, Answer::Refused(..))
     }
+
+    /// Whether the work area is used before the answer is known: after every answer but a refusal, and after 15.
+    fn wipes(&self) -> bool {
+        !self.is_refusal() || matches!(self, Answer::Refused(15, _))
+    }
 }
 
 /// A work area with a pattern.
@@ -69,9 +74,10 @@ impl Area {
         self.bytes.as_mut_ptr()
     }
 
-    /// Whether the area is as document 01 has it after the answer: untouched after a refusal, else 32,768 zeros and the rest untouched.
+    /// Whether the area is as documents 01 and 02 have it after the answer: untouched after a refusal other than 15, else 65,536 zeros and the rest
+    /// untouched.
     fn is_right(&self, answer: &Answer) -> bool {
-        let wiped = if answer.is_refusal() { 0 } else { WORK.min(self.size) };
+        let wiped = if answer.wipes() { WORK.min(self.size) } else { 0 };
         self.bytes[..wiped].iter().all(|b| *b == 0) && (wiped..self.bytes.len()).all(|i| self.bytes[i] == work_pattern(i))
     }
 }

@@ -46,11 +46,11 @@ fn question(report: &mut Report, number: u32, ask: &str) {
 
 /// The small examples of rows 1 to 11; rows 12 and 14 are tried with the buffers.
 fn small_examples(report: &mut Report) {
-    let states: String = ["A", "B", "C", "D", "E", "F", "G", "H"].iter().map(|n| format!("(state {n})\n")).collect();
+    let states: String = ('A'..='Y').map(|n| format!("(state {n})\n")).collect();
     refused(report, 1, 0, b"");
     refused(report, 2, 1, b"(state A!)\n");
     refused(report, 3, 1, b"(state  A)\n");
-    refused(report, 4, 8, states.as_bytes());
+    refused(report, 4, 25, states.as_bytes());
     refused(report, 5, 2, b"(state A)\n(state A)\n");
     refused(report, 6, 1, b"(new (A))\n");
     refused(report, 7, 3, b"(state A)\n(rel R 1)\n(rule (R x y) (A x) (A y))\n");
@@ -141,14 +141,14 @@ fn times(item: &str, n: usize) -> String {
     vec![item; n].join(" ")
 }
 
-/// Lists of 7 and 8, bodies and stages of 8 and 9, 4 and 5 stages, 3 and 4 variables.
+/// Lists of 24 and 25, bodies and stages of 8 and 9, 4 and 5 stages, 3 and 4 variables.
 fn lengths(report: &mut Report) {
-    for (n, number) in [(7, 0), (8, 3)] {
+    for (n, number) in [(7, 0), (8, 0), (24, 0), (25, 3)] {
         let names = times("A", n);
         line(report, number, &format!("(new ({names}))"));
         line(report, number, &format!("(next x ({names}) () (A x))"));
         line(report, number, &format!("(next x () ({names}) (A x))"));
-        line(report, if n == 7 { 6 } else { 3 }, &format!("(new ({}))", times("C", n)));
+        line(report, if number == 0 { 6 } else { 3 }, &format!("(new ({}))", times("C", n)));
     }
     for (n, number) in [(8, 0), (9, 3)] {
         let body = times("(A x)", n);
@@ -191,25 +191,27 @@ fn all_literals(report: &mut Report) {
     refused(report, 4, 66, format!("(state A)\n(new (A))\n(new (A))\n{bodies}{ask}\n").as_bytes());
 }
 
-/// Row 4: 7 and 8 states, 16 and 17 relations, 6 and 7 pairs, 64 and 65 clauses.
+/// Row 4: 24 and 25 states, 16 and 17 relations, 6 and 7 pairs, 64 and 65 clauses.
 fn counts(report: &mut Report) {
-    accepted(report, declarations(7, 10, 6, 64).as_bytes());
-    accepted(report, declarations(7, 16, 0, 64).as_bytes());
-    refused(report, 4, 8, declarations(8, 2, 0, 0).as_bytes());
+    accepted(report, declarations(24, 10, 6, 64).as_bytes());
+    accepted(report, declarations(24, 16, 0, 64).as_bytes());
+    accepted(report, declarations(8, 10, 6, 64).as_bytes());
+    refused(report, 4, 25, declarations(25, 2, 0, 0).as_bytes());
     refused(report, 4, 18, declarations(1, 17, 0, 3).as_bytes());
     refused(report, 4, 18, declarations(1, 11, 6, 3).as_bytes());
     refused(report, 4, 10, declarations(1, 2, 7, 3).as_bytes());
     refused(report, 4, 68, declarations(1, 2, 0, 65).as_bytes());
-    let full = declarations(7, 10, 6, 64);
+    let full = declarations(24, 10, 6, 64);
     let before = full.strip_suffix("(ask ((S0 x)))\n").unwrap();
     for line in ["(state S0)", "(state T)", "(rel S0 1)", "(rel P0 2)", "(rel T 0)", "(new (Z))", "(rule (Z x x))", "(next x (Z) () (not (P0 x)))"] {
-        refused(report, 4, 88, format!("{before}{line}\n").as_bytes());
+        refused(report, 4, 105, format!("{before}{line}\n").as_bytes());
     }
-    let singles = declarations(7, 10, 0, 64);
+    let singles = declarations(24, 10, 0, 64);
     let before = singles.strip_suffix("(ask ((S0 x)))\n").unwrap();
-    refused(report, 5, 82, format!("{before}(rel R0 1)\n").as_bytes());
-    refused(report, 6, 82, format!("{before}(ask ((Z x)))\n").as_bytes());
-    refused(report, 3, 82, format!("{before}(new (S0 S0 S0 S0 S0 S0 S0 S0))\n").as_bytes());
+    refused(report, 5, 99, format!("{before}(rel R0 1)\n").as_bytes());
+    refused(report, 6, 99, format!("{before}(ask ((Z x)))\n").as_bytes());
+    refused(report, 3, 99, format!("{before}(new ({}))\n", times("S0", 25)).as_bytes());
+    refused(report, 4, 99, format!("{before}(new ({}))\n", times("S0", 24)).as_bytes());
 }
 
 /// A `new` line of exactly so many bytes, 51 to 297, about a state relation whose name has 16 letters.

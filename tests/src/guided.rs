@@ -219,6 +219,13 @@ fn stages(r: &mut Random, text: &Text, m: &Model) -> Vec<String> {
     stages
 }
 
+/// An accepted text with a question that a run meets or nearly meets in place of its own.
+pub fn asking(r: &mut Random, text: &str) -> String {
+    let Outcome::Accepted(read) = reader::read(text.as_bytes()) else { return text.into() };
+    let met = stages(r, &read, &Model::new(&read));
+    asked(r, text, met)
+}
+
 /// A random model with a question that a run meets or nearly meets; of a few models the first whose objects change.
 pub fn model(r: &mut Random, shape: Shape) -> String {
     let mut text = random::model(r, shape);

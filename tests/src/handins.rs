@@ -8,12 +8,16 @@ use crate::meaning::{play, Action, Model, Place, Session};
 use crate::random::{model, Random, Shape};
 use crate::reader::{self, Form, Kind, Literal, Outcome};
 use crate::report::Report;
+use crate::search::{search, FOLLOWED};
 use crate::subject::Subject;
+use crate::wide;
 
 /// The most bytes of a hand-in.
-const LONGEST: usize = 262_144;
+const LONGEST: usize = 524_288;
 /// How many models are tried.
 const MODELS: u64 = 300;
+/// How many models of many labels are drawn, of which those with few states and those with too many are tried.
+const WIDE_MODELS: u64 = 80;
 
 /// What a hand-in says, by the plain reader.
 #[derive(Clone, Debug, PartialEq)]
@@ -120,13 +124,17 @@ fn said(report: &mut Report, bytes: &[u8]) -> Said {
     plain
 }
 
-/// Marks a hand-in, and compares the mark and the buffers with the plain ones; `reached` is the verdict of an accepted text.
-fn marked(report: &mut Report, subject: &Subject, reached: bool, bytes: &[u8]) {
+/// Marks a hand-in, and compares the mark and the buffers with the plain ones; `reached` is the verdict of an accepted text. Where there are too many
+/// states for one, a run that is kept is right, and whatever needs the verdict is refused.
+pub fn marked(report: &mut Report, subject: &Subject, reached: bool, bytes: &[u8]) {
     let plain = said(report, bytes);
     let mark = calls::mark(&subject.text, bytes, WORK + 7, RUN + 3, RUN + 5);
+    let too_many = 2 << 32 | 15 << 16;
+    let judged = subject.states().is_some();
     let (code, places, notes, wiped, covered) = match (&subject.read, &plain) {
         (Err((number, line)), _) => (2 << 32 | (*number as u64) << 16 | *line as u64, vec![], vec![], false, "refused"),
         (Ok(_), Said::Unreadable(line)) => (5 << 32 | *line as u64, vec![], vec![], false, "unreadable"),
+        (Ok(_), Said::No) if !judged => (too_many, vec![], vec![], true, "a no that is refused 15"),
         (Ok(_), Said::No) if !reached => (6 << 32, vec![], vec![], true, "a right no"),
         (Ok(_), Said::No) => (7 << 32 | 1, vec![], vec![], true, "a wrong no"),
         (Ok(m), Said::Yes(first, run)) => {
@@ -134,6 +142,7 @@ fn marked(report: &mut Report, subject: &Subject, reached: bool, bytes: &[u8]) {
             let notes = played.notes.clone();
             match played.broken_at(m, run) {
                 None => (6 << 32, run.clone(), notes, true, "a right yes"),
+                Some(_) if !judged => (too_many, run.clone(), notes, true, "a run that breaks and is refused 15"),
                 Some(_) if !reached => (7 << 32, run.clone(), notes, true, "a wrong yes"),
                 Some(k) => (8 << 32 | (k as u64) << 16 | (first + k) as u64, run.clone(), notes, true, "a run that breaks"),
             }
@@ -143,7 +152,7 @@ fn marked(report: &mut Report, subject: &Subject, reached: bool, bytes: &[u8]) {
     report.check(mark.code == code, about);
     report.check(mark.has(&places, &notes), || format!("tables: {}", about()));
     report.check(if wiped { mark.wiped } else { mark.untouched }, || format!("work area: {}", about()));
-    report.cover(&format!("mark: {covered}"));
+    report.cover(&format!("mark: {covered}{}", if judged || covered != "a right yes" { "" } else { " where the verdict is refused 15" }));
     if let (Ok(m), Said::Yes(_, run)) = (&subject.read, &plain) {
         reasons(report, subject, m, run);
     }
@@ -254,7 +263,7 @@ fn shown(report: &mut Report, subject: &Subject) {
                 Action::New(_) => (2, |a, _| if let Action::New(s) = a { *s } else { 0 }),
                 Action::Next(..) => (3, |a, s| if let Action::Next(plus, minus) = a { (s | plus) & !minus } else { 0 }),
             };
-            for state in [0, 1, 5, 127] {
+            for state in [0, 1, 5, 127, 1 << 23, (1 << 24) - 1] {
                 let given = calls::effect(&subject.text, c.line, state);
                 report.check(given == kind << 32 | u64::from(after(&c.action, state)), || format!("line {} of state {state} is {given}: {}", c.line, about()));
             }
@@ -327,10 +336,18 @@ fn exchanged(m: &Model, run: &[u32]) -> Vec<Vec<u32>> {
     all
 }
 
-/// One seeded model and its hand-ins.
-fn seeded(report: &mut Report, r: &mut Random) {
+/// A random model of few labels.
+fn few_labels(r: &mut Random) -> String {
     let shape = Shape { states: r.pick(&[1, 2, 3, 3]), relations: 3, clauses: 4 + r.below(10), stages: r.pick(&[1, 2, 3, 4]) };
-    let text = if r.chance(60) { guided::model(r, shape) } else { model(r, shape) };
+    if r.chance(60) {
+        guided::model(r, shape)
+    } else {
+        model(r, shape)
+    }
+}
+
+/// One seeded model and its hand-ins.
+fn seeded(report: &mut Report, r: &mut Random, text: &str) {
     let subject = Subject::new(text.as_bytes());
     let a = subject.analyze(report);
     let reached = matches!(a.answer, Answer::Reached(_));
@@ -339,6 +356,12 @@ fn seeded(report: &mut Report, r: &mut Random) {
     let right = listing(r, a.states.len(), run);
     marked(report, &subject, reached, right.as_bytes());
     marked(report, &subject, reached, b"no\n");
+    if let (Ok(m), None) = (&subject.read, subject.states()) {
+        let kept = search(m, 2, 500).run.unwrap_or_default();
+        for run in [&kept[..], &kept[..kept.len().saturating_sub(1)], &[0]] {
+            marked(report, &subject, reached, listing(r, 3, Some(run)).as_bytes());
+        }
+    }
     for _ in 0..4 {
         marked(report, &subject, reached, &damaged(r, &right));
         let guessed = subject.read.as_ref().map_or(Vec::new(), |m| guess::run(r, m));
@@ -353,7 +376,7 @@ fn seeded(report: &mut Report, r: &mut Random) {
             marked(report, &subject, reached, listing(r, 3, Some(changed)).as_bytes());
         }
     }
-    let bad = Subject::new(&damage::text(r, &text));
+    let bad = Subject::new(&damage::text(r, text));
     if bad.read.is_err() {
         marked(report, &bad, false, right.as_bytes());
         report.check(calls::relation(&bad.text, 0) == (0, 0, 0), || format!("a relation of a refused text: {}", bad.show()));
@@ -363,15 +386,23 @@ fn seeded(report: &mut Report, r: &mut Random) {
     }
 }
 
+/// A listing as long as they come: 128 states of 24 names of 16 letters, and 9,142 places.
+fn longest_listing() -> String {
+    let state = format!("(atomic{})\n", " Sixteen16letters".repeat(24));
+    format!("(verdict reached)\n(states 128)\n{}{}", state.repeat(128), "(step 105 254)\n".repeat(9_142))
+}
+
 /// Hand-ins at the limits, and buffers that are too short.
 fn limits(report: &mut Report) {
     let places = |n: usize| "yes\n".to_string() + &"(step 4 0)\n".repeat(n);
     for (bytes, wanted) in [
         (places(RUN), Said::Yes(2, vec![4 * 256; RUN])),
         (places(RUN + 1), Said::Unreadable(RUN + 2)),
-        ("yes\n".to_string() + &"(atomic)\n".repeat(29_126), Said::Yes(29_128, vec![])),
-        ("no\n".to_string() + &"(atomic a)\n".repeat(23_831), Said::No),
-        ("no\n".to_string() + &"(atomic a)\n".repeat(23_832), Said::Unreadable(0)),
+        ("yes\n".to_string() + &"(atomic)\n".repeat(58_253), Said::Yes(58_255, vec![])),
+        ("no\n".to_string() + &"(atomic aa)\n".repeat(43_690) + "(a", Said::Unreadable(43_692)),
+        ("no\n".to_string() + &"(atomic a)\n".repeat(47_661) + "(atomic aaaa)\n", Said::No),
+        ("no\n".to_string() + &"(atomic a)\n".repeat(47_661) + "(atomic aaaaa)\n", Said::Unreadable(0)),
+        (longest_listing(), Said::Yes(131, vec![105 * 256 + 254; 9_142])),
         (String::new(), Said::Unreadable(1)),
     ] {
         let plain = said(report, bytes.as_bytes());
@@ -393,13 +424,25 @@ fn limits(report: &mut Report) {
 pub fn all(report: &mut Report) {
     limits(report);
     for seed in 1..=MODELS {
-        seeded(report, &mut Random::new(seed + 5_000));
+        let mut r = Random::new(seed + 5_000);
+        let text = few_labels(&mut r);
+        seeded(report, &mut r, &text);
+    }
+    for seed in 1..=WIDE_MODELS {
+        let mut r = Random::new(seed + 8_000_000);
+        let (text, states) = wide::model(&mut r);
+        if states <= wide::SMALL || states > FOLLOWED {
+            seeded(report, &mut r, &text);
+        }
     }
     for what in ["hand-in: unreadable", "hand-in: no", "hand-in: yes"] {
         report.met_often(what, 200);
     }
     for what in ["refused", "unreadable", "a right no", "a wrong no", "a right yes", "a wrong yes", "a run that breaks"] {
         report.met_often(&format!("mark: {what}"), 50);
+    }
+    for what in ["a no that is refused 15", "a run that breaks and is refused 15", "a right yes where the verdict is refused 15"] {
+        report.met_often(&format!("mark: {what}"), 20);
     }
     for kind in 1..=8 {
         report.met_often(&format!("reason: {kind}"), 10);

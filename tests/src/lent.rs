@@ -6,6 +6,7 @@ use crate::meaning::{Model, Place};
 use crate::random::{model, Random, Shape};
 use crate::report::Report;
 use crate::subject::Subject;
+use crate::wide;
 
 /// Two state relations, three stages of which the first and the third carry x.
 const TEXT: &str = "(state A)\n(state B)\n(new (A))\n(next x (B) () (A x))\n(next x () (A B) (B x))\n(ask ((A x)) ((B y)) ((B z) (A x)))\n";
@@ -13,10 +14,10 @@ const TEXT: &str = "(state A)\n(state B)\n(new (A))\n(next x (B) () (A x))\n(nex
 const PAIR: &str = "(state A)\n(state B)\n(new (A))\n(next x (B) () (A x))\n(next x () (A B) (B x))\n(ask ((A x)) ((B y)) ((B y) (A z) (A x)))\n";
 
 /// No carried object.
-const NONE: [u32; 2] = [255, 255];
+pub const NONE: [u32; 2] = [255, 255];
 
 /// A state with these objects, and numbers in its unused cells that no object may have.
-fn lent(states: &[u32], met: u32, carried: [u32; 2], kept: u32) -> Lent {
+pub fn lent(states: &[u32], met: u32, carried: [u32; 2], kept: u32) -> Lent {
     let mut l: Lent = [0xFFFF_0000; 260];
     l[..states.len()].copy_from_slice(states);
     l[OBJECTS] = states.len() as u32;
@@ -63,7 +64,7 @@ fn misfits(report: &mut Report) {
             l[OBJECTS] = objects;
         });
     }
-    for state in [4, 5, 128, 1 << 31, u32::MAX] {
+    for state in [4, 5, 8, 64, 128, 256, 1 << 22, 1 << 23, 1 << 24, 1 << 31, u32::MAX] {
         misfit(report, &|l| l[0] = state);
         misfit(report, &|l| l[1] = state);
     }
@@ -80,6 +81,22 @@ fn misfits(report: &mut Report) {
     }
     for kept in [9_345, 9_346, 1_000_000, u32::MAX] {
         misfit(report, &|l| l[KEPT] = kept);
+    }
+}
+
+/// A state relation is a bit below the number of the declared ones; every higher bit is undeclared, in the first object's state and in the last's.
+fn undeclared(report: &mut Report) {
+    for labels in [1, 2, 7, 8, 9, 16, 17, 23, 24] {
+        let text = format!("{}(new (L0))\n(ask ((L0 x)))\n", wide::declared(labels));
+        let new = Place::Step(labels as u32 + 1, 3);
+        for bit in 0..32 {
+            let wanted = if bit < labels { Answer::Kept } else { Answer::Broken(0) };
+            for at in [0, 2] {
+                let mut states = [1; 3];
+                states[at] |= 1 << bit;
+                put_to(report, &text, lent(&states, 0, NONE, 7), new, wanted);
+            }
+        }
     }
 }
 
@@ -220,7 +237,8 @@ fn random_state(r: &mut Random, m: &Model) -> Lent {
 fn random_states(report: &mut Report) {
     for seed in 1..=300 {
         let mut r = Random::new(seed + 1_000_000);
-        let text = model(&mut r, Shape { states: 3, relations: 3, clauses: 8, stages: 4 });
+        let states = if seed % 4 == 0 { 8 + r.below(17) } else { 3 };
+        let text = model(&mut r, Shape { states, relations: 3, clauses: 8, stages: 4 });
         let subject = Subject::new(text.as_bytes());
         let Ok(m) = &subject.read else { continue };
         for _ in 0..40 {
@@ -237,44 +255,48 @@ fn random_states(report: &mut Report) {
 }
 
 /// A rule for pairs of rather special states.
-fn pair_rule(r: &mut Random) -> String {
+fn pair_rule(r: &mut Random, labels: usize) -> String {
     let literal = |r: &mut Random, v: &str| match r.below(2) {
-        0 => format!(" (S{} {v})", r.below(7)),
-        _ => format!(" (not (S{} {v}))", r.below(7)),
+        0 => format!(" (L{} {v})", r.below(labels)),
+        _ => format!(" (not (L{} {v}))", r.below(labels)),
     };
     let others: String = ["x", "x", "y", "y"].iter().map(|v| literal(r, v)).collect();
-    format!("(rule (E x y) (S{} x) (S{} y){others})\n", r.below(7), r.below(7))
+    format!("(rule (E x y) (L{} x) (L{} y){others})\n", r.below(labels), r.below(labels))
 }
 
-/// A text about seven state relations, with pairs and their closure.
-fn closure_text(r: &mut Random) -> String {
-    let mut text: String = (0..7).map(|i| format!("(state S{i})\n")).collect();
+/// A text about so many state relations, with pairs and their closure; the line that creates is the last but one.
+fn closure_text(r: &mut Random, labels: usize) -> String {
+    let mut text = wide::declared(labels);
     text += "(rel E 2)\n(rel T 2)\n(rel U 1)\n";
     for _ in 0..4 {
-        text += &pair_rule(r);
+        text += &pair_rule(r, labels);
     }
-    text + "(rule (T x y) (E x y))\n(rule (T x y) (T x z) (E z y))\n(rule (U x) (T x x))\n(new (S0) (U x))\n(ask ((T x y)))\n"
+    text + "(rule (T x y) (E x y))\n(rule (T x y) (T x z) (E z y))\n(rule (U x) (T x x))\n(new (L0) (U x))\n(ask ((T x y)))\n"
 }
 
-/// Databases of 127 different states in any order, in which pairs and their closure are asked for.
-fn all_states(report: &mut Report) {
-    for seed in 1..=5 {
-        let mut r = Random::new(seed + 2_000_000);
-        let subject = Subject::new(closure_text(&mut r).as_bytes());
-        let mut states: Vec<u32> = (1..128).collect();
-        r.shuffle(&mut states);
-        for _ in 0..6 {
-            let named = [r.below(127), r.below(127)];
-            let given = subject.place(report, &mut lent(&states, 0, NONE, 0), Place::meeting(1, &named).encode());
-            report.cover(if given == Answer::Kept { "closure over 127 states: kept" } else { "closure over 127 states: broken" });
-        }
-        subject.place(report, &mut lent(&states, 0, NONE, 0), Place::Step(17, 127).encode());
+/// Databases of so many different states in any order, in which pairs and their closure are asked for.
+fn all_states(report: &mut Report, seed: u64, labels: usize, count: usize, meetings: usize) {
+    let mut r = Random::new(seed + 2_000_000);
+    let text = closure_text(&mut r, labels);
+    let subject = Subject::new(text.as_bytes());
+    let mut states: Vec<u32> = (1..1 << labels).collect();
+    r.shuffle(&mut states);
+    states.truncate(count);
+    for _ in 0..meetings {
+        let named = [r.below(count), r.below(count)];
+        let given = subject.place(report, &mut lent(&states, 0, NONE, 0), Place::meeting(1, &named).encode());
+        let given = if given == Answer::Kept { "kept" } else { "broken" };
+        report.cover(&format!("closure over {count} states: {given}"));
+    }
+    if count < OBJECTS {
+        subject.place(report, &mut lent(&states, 0, NONE, 0), Place::Step(text.lines().count() as u32 - 1, count).encode());
     }
 }
 
 /// Runs all lent states.
 pub fn all(report: &mut Report) {
     misfits(report);
+    undeclared(report);
     edges(report);
     places_kept(report);
     carried(report);
@@ -282,5 +304,11 @@ pub fn all(report: &mut Report) {
     carried_in_order(report);
     unused_cells(report);
     random_states(report);
-    all_states(report);
+    for seed in 1..=5 {
+        all_states(report, seed, 7, 127, 6);
+    }
+    for (seed, labels) in [(11, 8), (13, 9), (15, 20)] {
+        all_states(report, seed, labels, 255, 2);
+    }
+    all_states(report, 16, 24, 254, 1);
 }

@@ -3,6 +3,7 @@
 use crate::calls::Answer;
 use crate::report::Report;
 use crate::subject::Subject;
+use crate::wide::declared;
 
 const NAMES: [&str; 7] = ["A", "B", "C", "D", "E", "F", "G"];
 
@@ -21,9 +22,11 @@ fn carry(bit: usize, beside: &str) -> String {
     format!("(next x ({}) ({}) {below}{beside})\n", NAMES[bit], NAMES[..bit].join(" "))
 }
 
-/// A counter from 1 to 127 that goes on with 1, asked for objects that are 127, then 126, then 125, then 124.
-fn text(carried: &[&str]) -> String {
-    let mut text: String = NAMES.iter().map(|n| format!("(state {n})\n")).collect();
+/// A counter from 1 to 127 that goes on with 1, asked for objects that are 127, then 126, then 125, then 124; so many labels are declared before those
+/// that count.
+fn text(carried: &[&str], unused: usize) -> String {
+    let mut text = declared(unused);
+    text.extend(NAMES.iter().map(|n| format!("(state {n})\n")));
     text += "(new (A))\n";
     text.extend(NAMES[1..].iter().map(|n| carry(0, &format!(" ({n} x)"))));
     text.extend((1..7).map(|bit| carry(bit, "")));
@@ -37,11 +40,11 @@ fn text(carried: &[&str]) -> String {
 /// The counter is reached, all its states are listed, and its run is kept. One object of each state is made in 8,128 steps, and each carried one goes
 /// the longest way, so the run has exactly as many places as are counted.
 pub fn run(report: &mut Report) {
-    for (carried, places) in [(&["x"][..], 8_637), (&["x", "y"], 9_142)] {
-        let subject = Subject::new(text(carried).as_bytes());
+    for (carried, places, unused) in [(&["x"][..], 8_637, 0), (&["x", "y"], 9_142, 0), (&["x", "y"], 9_142, 17)] {
+        let subject = Subject::new(text(carried, unused).as_bytes());
         let a = subject.analyze(report);
         report.check(a.answer == Answer::Reached(places), || format!("the counter with {carried:?}: {:?}", a.answer));
-        report.check(a.states.iter().copied().eq(1..=127), || format!("states of the counter: {:?}", a.states));
+        report.check(a.states.iter().copied().eq((1..=127).map(|n| n << unused)), || format!("states of the counter: {:?}", a.states));
         let kept = subject.replay(report, &a.run);
         report.check(kept == Answer::Kept, || format!("the counter's run: {kept:?}"));
     }

@@ -3,10 +3,12 @@
 mod buffers;
 mod calls;
 mod cases;
+mod crowd;
 mod damage;
 mod guess;
 mod guided;
 mod handins;
+mod labels;
 mod lent;
 mod longest;
 mod meaning;
@@ -21,6 +23,7 @@ mod search;
 mod seeded;
 mod standing;
 mod subject;
+mod wide;
 
 use report::Report;
 
@@ -56,6 +59,21 @@ fn covered_enough(report: &mut Report) {
     report.met_often("kept runs whose pair is one object", 80);
     report.met_often("kept runs whose pair is two objects", 80);
     report.met_often("played on after other objects", 400);
+    report.met_often("analysis: refused 15", 60);
+    report.met_often("models with too many states", 40);
+    report.met_often("models with more than 7 labels in use", 60);
+    for empty in ["and", "without"] {
+        report.met_often(&format!("models with 127 non-empty states {empty} the empty one"), 8);
+    }
+    report.met_often("search: over 127 states found, each by a run", 20);
+    report.met_often("search: a run is kept where the analysis refuses 15", 20);
+    report.met_often("led about: reached", 500);
+    report.met_often("led about: unreached", 300);
+    for states in [127, 255] {
+        for given in ["kept", "broken"] {
+            report.met_often(&format!("closure over {states} states: {given}"), 1);
+        }
+    }
     for who in ["nobody", "one object", "two objects", "three objects"] {
         report.met_often(&format!("stood by: {who}"), 300);
     }
@@ -66,10 +84,12 @@ fn main() {
     cases::all(&mut report);
     models::all(&mut report);
     standing::all(&mut report);
+    labels::all(&mut report);
     longest::run(&mut report);
     salad::texts(&mut report);
     handins::all(&mut report);
     lent::all(&mut report);
+    crowd::all(&mut report);
     buffers::all(&mut report);
     seeded::models(&mut report);
     covered_enough(&mut report);

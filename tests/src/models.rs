@@ -13,7 +13,7 @@ const AB: &str = "(state A)\n(state B)\n";
 const MOVING: &str = "(state A)\n(state B)\n(new (A))\n(next x (B) (A) (A x))\n";
 
 /// The verdict and the reachable states of a text; a shown run is replayed.
-fn verdict(report: &mut Report, text: &str, reached: bool, states: &[u32]) -> Vec<u32> {
+pub fn verdict(report: &mut Report, text: &str, reached: bool, states: &[u32]) -> Vec<u32> {
     let subject = Subject::new(text.as_bytes());
     let a = subject.analyze(report);
     let right = match a.answer {
@@ -32,7 +32,7 @@ fn verdict(report: &mut Report, text: &str, reached: bool, states: &[u32]) -> Ve
 }
 
 /// The answer to a run, whole and place by place.
-fn answer(report: &mut Report, text: &str, run: &[Place], wanted: Answer) {
+pub fn answer(report: &mut Report, text: &str, run: &[Place], wanted: Answer) {
     let subject = Subject::new(text.as_bytes());
     let numbers: Vec<u32> = run.iter().map(Place::encode).collect();
     let given = subject.replay(report, &numbers);
@@ -45,11 +45,11 @@ fn answer(report: &mut Report, text: &str, run: &[Place], wanted: Answer) {
     report.check(broken == first, || format!("place by place broken at {broken:?}, not {first:?} to {run:?}:\n{text}"));
 }
 
-fn step(line: u32, object: usize) -> Place {
+pub fn step(line: u32, object: usize) -> Place {
     Place::Step(line, object)
 }
 
-fn meet(stage: usize, objects: &[usize]) -> Place {
+pub fn meet(stage: usize, objects: &[usize]) -> Place {
     Place::meeting(stage, objects)
 }
 
@@ -167,6 +167,18 @@ fn privilege(report: &mut Report) {
     answer(report, text, &[&before[..], &[meet(3, &[3, 0])]].concat(), Answer::Kept);
     answer(report, text, &[&before[..], &[meet(3, &[2, 0])]].concat(), Answer::Broken(11));
     answer(report, text, &[&before[..], &[meet(3, &[3, 2])]].concat(), Answer::Broken(11));
+}
+
+/// The paper's section 5.1.2, with its eleven labels: neither question is reached. As the paper prints the line that makes a process, the first one is.
+fn discipline(report: &mut Report) {
+    let objects = (0..3).flat_map(|bound| (bound..3).map(move |level| 1 | 4 << level | 32 << bound));
+    let processes = objects.clone().flat_map(|object| (0..3).map(move |known| object | 2 | 256 << known));
+    let mut states: Vec<u32> = objects.chain(processes).collect();
+    states.sort_unstable();
+    verdict(report, include_str!("../../examples/vista-discipline-tampering.eon"), false, &states);
+    verdict(report, include_str!("../../examples/vista-discipline-escalation.eon"), false, &states);
+    let printed = Subject::new(include_bytes!("../../examples/vista-discipline-printed.eon")).analyze(report).answer;
+    report.check(matches!(printed, Answer::Reached(_)), || format!("{printed:?} to the discipline as it is printed"));
 }
 
 /// Pairs of objects that stay what they are: alike or not.
@@ -350,6 +362,7 @@ pub fn all(report: &mut Report) {
     handed_down(report);
     readings(report);
     privilege(report);
+    discipline(report);
     pairs(report);
     runs_of_pairs(report);
     empty_state(report);

@@ -52,7 +52,40 @@ pub struct Shape {
 }
 
 /// Names of relations, some spelled like words of the language or like variables.
-const NAMES: [&str; 14] = ["A", "B", "C", "D", "R", "P", "Q", "N", "state", "x", "new", "Not", "ask1", "Sixteen16letters"];
+const NAMES: [&str; 32] = [
+    "A",
+    "B",
+    "C",
+    "D",
+    "R",
+    "P",
+    "Q",
+    "N",
+    "state",
+    "x",
+    "new",
+    "Not",
+    "ask1",
+    "Sixteen16letters",
+    "E",
+    "F",
+    "G",
+    "H",
+    "I",
+    "J",
+    "K",
+    "L",
+    "M",
+    "O",
+    "S",
+    "T",
+    "rel",
+    "not1",
+    "A1",
+    "a",
+    "Sixteen16lettera",
+    "Z",
+];
 const VARIABLES: [&str; 3] = ["x", "y", "z"];
 /// The variables that stand in several stages.
 pub const CARRIED: [&str; 2] = ["w", "v"];
@@ -65,7 +98,7 @@ struct Names {
 
 impl Names {
     fn new(r: &mut Random, s: Shape) -> Names {
-        let mut names = NAMES.to_vec();
+        let mut names = NAMES[..if s.states > 7 { 32 } else { 14 }].to_vec();
         let mut draw = |r: &mut Random| names.swap_remove(r.below(names.len()));
         let states = (0..s.states).map(|_| draw(r)).collect();
         let derived = (0..r.below(s.relations + 1)).map(|_| (draw(r), r.pick(&[1, 2, 2, 0]))).collect();

@@ -4,6 +4,8 @@ use std::collections::{HashMap, HashSet};
 
 /// The most variables that a question carries: document 02, R-5.
 pub const CARRIED: usize = 2;
+/// The most state relations, and the most names of a list: document 02, R-6.
+pub const LABELS: usize = 24;
 
 /// A word, or a bracket of items.
 #[derive(Clone, Debug, PartialEq)]
@@ -133,8 +135,8 @@ pub fn form(line: &[u8]) -> Option<Form> {
             Some(Form::Rel(name(&rest[0])?, arity))
         }
         ("rule", 1..) => Some(Form::Rule(atom(&rest[0])?, body(&rest[1..], 0)?)),
-        ("new", 1..) => Some(Form::New(names(&rest[0], 7)?, body(&rest[1..], 0)?)),
-        ("next", 3..) => Some(Form::Next(name(&rest[0])?, names(&rest[1], 7)?, names(&rest[2], 7)?, body(&rest[3..], 0)?)),
+        ("new", 1..) => Some(Form::New(names(&rest[0], LABELS)?, body(&rest[1..], 0)?)),
+        ("next", 3..) => Some(Form::Next(name(&rest[0])?, names(&rest[1], LABELS)?, names(&rest[2], LABELS)?, body(&rest[3..], 0)?)),
         ("ask", 1..=4) => Some(Form::Ask(rest.iter().map(stage).collect::<Option<_>>()?)),
         _ => None,
     }
@@ -238,7 +240,7 @@ impl Before {
         let mut rows = Vec::new();
         let pairs = self.count(|k| k == Kind::Derived(2));
         match f {
-            Form::State(w) => self.declaration(w, self.count(|k| k == Kind::State) >= 7, &mut rows),
+            Form::State(w) => self.declaration(w, self.count(|k| k == Kind::State) >= LABELS, &mut rows),
             Form::Rel(w, n) => self.declaration(w, self.count(|k| k != Kind::State) >= 16 || *n == 2 && pairs >= 6, &mut rows),
             Form::Rule(head, body) => {
                 self.literal(head, true, &mut rows);

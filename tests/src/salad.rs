@@ -49,7 +49,8 @@ fn literal(r: &mut Random) -> String {
 }
 
 fn list(r: &mut Random) -> String {
-    let names: Vec<&str> = (0..few(r, 9)).map(|_| name(r, &NAMES[..2])).collect();
+    let length = if r.chance(4) { r.pick(&[7, 8, 24, 25]) } else { few(r, 9) };
+    let names: Vec<&str> = (0..length).map(|_| name(r, &NAMES[..2])).collect();
     format!("({})", names.join(" "))
 }
 
@@ -85,7 +86,7 @@ fn before(r: &mut Random) -> String {
         text += &"(new (A))\n".repeat(63 + r.below(2));
     }
     if r.chance(10) {
-        text.extend((0..4 + r.below(2)).map(|i| format!("(state F{i})\n")));
+        text.extend((0..21 + r.below(2)).map(|i| format!("(state F{i})\n")));
         text.extend((0..4 + r.below(2)).map(|i| format!("(rel G{i} 2)\n")));
     }
     text

@@ -1,7 +1,40 @@
 //! A plain breadth-first search over sessions, with a bound on the number of objects.
 
-use crate::meaning::{Action, Facts, Model, Place, Session};
+use crate::meaning::{Action, Clause, Facts, Model, Place, Session};
+use crate::reader::CARRIED;
 use std::collections::{BTreeSet, HashSet};
+
+/// The most non-empty states that an analysis follows: document 02, R-6.
+pub const FOLLOWED: usize = 127;
+
+/// How many of some states are not empty.
+pub fn non_empty<'a>(states: impl IntoIterator<Item = &'a u32>) -> usize {
+    states.into_iter().filter(|s| **s != 0).count()
+}
+
+/// The states that one line makes where one object of each of these states stands by.
+fn made(m: &Model, db: &[u32]) -> BTreeSet<u32> {
+    let facts = m.facts(db);
+    let objects = |c: &Clause| if let Action::New(_) = c.action { db.len()..db.len() + 1 } else { 0..db.len() };
+    let steps = m.clauses.iter().flat_map(|c| objects(c).map(|o| (c.line, o)));
+    steps.filter_map(|(line, o)| m.step(db, &facts, line, o).map(|after| after[o])).collect()
+}
+
+/// All reachable states, or none if more than 127 that are not empty come. By document 01's count the reachable states can be put in an order in which
+/// each is made with one object of each state before it, so it is enough to let one object of each state found stand by until no line makes another.
+pub fn reachable(m: &Model) -> Option<BTreeSet<u32>> {
+    let mut states: BTreeSet<u32> = BTreeSet::new();
+    loop {
+        let db: Vec<u32> = states.iter().copied().collect();
+        states.extend(made(m, &db));
+        if non_empty(&states) > FOLLOWED {
+            return None;
+        }
+        if states.len() == db.len() {
+            return Some(states);
+        }
+    }
+}
 
 /// What a search found with at most so many objects.
 pub struct Found {
@@ -83,4 +116,75 @@ pub fn search(m: &Model, objects: usize, most: usize) -> Found {
         at += 1;
     }
     found
+}
+
+/// How far a question is met: the stages met, and the state of each carried object that is chosen.
+type Led = (usize, [Option<u32>; CARRIED]);
+
+/// One object of each reachable state, which stands by and never changes, and behind these the carried objects that are chosen.
+struct Crowd {
+    db: Vec<u32>,
+    walkers: [Option<usize>; CARRIED],
+    facts: Facts,
+}
+
+impl Crowd {
+    fn new(m: &Model, states: &BTreeSet<u32>, led: &Led) -> Crowd {
+        let mut db: Vec<u32> = states.iter().copied().collect();
+        let mut walkers = [None; CARRIED];
+        for (walker, state) in walkers.iter_mut().zip(led.1) {
+            let Some(state) = state else { continue };
+            *walker = Some(db.len());
+            db.push(state);
+        }
+        let facts = m.facts(&db);
+        Crowd { db, walkers, facts }
+    }
+
+    /// Where one `next` line leads one of the carried objects.
+    fn walks(&self, m: &Model, led: &Led) -> Vec<Led> {
+        let mut all = Vec::new();
+        for (c, walker) in self.walkers.iter().enumerate().filter_map(|(c, w)| w.map(|o| (c, o))) {
+            let next = m.clauses.iter().filter(|c| matches!(c.action, Action::Next(..)));
+            for db in next.filter_map(|clause| m.step(&self.db, &self.facts, clause.line, walker)) {
+                let mut after = *led;
+                after.1[c] = Some(db[walker]);
+                all.push(after);
+            }
+        }
+        all
+    }
+
+    /// What is carried after the next stage is met, for each choice of objects; an object that is chosen now is another one of the same state.
+    fn meetings(&self, m: &Model, led: &Led) -> Vec<Led> {
+        let stage = &m.stages[led.0];
+        let walker = |x: usize| stage.carried.iter().position(|seat| *seat == Some(x)).and_then(|c| self.walkers[c]);
+        let fixed: Vec<Option<usize>> = (0..stage.body.variables).map(walker).collect();
+        let meeting = |choice: Vec<usize>| {
+            let chosen = |c: usize| stage.carried[c].map(|x| self.db[choice[x]]).or(led.1[c]);
+            (led.0 + 1, std::array::from_fn(chosen))
+        };
+        stage.body.choices(&self.db, &self.facts, &fixed).into_iter().map(meeting).collect()
+    }
+}
+
+/// Whether the stages are met where one object of each reachable state stands by and the carried objects are led about; none after so many tries.
+/// By document 02's count a run needs no more than this.
+pub fn led_about(m: &Model, states: &BTreeSet<u32>, most: usize) -> Option<bool> {
+    let mut found: Vec<Led> = vec![(0, [None; CARRIED])];
+    let mut seen: HashSet<Led> = HashSet::from([found[0]]);
+    let mut at = 0;
+    while let Some(led) = found.get(at).copied() {
+        if led.0 == m.stages.len() {
+            return Some(true);
+        }
+        if at == most {
+            return None;
+        }
+        let crowd = Crowd::new(m, states, &led);
+        let after = crowd.meetings(m, &led).into_iter().chain(crowd.walks(m, &led));
+        found.extend(after.filter(|next| seen.insert(*next)));
+        at += 1;
+    }
+    Some(false)
 }

@@ -9,8 +9,9 @@ use crate::paired;
 use crate::playing::play_on;
 use crate::random::{model, Random, Shape};
 use crate::report::Report;
-use crate::search::search;
+use crate::search::{led_about, non_empty, search, FOLLOWED};
 use crate::subject::{fresh, Subject};
+use crate::wide;
 use std::collections::BTreeSet;
 
 /// How many models are tried.
@@ -19,6 +20,13 @@ const MODELS: u64 = 500;
 const PAIRED_MODELS: u64 = 300;
 /// How many larger models are tried.
 const LARGE_MODELS: u64 = 30;
+/// With more states than these a shown run is replayed, and not damaged and played on in every way.
+const LONG: usize = 40;
+/// How many models of many labels are tried whose number of states is chosen, and how many where it is left to chance.
+const WIDE_MODELS: u64 = 160;
+const LOOSE_MODELS: u64 = 60;
+/// The most tries to lead the carried objects about, by the number of states.
+const TRIES: usize = 6_000;
 /// The most objects that the plain search takes.
 const OBJECTS: usize = 8;
 /// The most sessions that the plain search looks at.
@@ -38,11 +46,11 @@ struct Known {
 /// is made from one object of each of the others, with one object more at most.
 fn known(m: &Model) -> Known {
     let mut known = Known { run: None, states: BTreeSet::new(), certain: false };
-    for objects in 2..=OBJECTS {
+    for objects in 1..=OBJECTS {
         let found = search(m, objects, SESSIONS);
         known.run = known.run.or(found.run);
         known.states.extend(found.states);
-        let needed = known.states.iter().filter(|s| **s != 0).count() + m.carried.max(1);
+        let needed = non_empty(&known.states) + m.carried.max(1);
         known.certain = found.whole && needed <= objects;
         if known.certain || !found.whole {
             break;
@@ -76,18 +84,28 @@ fn each_alone(m: &Model) -> bool {
     })
 }
 
-/// Compares the verdict and the states with what the plain search knows.
+/// Compares the verdict and the states with what the plain searches know.
 fn compare(report: &mut Report, subject: &Subject, m: &Model, answer: Answer, states: &[u32]) {
     let known = known(m);
     let listed: BTreeSet<u32> = states.iter().copied().collect();
     let reached = matches!(answer, Answer::Reached(_));
     let about = || format!("{answer:?} with {listed:?}; plain: {:?} with {:?} in\n{}", known.run, known.states, subject.show());
+    if let Some(run) = &known.run {
+        let kept = subject.replay(report, run) == Answer::Kept;
+        report.check(kept, || format!("the plain run is not kept: {}", about()));
+        cover_pair(report, m, run);
+    }
+    let Some(all) = subject.states() else { return too_many(report, &known, about) };
     report.check(reached || known.run.is_none(), about);
     report.check(known.states.is_subset(&listed), about);
+    let verdict = if reached { "reached" } else { "unreached" };
+    if let Some(led) = led_about(m, all, TRIES / (all.len() + 1)) {
+        report.check(reached == led, || format!("carried objects that are led about say {led}: {}", about()));
+        report.cover(&format!("led about: {verdict}"));
+    }
     if known.certain {
         report.check(reached == known.run.is_some(), about);
         report.check(listed == known.states, about);
-        let verdict = if reached { "reached" } else { "unreached" };
         report.cover(&format!("search: certain and {verdict}"));
         if m.carried == 2 {
             report.cover(&format!("search: certain and {verdict} with a pair"));
@@ -99,10 +117,16 @@ fn compare(report: &mut Report, subject: &Subject, m: &Model, answer: Answer, st
     } else {
         report.cover("search: certain in one direction only");
     }
-    if let Some(run) = &known.run {
-        let kept = subject.replay(report, run) == Answer::Kept;
-        report.check(kept, || format!("the plain run is not kept: {}", about()));
-        cover_pair(report, m, run);
+}
+
+/// A text with too many states is refused, whatever its question is; a search that saw all would have seen them.
+fn too_many(report: &mut Report, known: &Known, about: impl FnOnce() -> String) {
+    report.check(!known.certain, about);
+    if non_empty(&known.states) > FOLLOWED {
+        report.cover("search: over 127 states found, each by a run");
+    }
+    if known.run.is_some() {
+        report.cover("search: a run is kept where the analysis refuses 15");
     }
 }
 
@@ -213,6 +237,19 @@ fn shape(r: &mut Random, large: bool) -> Shape {
     Shape { states: r.pick(&[1, 2, 2, 3, 3, 3]), relations: 3, clauses: 4 + r.below(10), stages: r.pick(&[1, 2, 3, 4]) }
 }
 
+/// Counts how many states a text has, and how many labels they use.
+fn sizes(report: &mut Report, subject: &Subject) {
+    let Some(states) = subject.states() else { return report.cover("models with too many states") };
+    report.cover(&format!("models with {:3} reachable states", states.len()));
+    if states.iter().fold(0, |all, s| all | s).count_ones() > 7 {
+        report.cover("models with more than 7 labels in use");
+    }
+    if non_empty(states) == FOLLOWED {
+        let empty = if states.contains(&0) { "and" } else { "without" };
+        report.cover(&format!("models with 127 non-empty states {empty} the empty one"));
+    }
+}
+
 /// One seeded model: the verdict, the states, the shown run.
 fn seeded(report: &mut Report, r: &mut Random, text: &str) {
     let subject = Subject::new(text.as_bytes());
@@ -220,15 +257,28 @@ fn seeded(report: &mut Report, r: &mut Random, text: &str) {
     let Ok(m) = &subject.read else {
         return report.check(false, || format!("a random model is refused:\n{text}"));
     };
-    features(report, text, m, matches!(a.answer, Answer::Reached(_)));
-    report.cover(&format!("models with {:2} reachable states", a.states.len()));
+    sizes(report, &subject);
+    if subject.states().is_some() {
+        features(report, text, m, matches!(a.answer, Answer::Reached(_)));
+    }
     compare(report, &subject, m, a.answer, &a.states);
     for _ in 0..3 {
         replay_both_ways(report, &subject, &guess::run(r, m));
     }
-    if !a.run.is_empty() {
+    if a.states.len() > LONG {
+        subject.replay(report, &damage::run(r, &[&a.run[..], &[0]].concat()));
+    } else if !a.run.is_empty() {
         runs(report, r, &subject, m, &a.run);
     }
+}
+
+/// A model of many labels, with as many states as it aims at.
+fn wide_model(report: &mut Report, r: &mut Random) {
+    let (text, states) = wide::model(r);
+    let subject = Subject::new(text.as_bytes());
+    let right = subject.states().map_or(states > FOLLOWED, |all| non_empty(all) == states);
+    report.check(right, || format!("a model that aims at {states} states:\n{text}"));
+    seeded(report, r, &text);
 }
 
 /// A random model with a question of its own or one that a run meets or nearly meets.
@@ -256,6 +306,15 @@ pub fn models(report: &mut Report) {
     for seed in 1..=PAIRED_MODELS {
         let mut r = Random::new(seed + 4_000_000);
         let text = paired::model(&mut r);
+        seeded(report, &mut r, &text);
+    }
+    for seed in 1..=WIDE_MODELS {
+        wide_model(report, &mut Random::new(seed + 6_000_000));
+    }
+    for seed in 1..=LOOSE_MODELS {
+        let mut r = Random::new(seed + 7_000_000);
+        let shape = Shape { states: 8 + r.below(17), relations: 4, clauses: 10 + r.below(40), stages: 4 };
+        let text = if r.chance(60) { guided::model(&mut r, shape) } else { model(&mut r, shape) };
         seeded(report, &mut r, &text);
     }
 }

@@ -4,11 +4,16 @@ use crate::calls::{self, Analysis, Answer, Lent, CARRIED_OBJECTS, KEPT, MET, OBJ
 use crate::meaning::{broken_at, play, Action, Clause, Model, Place, Session};
 use crate::reader::{self, Outcome};
 use crate::report::Report;
+use crate::search::reachable;
+use std::cell::OnceCell;
+use std::collections::BTreeSet;
 
 pub struct Subject {
     pub text: Vec<u8>,
     /// The model of an accepted text, or the refusal's number and line.
     pub read: Result<Model, (u32, u32)>,
+    /// What `states` gives, once it was asked for.
+    states: OnceCell<Option<BTreeSet<u32>>>,
 }
 
 /// The most places that a shown run has: by document 02's count 8,128 steps and 505 for each carried object, and the meetings.
@@ -22,7 +27,12 @@ impl Subject {
             Outcome::Accepted(t) => Ok(Model::new(&t)),
             Outcome::Refused(number, line) => Err((number, line)),
         };
-        Subject { text: text.to_vec(), read }
+        Subject { text: text.to_vec(), read, states: OnceCell::new() }
+    }
+
+    /// The reachable states of an accepted text; none if the text is refused, or if more than 127 of them are not empty.
+    pub fn states(&self) -> Option<&BTreeSet<u32>> {
+        self.states.get_or_init(|| self.read.as_ref().ok().and_then(reachable)).as_ref()
     }
 
     pub fn show(&self) -> String {
@@ -61,8 +71,12 @@ impl Subject {
         report.check(a.area, || format!("work area: {}", about()));
         report.check(a.table, || format!("run table: {}", about()));
         report.check(a.shape, || format!("states and last place: {}", about()));
-        let refusal = self.refusal(&[(12, work < WORK || places < RUN)]);
+        let too_many = || self.states().is_none().then_some((15, 0));
+        let refusal = self.refusal(&[(12, work < WORK || places < RUN)]).or_else(too_many);
         report.cover(&format!("analysis: {}", covered(&a.answer)));
+        if refusal.is_none() {
+            report.check(self.states().is_some_and(|states| a.states.iter().eq(states)), || format!("states {:?}: {}", a.states, about()));
+        }
         match (refusal, &self.read, a.answer) {
             (None, Ok(m), Answer::Reached(n)) => {
                 report.check(n == a.run.len() && n <= longest(m), || format!("{n} places: {}", about()));

@@ -143,9 +143,13 @@ fn lineage(e: &Engine<N, 2>, slot: usize, out: &mut [u32; N]) -> usize {
     n
 }
 
-pub fn analyze(m: &Model) -> Answer {
+/// The answer to a question; none where more than 127 non-empty states are reachable.
+pub fn analyze(m: &Model) -> Option<Answer> {
     let mut e: Box<Engine<N, 2>> = Box::new(Engine::new(m, true));
     e.saturate();
+    if e.over {
+        return None;
+    }
     let facts: u32 = (0..16).map(|r| e.t.one[r].count()).sum::<u32>() + (0..6).map(|r| (0..e.t.n).map(|a| e.t.fwd[r][a].count()).sum::<u32>()).sum::<u32>();
     let mut order: Vec<u32> = e.t.states[..e.t.n].to_vec();
     if e.wiped {
@@ -158,7 +162,6 @@ pub fn analyze(m: &Model) -> Answer {
         run: Vec::new(),
         facts: facts as usize,
     };
-    assert!(!e.over, "more than 127 states");
     let w = ways(&e);
     let mut level: [Matrix; 5] = [[R::ZERO; N]; 5];
     let mut chosen = [[false; 2]; 5];
@@ -223,7 +226,7 @@ pub fn analyze(m: &Model) -> Answer {
         level[i + 1] = next;
     }
     let last = m.stages.len();
-    let Some(a) = (0..N).find(|&a| level[last][a].any()) else { return ans };
+    let Some(a) = (0..N).find(|&a| level[last][a].any()) else { return Some(ans) };
     ans.reached = true;
     // The entries, the last first.
     let mut at = [[0usize; 2]; 5];
@@ -298,5 +301,5 @@ pub fn analyze(m: &Model) -> Answer {
         }
         ans.run.push(place);
     }
-    ans
+    Some(ans)
 }

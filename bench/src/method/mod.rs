@@ -8,7 +8,11 @@ pub mod text;
 
 pub use levels::analyze;
 
-/// The place at which a run breaks, or none.
+/// The place at which a run breaks, or none. Seven labels make 127 non-empty states at most; with more, 255 objects may have as many states.
 pub fn replay(m: &text::Model, run: &[u32]) -> Option<usize> {
-    replay::Desk::<128, 2>::new(m).run(run)
+    if m.labels.len() <= 7 {
+        replay::Desk::<128, 2>::new(m).run(run)
+    } else {
+        replay::Desk::<256, 4>::new(m).run(run)
+    }
 }

@@ -30,7 +30,7 @@ pub record GoodDeclarations (D : Declared) : Type 0 where
   pub different : (i j : ℕ) → i < j → j < length D → nameAt D i ≢ nameAt D j
   -- each has the next index of its class
   pub order : (i : ℕ) → i < length D → (class (codeAt D i) < 4) × (indexOf (codeAt D i) ≡ count (class (codeAt D i)) (take i D))
-  -- "at most 7" states, "at most 16" derived relations, "of them at most 6 with n = 2"
+  -- "up to 24" states, "at most 16" derived relations, "of them at most 6 with n = 2"
   pub most : length D ≤ limit.declared
   pub states : count 0 D ≤ limit.states
   pub derived : count 1 D + count 2 D + count 3 D ≤ limit.rels

@@ -3,19 +3,13 @@ use mathlib.Core.Path.{_≡_}
 use mathlib.Core.Bool.{false}
 use mathlib.Core.List.{List}
 use Prim.Native.Nat.{ℕ}
-use lib.ListN.{length, replicate}
-use Rattle.limits.specs.Limits as limit
+use lib.ListN.{length}
 use Rattle.grammar.specs.Texts.{Outcome, accepted, refused}
 use Rattle.calls.specs.Calls.{short, called}
-use Rattle.analyzer_verdict.specs.declared.Answer.the-variants.{Refused}
 use Rattle.analyzer_verdict.specs.declared.Analysis.{Analysis}
-use Rattle.analyzer_verdict.specs.Judging.{Judges}
+use Rattle.analyzer_verdict.specs.Judging.{refusal, Judges}
 
--- A REFUSAL with its number and line; the states "beside a refusal" are "none and 0"
-abbrev pub refusal : ℕ → ℕ → Analysis
-refusal n l = record { answer = Refused n l; states = replicate limit.listed 0; count = 0 }
-
--- WHAT THE CALL LEAVES, by the table's answer to it: after a refusal "both buffers are untouched"; an accepted text has a verdict
+-- WHAT THE CALL LEAVES, by the table's answer to it: after a refusal of it "both buffers are untouched"; an accepted text is judged, so 15 "follows all checks of lines, the missing `ask` included"
 abbrev pub Leaves : Outcome → List ℕ → List ℕ → Analysis → List ℕ → List ℕ → Type 0
 Leaves (refused n l) work run a work′ run′ = (a ≡ refusal n l) × (work′ ≡ work) × (run′ ≡ run)
 Leaves (accepted D P Q) work run a work′ run′ = Judges P Q work run a work′ run′

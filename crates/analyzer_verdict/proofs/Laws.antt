@@ -1,10 +1,12 @@
 -- What the search and the written run give of the answer.
 use mathlib.Core.Path.{_≡_, refl, sym, ap, _∙_}
+use mathlib.Core.Bool.{true, false, false≢true}
 use mathlib.Core.List.{List, [], _∷_, _++_}
 use mathlib.Core.Option.{some}
 use Prim.Native.Nat.{ℕ, _-_}
 use lib.ListN.{length, take, drop, getD, length-map}
 use lib.Seq.{take-at, drop-at}
+use Rattle.semantics.specs.Models.{Program, Question}
 use Rattle.semantics.specs.Runs.{meet}
 use Rattle.model.specs.declared.Model.{Model}
 use Rattle.model.specs.declared.Place.{Place}
@@ -13,17 +15,29 @@ use Rattle.model.specs.WellFormed.{WellFormed}
 use Rattle.model.specs.Places.{numberOf, placed, standsFor, placeOf}
 use Rattle.model.proofs.Accepted.{stages}
 use Rattle.search.specs.declared.Found.{Found}
-use Rattle.search.specs.Search.{Searched}
+use Rattle.search.specs.Search.{Searched, Finds}
 use Rattle.witness_table.specs.Runs.{numbers}
 use Rattle.witness_walk.specs.Walk.{Recorded}
 use Rattle.witness.specs.Witness as witness
 use Rattle.witness.proofs.Laws.{last-place, played-on}
-use Rattle.analyzer_verdict.specs.Judging.{Shown, Listed}
+use Rattle.analyzer_verdict.specs.declared.Answer.{Answer}
+use Rattle.analyzer_verdict.specs.declared.Answer.the-variants.{Reached, Unreached, Refused}
+use Rattle.analyzer_verdict.specs.Judging.{Crowded, Shown, Answered, Listed, Beside}
 
 -- the place of a number is the one that its parts stand for
 parts : (k : ℕ) → standsFor (placed k) ≡ placeOf k
 unfolding placeOf
 parts k = refl
+
+-- where there are not too many states, the answer is a verdict, and the states stand beside it
+pub beside : (P : Program) (Q : Question) (run run′ states : List ℕ) (n : ℕ) → (Crowded P → ⊥) → Listed P states n → (a : Answer) → Answered P Q run run′ a → Beside P states n a
+beside P Q run run′ states n few l (Reached places last) h = l
+beside P Q run run′ states n few l Unreached h = l
+beside P Q run run′ states n few l (Refused number line) h = absurd (few (h .0))
+
+-- what is found of the number of states
+pub not-crowded : (m : Model) (w : List ℕ) (r : Found) → Finds m w r → r .crowded ≡ false → Crowded (programOf m) → ⊥
+not-crowded m w r h e c = false≢true (sym e ∙ h .crowded .1 c)
 
 module _ (m : Model) (wf : WellFormed m) where
   module _ (w : List ℕ) (r : Found) (h : Searched m w r) where

@@ -8,7 +8,7 @@ use Prim.Native.Nat.{ℕ, _-_, _≤_}
 use lib.ListN.{length, take, drop, getD, replicate}
 use Rattle.limits.specs.Limits as limit
 use Rattle.semantics.specs.Models.{elem, Program, Question}
-use Rattle.semantics.specs.Steps.{Reachable}
+use Rattle.semantics.specs.Steps.{Reachable, MoreThan}
 use Rattle.semantics.specs.Questions as questions
 use Rattle.semantics.specs.Runs as runs
 use Rattle.semantics.specs.Runs.{meet, Kept}
@@ -42,11 +42,19 @@ pub record Shown (P : Program) (Q : Question) (run run′ : List ℕ) (n : ℕ) 
   -- demand 3
   pub playing : PlayingOn P Q limit.run places
 
--- THE VERDICT is right, and the run table "is written only for reached"
+-- TOO MANY STATES, document 02, R-6: "more than 127 non-empty states are reachable"
+abbrev pub Crowded : Program → Type 0
+Crowded P = MoreThan limit.atomic P
+
+-- "15 with line 0 from an analysis"
+abbrev pub tooMany : ℕ
+tooMany = 15
+
+-- THE ANSWER: 15 "exactly if" there are too many states, the run table untouched, and else a verdict that is right; the run table "is written only for reached"
 abbrev pub Answered : Program → Question → List ℕ → List ℕ → Answer → Type 0
-Answered P Q run run′ (Reached n last) = questions.Reached P Q × Shown P Q run run′ n last
-Answered P Q run run′ Unreached = (questions.Reached P Q → ⊥) × (run′ ≡ run)
-Answered P Q run run′ (Refused n l) = ⊥
+Answered P Q run run′ (Reached n last) = (Crowded P → ⊥) × questions.Reached P Q × Shown P Q run run′ n last
+Answered P Q run run′ Unreached = (Crowded P → ⊥) × (questions.Reached P Q → ⊥) × (run′ ≡ run)
+Answered P Q run run′ (Refused n l) = Crowded P × (n ≡ tooMany) × (l ≡ 0) × (run′ ≡ run)
 
 -- THE STATES beside a verdict: "the reachable atomic states and their number, in the listing's order"; the empty one, number 0, "comes first"; the numbers behind them are zero
 pub record Listed (P : Program) (states : List ℕ) (n : ℕ) : Type 0 where
@@ -55,8 +63,18 @@ pub record Listed (P : Program) (states : List ℕ) (n : ℕ) : Type 0 where
   pub reachable : (s : ℕ) → Reachable P s ↔ (elem s (take n states) ≡ true)
   pub rest : drop n states ≡ replicate (limit.listed - n) 0
 
--- THE ANALYSIS a of a program and a question, with the work area and the run table before and after it
+-- they stand beside a verdict; "beside a refusal" they are "none and 0"
+abbrev pub Beside : Program → List ℕ → ℕ → Answer → Type 0
+Beside P states n (Reached places last) = Listed P states n
+Beside P states n Unreached = Listed P states n
+Beside P states n (Refused number line) = (states ≡ replicate limit.listed 0) × (n ≡ 0)
+
+-- A REFUSAL with its number and line
+abbrev pub refusal : ℕ → ℕ → Analysis
+refusal n l = record { answer = Refused n l; states = replicate limit.listed 0; count = 0 }
+
+-- THE ANALYSIS a of a program and a question, with the work area and the run table before and after it; "the first 65,536 work bytes zero" with every answer
 pub record Judges (P : Program) (Q : Question) (work run : List ℕ) (a : Analysis) (work′ run′ : List ℕ) : Type 0 where
   pub verdict : Answered P Q run run′ (a .answer)
-  pub states : Listed P (a .states) (a .count)
+  pub states : Beside P (a .states) (a .count) (a .answer)
   pub area : work′ ≡ wiped work

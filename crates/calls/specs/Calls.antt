@@ -11,7 +11,7 @@ use Rattle.grammar.specs.Texts.{Outcome, refused, outcome}
 unfoldable pub early : ℕ → Bool → Bool → ℕ
 early bytes short long = cond (eqb bytes 0 || ltb limit.text bytes) 1 (cond short 12 (cond long 14 0))
 
--- row 12: "work area under 32,768 bytes, or a run table lent for writing under 8,640 places"; document 02, R-1: "a table under 8,640 places is refused 12"; R-5: these "become 9,344"
+-- row 12, with the figures of document 02: a work area under 65,536 bytes (R-6), "or a run table lent for writing" under 9,344 places, R-1's table too (R-5)
 abbrev pub short : ℕ → ℕ → Bool
 short bytes places = ltb bytes limit.work || ltb places limit.run
 

@@ -4,6 +4,6 @@ use Prim.Native.Nat.{ℕ}
 use lib.ListN.{drop, replicate}
 use Rattle.limits.specs.Limits as limit
 
--- "the first 32,768 work bytes are zero and the rest untouched"
+-- document 02, R-6: "the first 65,536 work bytes" are zero, and "the rest untouched"
 unfoldable pub wiped : List ℕ → List ℕ
 wiped w = replicate limit.work 0 ++ drop limit.work w

@@ -1,24 +1,24 @@
--- NUMBERS OF ANSWERS can be read. The lines of a run stay below 65,536, since a line that says something has 6 bytes at least; the codes of relations stay below 128.
-use mathlib.Core.Path.{_≡_, refl}
+-- NUMBERS OF ANSWERS can be read. The lines of a run stay below 65,536, since a line before it has 8 bytes at least and a place 6, without byte 10; the codes of relations stay below 128.
+use mathlib.Core.Path.{_≡_, refl, ap, _∙_}
 use mathlib.Core.Logic.{⊎-elim}
 use mathlib.Core.Bool.{Bool, true, false, cond}
 use mathlib.Core.List.{List, [], _∷_, _++_}
-use mathlib.Core.Option.{Option, none, some, Option·none-ne-some}
+use mathlib.Core.Option.{Option, none, some, Option·none-ne-some, Option·some-injective}
 use Prim.Native.Nat.{ℕ, zero, suc, _+_, _*_, _/_, _%_, _≤_, _<_}
 use native.Mathlib.Omega.{arith}
 use lib.Dec.{eqb, ltb}
-use lib.ListN.{length}
+use lib.ListN.{length, length-append}
 use borrow.Author.Tests.{ltb-false}
 use Rattle.limits.specs.Limits as limit
-use Rattle.semantics.specs.Runs.{Place}
+use Rattle.semantics.specs.Runs.{Place, step, meet}
 use Rattle.grammar.specs.Bytes.{Word, bytes, Line, ended, unended, inFront, lines}
-use Rattle.grammar.specs.Shapes.{Read, _>>=_, after, whether, whole}
+use Rattle.grammar.specs.Shapes.{Read, _>>=_, after, whether, rest, whole}
 use Rattle.grammar.specs.Declarations.{class, Declared}
 use Rattle.grammar.specs.Texts.{Outcome, accepted, refused, outcome}
 use Rattle.grammar.proofs.Tests.{either}
 use Rattle.acceptance.specs.Sound.{codeAt}
 use Rattle.acceptance.proofs.Acceptance.{accepted-sound}
-use Rattle.handin_lines.specs.Lines.{verdict, Said, nothing, place, statesRest, atomicRest, stepRest, meetRest, line, saidBy}
+use Rattle.handin_lines.specs.Lines.{verdict, below, Said, nothing, place, statesRest, atomicRest, stepRest, meetRest, line, saidBy}
 use Rattle.handin.specs.Handins.{says-yes, unreadable, content, onwards, follows, preface, readLines, reading}
 use Rattle.handin.proofs.Runs.{run-writable}
 use Rattle.display_shapes.specs.declared.Span.{Span}
@@ -28,27 +28,28 @@ use Rattle.display.specs.Shown.{relationAt, ShowsRelation}
 use Rattle.codes.specs.Codes.{spanned, declared}
 use Rattle.codes.proofs.Fitting.{relation-fits}
 
--- A LINE that says something has 6 bytes at least
-after-long : (w s t : List ℕ) → after w s ≡ some t → length w ≤ length s
-after-long [] s t e = omega arith
+-- A READER that gives something, by what its first part gives
+by-word : {A B G : Type 0} (o : Option A) (f : A → Option B) (b : Option B) (y : B) → ((x : A) → o ≡ some x → f x ≡ some y → G) → (b ≡ some y → G) → whether o f b ≡ some y → G
+by-word none f b y g h e = h e
+by-word (some x) f b y g h e = g x refl e
+
+then-word : {A B G : Type 0} (o : Option A) (f : A → Option B) (y : B) → ((x : A) → o ≡ some x → f x ≡ some y → G) → (o >>= f) ≡ some y → G
+then-word none f y g e = absurd (Option·none-ne-some y e)
+then-word (some x) f y g e = g x refl e
+
+after-long : (w s t : List ℕ) → after w s ≡ some t → length s ≡ length w + length t
+after-long [] s t e = omega (arith, ap length (Option·some-injective s t e))
 after-long (b ∷ w) [] t e = absurd (Option·none-ne-some t e)
 after-long (b ∷ w) (c ∷ s) t e = ⊎-elim (λ (q : eqb b c ≡ true). omega (arith, after-long w s t (rw q at e))) (λ (q : eqb b c ≡ false). absurd (Option·none-ne-some t (rw q at e))) (either (eqb b c))
 
-by-word : {A B : Type 0} (n : ℕ) (o : Option A) (f : A → Option B) (b : Option B) → ((x : A) → o ≡ some x → 6 ≤ n) → ((y : B) → b ≡ some y → 6 ≤ n) → (y : B) → whether o f b ≡ some y → 6 ≤ n
-by-word n none f b g h y e = h y e
-by-word n (some x) f b g h y e = g x refl
-
-last-word : {A B : Type 0} (n : ℕ) (o : Option A) (f : A → Option B) → ((x : A) → o ≡ some x → 6 ≤ n) → (y : B) → (o >>= f) ≡ some y → 6 ≤ n
-last-word n none f g y e = absurd (Option·none-ne-some y e)
-last-word n (some x) f g y e = g x refl
-
+-- A LINE that says something has 6 bytes at least
 line-long : (s : List ℕ) (r : Said × List ℕ) → line s ≡ some r → 6 ≤ length s
 unfolding line
-line-long s =
-    by-word (length s) (after (bytes "(states ") s) statesRest _ (λ t e. omega (arith, after-long (bytes "(states ") s t e))
-    (by-word (length s) (after (bytes "(atomic") s) atomicRest _ (λ t e. omega (arith, after-long (bytes "(atomic") s t e))
-    (by-word (length s) (after (bytes "(step ") s) stepRest _ (λ t e. omega (arith, after-long (bytes "(step ") s t e))
-    (last-word (length s) (after (bytes "(meet ") s) meetRest (λ t e. omega (arith, after-long (bytes "(meet ") s t e)))))
+line-long s r =
+    by-word (after (bytes "(states ") s) statesRest _ r (λ t e f. omega (arith, after-long (bytes "(states ") s t e))
+    (by-word (after (bytes "(atomic") s) atomicRest _ r (λ t e f. omega (arith, after-long (bytes "(atomic") s t e))
+    (by-word (after (bytes "(step ") s) stepRest _ r (λ t e f. omega (arith, after-long (bytes "(step ") s t e))
+    (then-word (after (bytes "(meet ") s) meetRest r (λ t e f. omega (arith, after-long (bytes "(meet ") s t e)))))
 
 said-long : (s : List ℕ) (x : Said) → saidBy s ≡ some x → 6 ≤ length s
 unfolding saidBy
@@ -58,69 +59,114 @@ said-long s x e = go (line s) refl e
     go none q h = absurd (Option·none-ne-some x h)
     go (some r) q h = line-long s r q
 
--- THE BYTES of lines, without byte 10, are at most those of the hand-in
+-- ONE THAT IS NO PLACE has 8: it is no step and no meeting, and `(atomic` goes on
+atomic-long : (s : List ℕ) (r : Said × List ℕ) → atomicRest s ≡ some r → 1 ≤ length s
+unfolding atomicRest rest
+atomic-long [] r e = absurd (Option·none-ne-some r e)
+atomic-long (b ∷ s) r e = omega arith
+
+is-place : (p : Place) (t u : List ℕ) → _≡_ {A = Read Said} (some (place p, t)) (some (nothing, u)) → ⊥
+is-place p t u e =
+    let q : place p ≡ nothing = ap (λ (r : Said × List ℕ). r .0) (Option·some-injective (place p, t) (nothing, u) e) in
+    let k : _≡_ {A = ℕ} 0 1 = cc in
+    omega arith
+
+step-place : (s u : List ℕ) → stepRest s ≡ some (nothing, u) → ⊥
+unfolding stepRest
+step-place s u = then-word (below 8388608 s) _ (nothing, u)
+    (λ x e. then-word (after (bytes " ") (x .1)) _ (nothing, u)
+    (λ v f. then-word (below limit.objects v) _ (nothing, u)
+    (λ y g. then-word (after (bytes ")") (y .1)) _ (nothing, u)
+    (λ z h. is-place (step (x .0) (y .0)) z u))))
+
+meet-place : (s u : List ℕ) → meetRest s ≡ some (nothing, u) → ⊥
+unfolding meetRest
+meet-place s u = then-word (below 128 s) _ (nothing, u)
+    (λ x e. then-word (rest (below limit.objects) limit.variables (x .1)) _ (nothing, u)
+    (λ y f. is-place (meet (x .0) (y .0)) (y .1) u))
+
+line-nothing : (s u : List ℕ) → line s ≡ some (nothing, u) → 8 ≤ length s
+unfolding line
+line-nothing s u =
+    by-word (after (bytes "(states ") s) statesRest _ (nothing, u) (λ t e f. omega (arith, after-long (bytes "(states ") s t e))
+    (by-word (after (bytes "(atomic") s) atomicRest _ (nothing, u) (λ t e f. omega (arith, after-long (bytes "(atomic") s t e, atomic-long t (nothing, u) f))
+    (by-word (after (bytes "(step ") s) stepRest _ (nothing, u) (λ t e f. absurd (step-place t u f))
+    (then-word (after (bytes "(meet ") s) meetRest (nothing, u) (λ t e f. absurd (meet-place t u f)))))
+
+said-nothing : (s : List ℕ) → saidBy s ≡ some nothing → 8 ≤ length s
+unfolding saidBy
+said-nothing s e = go (line s) refl e
+  where
+    go : (r : Read Said) → line s ≡ r → whole r ≡ some nothing → 8 ≤ length s
+    go none q h = absurd (Option·none-ne-some nothing h)
+    go (some (x, [])) q h = line-nothing s [] (q ∙ ap (λ (y : Said). some (y, [])) (Option·some-injective x nothing h))
+    go (some (x, b ∷ t)) q h = absurd (Option·none-ne-some nothing h)
+
+-- THE BYTES of lines, each with one more at its end, are at most one more than those of the hand-in
 abbrev size : List Line → ℕ
 size [] = 0
-size (l ∷ ls) = length (content l) + size ls
+size (l ∷ ls) = suc (length (content l)) + size ls
 
-in-front-size : (b : ℕ) (ls : List Line) → size (inFront b ls) ≡ suc (size ls)
-in-front-size b [] = refl
-in-front-size b (ended s ∷ ls) = omega arith
-in-front-size b (unended s ∷ ls) = omega arith
+in-front-size : (n b : ℕ) (ls : List Line) → size ls ≤ suc n → size (inFront b ls) ≤ suc (suc n)
+in-front-size n b [] h = omega arith
+in-front-size n b (ended s ∷ ls) h = omega arith
+in-front-size n b (unended s ∷ ls) h = omega arith
 
-few-bytes : (s : List ℕ) → size (lines s) ≤ length s
+few-bytes : (s : List ℕ) → size (lines s) ≤ suc (length s)
 few-bytes [] = omega arith
-few-bytes (b ∷ s) = ⊎-elim (λ (q : eqb b 10 ≡ true). rw q (omega (arith, few-bytes s))) (λ (q : eqb b 10 ≡ false). rw q (omega (arith, few-bytes s, in-front-size b (lines s)))) (either (eqb b 10))
+few-bytes (b ∷ s) =
+    ⊎-elim (λ (q : eqb b 10 ≡ true). rw q (omega (arith, few-bytes s))) (λ (q : eqb b 10 ≡ false). rw q (in-front-size (length s) b (lines s) (few-bytes s))) (either (eqb b 10))
 
--- THE FIRST LINE of a run
+-- THE FIRST LINE of a run, and its places
 no-yes : {A : Type 0} (n first : ℕ) (ps : List Place) → unreadable n ≡ says-yes first ps → A
 no-yes n first ps e = absurd (let z : _≡_ {A = ℕ} 0 1 = cc in omega arith)
 
 module _ (first : ℕ) (ps : List Place) where
-  one-place : (n : ℕ) (qs : List Place) (ls : List Line) (o : Option Said) → ((p : Place) → onwards n (qs ++ p ∷ []) ls ≡ says-yes first ps → first ≤ n)
+  one-place : (n : ℕ) (qs : List Place) (l : Line) (ls : List Line) (o : Option Said) → saidBy (content l) ≡ o
+      → ((p : Place) → onwards n (qs ++ p ∷ []) ls ≡ says-yes first ps → first * 9 + length ps * 7 ≤ n * 9 + length (qs ++ p ∷ []) * 7 + size ls)
       → elim o [
         | none ↦ unreadable (n + length qs)
         | some nothing ↦ unreadable (n + length qs)
         | some (place p) ↦ cond (ltb (length qs) limit.run) (onwards n (qs ++ p ∷ []) ls) (unreadable (n + length qs))
       ] ≡ says-yes first ps
-      → first ≤ n
-  one-place n qs ls none go e = no-yes (n + length qs) first ps e
-  one-place n qs ls (some nothing) go e = no-yes (n + length qs) first ps e
-  one-place n qs ls (some (place p)) go e =
-      ⊎-elim (λ (t : ltb (length qs) limit.run ≡ true). go p (rw t at e)) (λ (t : ltb (length qs) limit.run ≡ false). no-yes (n + length qs) first ps (rw t at e)) (either (ltb (length qs) limit.run))
+      → first * 9 + length ps * 7 ≤ n * 9 + length qs * 7 + size (l ∷ ls)
+  one-place n qs l ls none q go e = no-yes (n + length qs) first ps e
+  one-place n qs l ls (some nothing) q go e = no-yes (n + length qs) first ps e
+  one-place n qs l ls (some (place p)) q go e =
+      ⊎-elim (λ (t : ltb (length qs) limit.run ≡ true). omega (arith, go p (rw t at e), said-long (content l) (place p) q, length-append qs (p ∷ []))) (λ (t : ltb (length qs) limit.run ≡ false). no-yes (n + length qs) first ps (rw t at e)) (either (ltb (length qs) limit.run))
 
-  run-first : (n : ℕ) (qs : List Place) (ls : List Line) → onwards n qs ls ≡ says-yes first ps → first ≤ n
+  run-first : (n : ℕ) (qs : List Place) (ls : List Line) → onwards n qs ls ≡ says-yes first ps → first * 9 + length ps * 7 ≤ n * 9 + length qs * 7 + size ls
   unfolding onwards
-  run-first n qs [] e = let q : n ≡ first = cc in omega (arith, q)
-  run-first n qs (l ∷ ls) e = one-place n qs ls (saidBy (content l)) (λ p. run-first n (qs ++ p ∷ []) ls) e
+  run-first n qs [] e = let q : n ≡ first = cc in let r : qs ≡ ps = cc in omega (arith, q, ap length r)
+  run-first n qs (l ∷ ls) e = one-place n qs l ls (saidBy (content l)) refl (λ p. run-first n (qs ++ p ∷ []) ls) e
 
-  follows-first : (reached : Bool) (n : ℕ) (ls : List Line) → follows reached n ls ≡ says-yes first ps → first ≤ n
+  follows-first : (reached : Bool) (n : ℕ) (ls : List Line) → follows reached n ls ≡ says-yes first ps → first * 9 + length ps * 7 ≤ n * 9 + size ls
   unfolding follows
-  follows-first true n ls e = run-first n [] ls e
+  follows-first true n ls e = omega (arith, run-first n [] ls e)
   follows-first false n [] e = absurd (let z : _≡_ {A = ℕ} 0 1 = cc in omega arith)
   follows-first false n (l ∷ ls) e = no-yes n first ps e
 
-  one-line : (reached : Bool) (n : ℕ) (l : Line) (ls : List Line) (o : Option Said) → saidBy (content l) ≡ o → (preface reached (suc n) ls ≡ says-yes first ps → first * 6 ≤ suc n * 6 + size ls)
-      → elim o [ none ↦ follows reached n (l ∷ ls) | some nothing ↦ preface reached (suc n) ls | some (place p) ↦ follows reached n (l ∷ ls) ] ≡ says-yes first ps → first * 6 ≤ n * 6 + size (l ∷ ls)
+  one-line : (reached : Bool) (n : ℕ) (l : Line) (ls : List Line) (o : Option Said) → saidBy (content l) ≡ o → (preface reached (suc n) ls ≡ says-yes first ps → first * 9 + length ps * 7 ≤ suc n * 9 + size ls)
+      → elim o [ none ↦ follows reached n (l ∷ ls) | some nothing ↦ preface reached (suc n) ls | some (place p) ↦ follows reached n (l ∷ ls) ] ≡ says-yes first ps → first * 9 + length ps * 7 ≤ n * 9 + size (l ∷ ls)
   one-line reached n l ls none q go e = omega (arith, follows-first reached n (l ∷ ls) e)
-  one-line reached n l ls (some nothing) q go e = omega (arith, go e, said-long (content l) nothing q)
+  one-line reached n l ls (some nothing) q go e = omega (arith, go e, said-nothing (content l) q)
   one-line reached n l ls (some (place p)) q go e = omega (arith, follows-first reached n (l ∷ ls) e)
 
-  preface-first : (reached : Bool) (n : ℕ) (ls : List Line) → preface reached n ls ≡ says-yes first ps → first * 6 ≤ n * 6 + size ls
+  preface-first : (reached : Bool) (n : ℕ) (ls : List Line) → preface reached n ls ≡ says-yes first ps → first * 9 + length ps * 7 ≤ n * 9 + size ls
   unfolding preface
   preface-first reached n [] e = omega (arith, follows-first reached n [] e)
   preface-first reached n (l ∷ ls) e = one-line reached n l ls (saidBy (content l)) refl (preface-first reached (suc n) ls) e
 
-  lines-first : (ls : List Line) → readLines ls ≡ says-yes first ps → first * 6 ≤ 12 + size ls
+  lines-first : (ls : List Line) → readLines ls ≡ says-yes first ps → first * 9 + length ps * 7 ≤ 18 + size ls
   unfolding readLines
   lines-first [] e = no-yes 1 first ps e
   lines-first (l ∷ ls) e = go (verdict (content l)) e
     where
-      go : (o : Option Bool) → elim o [ none ↦ unreadable 1 | some reached ↦ preface reached 2 ls ] ≡ says-yes first ps → first * 6 ≤ 12 + size (l ∷ ls)
+      go : (o : Option Bool) → elim o [ none ↦ unreadable 1 | some reached ↦ preface reached 2 ls ] ≡ says-yes first ps → first * 9 + length ps * 7 ≤ 18 + size (l ∷ ls)
       go none h = no-yes 1 first ps h
       go (some reached) h = omega (arith, preface-first reached 2 ls h)
 
-  first-small : (handin : List ℕ) → reading handin ≡ says-yes first ps → first * 6 ≤ 12 + limit.handin
+  first-small : (handin : List ℕ) → reading handin ≡ says-yes first ps → first * 9 + length ps * 7 ≤ 19 + limit.handin
   unfolding reading
   first-small handin e =
       ⊎-elim (λ (q : ltb limit.handin (length handin) ≡ true). no-yes 0 first ps (rw q at e))

@@ -6,6 +6,7 @@ use Prim.Native.Nat.{ℕ, _+_, _-_, _≤_, _<_}
 use native.Mathlib.Omega.{arith}
 use lib.ListN.{length, drop, length-drop}
 use lib.Seq.{slice}
+use Rattle.limits.specs.Limits as limit
 use Rattle.grammar.specs.Bytes.{bytes}
 use Rattle.grammar.specs.Forms.{plain, negated}
 use Rattle.grammar.specs.Shapes.{Read, after, name, rest, bracket, atom, literal, list, stage}
@@ -65,7 +66,7 @@ module _ {text : List ℕ} {at : ℕ} where
       unfolding list bracket
       list-nameless k = ends-none (rw (no, h, k))
 
-      pub list-found : {e r : ℕ} → Ends name text (at + 1) e → (e ≡ 0 → ⊥) → Ends (rest name 6) text e r → Ends list text at r
+      pub list-found : {e r : ℕ} → Ends name text (at + 1) e → (e ≡ 0 → ⊥) → Ends (rest name (limit.list - 1)) text e r → Ends list text at r
       unfolding list bracket
       list-found v z w = let (x, a, b, k) = v .found z in record {
         found = λ q. let (xs, c, d, l) = w .found q in (x ∷ xs, omega arith, d, rw (no, h, k, l));
@@ -96,7 +97,7 @@ module _ {text : List ℕ} {at : ℕ} where
     unfolding stage bracket
     stage-empty k = ends-none (rw (h, k))
 
-    pub stage-found : {e r : ℕ} → Ends literal text (at + 1) e → (e ≡ 0 → ⊥) → Ends (rest literal 7) text e r → Ends stage text at r
+    pub stage-found : {e r : ℕ} → Ends literal text (at + 1) e → (e ≡ 0 → ⊥) → Ends (rest literal (limit.body - 1)) text e r → Ends stage text at r
     unfolding stage bracket
     stage-found v z w = let (x, a, b, k) = v .found z in record {
       found = λ q. let (xs, c, d, l) = w .found q in (x ∷ xs, omega arith, d, rw (h, k, l));

@@ -6,7 +6,7 @@ use mathlib.Core.List.{List, [], _∷_}
 use Prim.Native.Nat.{ℕ, _+_, _≤_, _<_}
 use native.Mathlib.Omega.{arith}
 use lib.Dec.{eqb, ltb, leb}
-use lib.ListN.{length, take, getD}
+use lib.ListN.{length, take, getD, replicate, length-replicate}
 use lib.Seq.{getD-take, length-slice, length-take-le}
 use borrow.Author.Tests.{leb-true, le-ltb}
 use Rattle.limits.specs.Limits as limit
@@ -26,12 +26,12 @@ use Rattle.search_states.specs.Rising.{Rising}
 use Rattle.analyzer_verdict.specs.declared.Answer.{Answer}
 use Rattle.analyzer_verdict.specs.declared.Answer.the-variants.{Reached, Unreached, Refused}
 use Rattle.analyzer_verdict.specs.declared.Analysis.{Analysis}
-use Rattle.analyzer_verdict.specs.Judging.{Answered, Listed}
+use Rattle.analyzer_verdict.specs.Judging.{Answered, Beside}
 use Rattle.calls.specs.Calls.{early, called, short}
 use Rattle.analyzer.specs.Analyzing.{Leaves, Analyzes}
 use Rattle.listing_lines.specs.Lines.{Named}
 use Rattle.listing.specs.Report.{Listable}
-use Rattle.eon.specs.Output.{Ready, Shows, Lists, Listing}
+use Rattle.eon.specs.Output.{Ready, Shows, Written, Listing}
 
 -- a name has at most 16 bytes
 name-short : (w : Word) → isName w ≡ true → length w ≤ 16
@@ -70,36 +70,36 @@ module _ (text : List ℕ) (D : Declared) (P : Program) (Q : Question) (m : Mode
     short = omega arith;
   }
 
-  module _ (states : List ℕ) (k : ℕ) (run run′ : List ℕ) (whole : length states ≡ limit.listed) (l : Listed P states k) where
-    pub ready : (a : Answer) → Answered P Q run run′ a → limit.run ≤ length run′ → Ready text m states k run′ a
-    ready (Reached n last) h long = listable states k run′ n (l .count) whole (h .1 .fits) long
-    ready Unreached h long = listable states k run′ 0 (l .count) whole (omega arith) long
-    ready (Refused n ℓ) h long = tt
+  module _ (states : List ℕ) (k : ℕ) (run run′ : List ℕ) (whole : length states ≡ limit.listed) where
+    pub ready : (a : Answer) → Answered P Q run run′ a → Beside P states k a → limit.run ≤ length run′ → Ready text m states k run′ a
+    ready (Reached n last) h l long = listable states k run′ n (l .count) whole (h .2 .fits) long
+    ready Unreached h l long = listable states k run′ 0 (l .count) whole (omega arith) long
+    ready (Refused n ℓ) h l long = tt
 
-    -- and its listing is the output
+    -- and what is written of it is the output
     module _ (d : List ℕ) (r : ℕ) (e : List ℕ) where
-      pub lists : (a : Answer) → Answered P Q run run′ a → Shows text m states k run′ a d r e → Lists text D P Q (record { answer = a; states = states; count = k }) run′ (take r e)
-      lists (Reached n last) h w = record {
+      pub writes : (a : Answer) → Answered P Q run run′ a → Beside P states k a → Shows text m states k run′ a d r e → Written text D P Q (record { answer = a; states = states; count = k }) run′ (take r e) a
+      writes (Reached n last) h l w = record {
         model = m;
         represents = rep;
         names = names;
         reached = true;
-        verdict = h .0;
+        verdict = h .1;
         states = take k states;
         first = refl;
         rising = rising-front states k (omega (arith, l .count)) (l .rising);
         reachable = l .reachable;
-        run = h .1 .places;
-        shown = h .1 .kept;
-        told = (refl, h .1 .decoded);
-        bytes = w (h .1 .places) (h .1 .decoded) .front;
+        run = h .2 .places;
+        shown = h .2 .kept;
+        told = (refl, h .2 .decoded);
+        bytes = w (h .2 .places) (h .2 .decoded) .front;
       }
-      lists Unreached h w = record {
+      writes Unreached h l w = record {
         model = m;
         represents = rep;
         names = names;
         reached = false;
-        verdict = h .0;
+        verdict = h .1;
         states = take k states;
         first = refl;
         rising = rising-front states k (omega (arith, l .count)) (l .rising);
@@ -109,12 +109,16 @@ module _ (text : List ℕ) (D : Declared) (P : Program) (Q : Question) (m : Mode
         told = refl;
         bytes = w [] refl .front;
       }
-      lists (Refused n ℓ) h w = absurd h
+      writes (Refused n ℓ) h l w = w .front
 
       pub room : (a : Answer) → Answered P Q run run′ a → Shows text m states k run′ a d r e → r ≤ length d
-      room (Reached n last) h w = w (h .1 .places) (h .1 .decoded) .room
+      room (Reached n last) h w = w (h .2 .places) (h .2 .decoded) .room
       room Unreached h w = w [] refl .room
-      room (Refused n ℓ) h w = absurd h
+      room (Refused n ℓ) h w = w .room
+
+-- a buffer of n zeros has n cells
+pub zeros : (n : ℕ) → n ≤ length (replicate {A = ℕ} n 0)
+zeros n = omega (arith, length-replicate {A = ℕ} n 0)
 
 -- with buffers that have their sizes, the answer is the text's
 in-room : (text : List ℕ) (short : Bool) → short ≡ false → called text short false ≡ outcome text
@@ -131,12 +135,12 @@ answered text work run a work′ run′ h l w = rw (in-room text (short (length 
 module _ (text work run : List ℕ) (r : Reading) (a : Analysis) (work′ run′ : List ℕ) (whole : length (a .states) ≡ limit.listed) where
   pub text-ready : (o : Outcome) → outcome text ≡ o → Reads o text r → Leaves o work run a work′ run′ → limit.run ≤ length run′ → Ready text (r .model) (a .states) (a .count) run′ (a .answer)
   text-ready (refused n ℓ) ok reads leaves long = rw (leaves .0) tt
-  text-ready (accepted D P Q) ok reads leaves long = ready text D P Q (r .model) ok (reads .1) (reads .2) (a .states) (a .count) run run′ whole (leaves .states) (a .answer) (leaves .verdict) long
+  text-ready (accepted D P Q) ok reads leaves long = ready text D P Q (r .model) ok (reads .1) (reads .2) (a .states) (a .count) run run′ whole (a .answer) (leaves .verdict) (leaves .states) long
 
   module _ (d : List ℕ) (n : ℕ) (e : List ℕ) (w : Shows text (r .model) (a .states) (a .count) run′ (a .answer) d n e) where
     pub text-output : (o : Outcome) → outcome text ≡ o → Reads o text r → Leaves o work run a work′ run′ → Listing o text a run′ (take n e) × (n ≤ length d)
     text-output (refused k ℓ) ok reads leaves = let v = (rw (leaves .0) at w) in (v .front, v .room)
     text-output (accepted D P Q) ok reads leaves = (
-      lists text D P Q (r .model) ok (reads .1) (reads .2) (a .states) (a .count) run run′ whole (leaves .states) d n e (a .answer) (leaves .verdict) w,
-      room text D P Q (r .model) ok (reads .1) (reads .2) (a .states) (a .count) run run′ whole (leaves .states) d n e (a .answer) (leaves .verdict) w,
+      writes text D P Q (r .model) ok (reads .1) (reads .2) (a .states) (a .count) run run′ whole d n e (a .answer) (leaves .verdict) (leaves .states) w,
+      room text D P Q (r .model) ok (reads .1) (reads .2) (a .states) (a .count) run run′ whole d n e (a .answer) (leaves .verdict) w,
     )

@@ -71,10 +71,16 @@ pub record Lists (text : List ℕ) (D : Declared) (P : Program) (Q : Question) (
   pub told : Tells (a .answer) table reached run
   pub bytes : out ≡ listingOf text model reached states run
 
--- the listing of a text; "a refusal is the one line `(refused number line)`"
+-- what is written of an accepted text by its answer: a verdict is listed; "a refusal is the one line `(refused number line)`", and so is 15
+abbrev pub Written : List ℕ → Declared → Program → Question → Analysis → List ℕ → List ℕ → Answer → Type 0
+Written text D P Q a table out (Reached n last) = Lists text D P Q a table out
+Written text D P Q a table out Unreached = Lists text D P Q a table out
+Written text D P Q a table out (Refused n l) = out ≡ refusedLine n l
+
+-- the listing of a text
 abbrev pub Listing : Outcome → List ℕ → Analysis → List ℕ → List ℕ → Type 0
 Listing (refused n l) text a table out = out ≡ refusedLine n l
-Listing (accepted D P Q) text a table out = Lists text D P Q a table out
+Listing (accepted D P Q) text a table out = Written text D P Q a table out (a .answer)
 
 -- THE OUTPUT for a text: the listing of its analysis, with the work area and the run table before and after it
 abbrev pub Output : List ℕ → List ℕ → List ℕ → List ℕ → List ℕ → List ℕ → Type 0

@@ -1,6 +1,6 @@
 // A run put to a text, and why it breaks where it does.
+use facts_heads::ROOM;
 use limits::RUN;
-use limits::WORK;
 use model::Model;
 use reasons::Reason;
 use replay_runs::Ending;
@@ -100,7 +100,8 @@ fn explain_model(m: Model, run: &[u32], work: &mut [u8], stood: &mut [u32]) -> E
     requires { ⌜ WellFormed m × (length (now run) ≤ limit.run) × (limit.work ≤ length (now work)) × (limit.run ≤ length (now stood)) ⌝ }
     ensures { λ r. ⌜ Told (programOf m) (questionOf m) (now (run .entry)) r × Notes (programOf m) (questionOf m) (start []) (now (run .entry)) (now (stood .entry)) (now (stood .exit)) × (now (work .exit) ≡ wiped (now (work .entry))) ⌝ }
 {
-    let explanation = explain_run(m, run, &mut work[..WORK], stood);
+    let mut facts = [0u8; ROOM];
+    let explanation = explain_run(m, run, &mut facts, stood);
     calls::wipe(work);
     explanation
 }

@@ -10,6 +10,8 @@ use Rattle.grammar.specs.Texts.{Outcome, accepted, refused}
 use Rattle.calls.specs.Calls.{short, called}
 use Rattle.analyzer.specs.Analyzing.{Leaves}
 use Rattle.analyzer_verdict.specs.declared.Analysis.{Analysis}
+use Rattle.analyzer_verdict.specs.declared.Answer.the-variants.{Refused}
+use Rattle.analyzer_verdict.specs.Judging.{Beside}
 use Rattle.replay_session.specs.declared.PlaceAnswer.{PlaceAnswer}
 use Rattle.replay_session.specs.declared.PlaceAnswer.the-variants.{Kept}
 use Rattle.replay_session.specs.declared.Session.{Session}
@@ -19,11 +21,16 @@ use Rattle.exports.specs.Calls.{Analyzed, Placed}
 use Rattle.exports.proofs.Cells.{zero-beside-refusal, cells-left}
 
 -- beside a refusal all cells are zero
-pub refused-zero : (text work run : List ℕ) (n : ℕ) (work′ run′ out′ : List ℕ) (k l : ℕ) → called text (short (length work) (length run)) false ≡ refused k l
-    → Analyzed text work run n work′ run′ out′ → out′ ≡ replicate (limit.listed + 2) 0
-refused-zero text work run n work′ run′ out′ k l e h =
-    let r : Leaves (refused k l) work run (h .analysis) work′ run′ = (rw e at (h .analyzes)) in
-    h .cells ∙ ap (λ (a : Analysis). table a (lastNumber (a .answer) run′)) (r .0) ∙ zero-beside-refusal k l
+zero-cells : (o : Outcome) (work run : List ℕ) (a : Analysis) (work′ run′ : List ℕ) (k l : ℕ) → a .answer ≡ Refused k l → Leaves o work run a work′ run′
+    → table a (lastNumber (a .answer) run′) ≡ replicate (limit.listed + 2) 0
+zero-cells (refused n i) work run a work′ run′ k l e h = ap (λ (b : Analysis). table b (lastNumber (b .answer) run′)) (h .0) ∙ zero-beside-refusal n i
+zero-cells (accepted D P Q) work run a work′ run′ k l e h =
+    let none : Beside P (a .states) (a .count) (Refused k l) = (rw e at (h .states)) in
+    rw (e, none .0, none .1) (zero-beside-refusal k l)
+
+pub refused-zero : (text work run : List ℕ) (n : ℕ) (work′ run′ out′ : List ℕ) (h : Analyzed text work run n work′ run′ out′) (k l : ℕ) → h .analysis .answer ≡ Refused k l
+    → out′ ≡ replicate (limit.listed + 2) 0
+refused-zero text work run n work′ run′ out′ h k l e = h .cells ∙ zero-cells (called text (short (length work) (length run)) false) work run (h .analysis) work′ run′ k l e (h .analyzes)
 
 -- a place that is not kept leaves the cells
 unkept-state : (o : Outcome) (s : Session) (place : ℕ) (work : List ℕ) (a : PlaceAnswer) (t : Session) (work′ : List ℕ) → ((stood : ℕ) → a ≡ Kept stood → ⊥) → Put o s place work a t work′ → t ≡ s

@@ -7,7 +7,7 @@ use lib.ListN.{length, take, drop, getD, set, replicate, take-append-drop}
 use lib.Seq.{paste, take-all, drop-cons, drop-length, length-take-le}
 use Rattle.limits.specs.Limits as limit
 use Rattle.analyzer_verdict.specs.declared.Analysis.{Analysis}
-use Rattle.analyzer.specs.Analyzing as analyzing
+use Rattle.analyzer_verdict.specs.Judging.{refusal}
 use Rattle.replay_session.specs.declared.Session.{Session}
 use Rattle.exports.specs.Cells.{table, stateOf, cellsOf}
 
@@ -17,7 +17,7 @@ pub table-filled : (a : Analysis) (last : ℕ) → length (a .states) ≡ limit.
 table-filled a last h = rw (take-all (length (a .states)) (a .states) (omega arith), h) refl
 
 -- beside a refusal they are zero
-pub zero-beside-refusal : (n l : ℕ) → table (analyzing.refusal n l) 0 ≡ replicate (limit.listed + 2) 0
+pub zero-beside-refusal : (n l : ℕ) → table (refusal n l) 0 ≡ replicate (limit.listed + 2) 0
 zero-beside-refusal n l = refl
 
 -- a replay's state

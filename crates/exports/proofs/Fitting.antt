@@ -22,7 +22,7 @@ use Rattle.calls.proofs.Laws.{called-early, called-lines, sizes}
 use Rattle.analyzer_verdict.specs.declared.Answer.{Answer}
 use Rattle.analyzer_verdict.specs.declared.Answer.the-variants.{Reached, Unreached, Refused}
 use Rattle.analyzer_verdict.specs.declared.Analysis.{Analysis}
-use Rattle.analyzer_verdict.specs.Judging.{Answered}
+use Rattle.analyzer_verdict.specs.Judging.{Answered, Beside}
 use Rattle.analyzer.specs.Analyzing.{Leaves}
 use Rattle.replay_session.specs.declared.Answer as session
 use Rattle.replay_session.specs.declared.Answer.the-variants as reply
@@ -61,17 +61,22 @@ module _ (P : Program) (Q : Question) (run run′ : List ℕ) where
 
   answer-fits : (a : Answer) → Answered P Q run run′ a → ShortRun a × Shown (length run′) a
   answer-fits (Reached n last) h =
-      let s = h .1 in
+      let s = h .2 in
       (s .fits, (omega (arith, s .count, ap length (s .ends), length-append (s .before) (meet (length Q) (s .objects) ∷ [])), run-places n (s .places) (s .written) (s .count)))
   answer-fits Unreached h = (tt, tt)
-  answer-fits (Refused n l) h = absurd h
+  answer-fits (Refused n l) h = (tt, tt)
+
+  count-fits : (states : List ℕ) (n : ℕ) (a : Answer) → Beside P states n a → n ≤ limit.listed
+  count-fits states n (Reached places last) h = h .count
+  count-fits states n Unreached h = h .count
+  count-fits states n (Refused number l) h = omega (arith, h .1)
 
 pub analysis-fits : (o : Outcome) (work run : List ℕ) (a : Analysis) (work′ run′ : List ℕ) → Leaves o work run a work′ run′
     → ShortRun (a .answer) × Shown (length run′) (a .answer) × (a .count ≤ limit.listed)
 analysis-fits (refused n l) work run a work′ run′ h = rw (h .0) (tt, tt, omega arith)
 analysis-fits (accepted D P Q) work run a work′ run′ h =
     let f = answer-fits P Q run run′ (a .answer) (h .verdict) in
-    (f .0, f .1, h .states .count)
+    (f .0, f .1, count-fits P Q run run′ (a .states) (a .count) (a .answer) (h .states))
 
 -- THE REPLAY
 module _ (P : Program) (Q : Question) where

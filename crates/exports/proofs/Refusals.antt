@@ -1,4 +1,4 @@
--- NUMBERS OF ANSWERS can be read: refusals have the numbers to 12, and 14, and lines below 65,536.
+-- NUMBERS OF ANSWERS can be read: refusals have the numbers to 12, 14, and 15 from an analysis, and lines below 65,536.
 use mathlib.Core.Path.{_≡_, refl}
 use mathlib.Core.Logic.{_⊎_, inl, inr, ⊎-elim}
 use mathlib.Core.Bool.{Bool, true, false, cond, not, _&&_, _||_}
@@ -10,7 +10,7 @@ use lib.Dec.{eqb, ltb}
 use lib.ListN.{length}
 use borrow.Author.Tests.{ltb-false}
 use Rattle.limits.specs.Limits as limit
-use Rattle.semantics.specs.Models.{Program}
+use Rattle.semantics.specs.Models.{Program, Question}
 use Rattle.grammar.specs.Bytes as bytes
 use Rattle.grammar.specs.Bytes.{Word, ended, unended, every, allowed, lines}
 use Rattle.grammar.specs.Forms.{Literal, plain, negated, Form, stateForm, relForm, ruleForm, newForm, nextForm, askForm}
@@ -22,7 +22,12 @@ use Rattle.semantics.proofs.Tools.{or-false}
 use Rattle.grammar.proofs.Tests.{either}
 use Rattle.grammar.proofs.Lower.{lower-bound}
 use Rattle.grammar.proofs.Lines.{length-lines}
-use Rattle.calls.specs.Calls.{early, called}
+use Rattle.calls.specs.Calls.{early, short, called}
+use Rattle.analyzer_verdict.specs.declared.Answer.{Answer}
+use Rattle.analyzer_verdict.specs.declared.Answer.the-variants.{Reached, Unreached, Refused}
+use Rattle.analyzer_verdict.specs.declared.Analysis.{Analysis}
+use Rattle.analyzer_verdict.specs.Judging.{tooMany, Answered}
+use Rattle.analyzer.specs.Analyzing.{Leaves, Analyzes}
 use Rattle.exports.specs.Codes.{code}
 
 -- THE ROWS of a line
@@ -172,9 +177,32 @@ called-range text short long = ⊎-elim (λ (q : eqb first 0 ≡ true). rw q (ou
     first : ℕ
     first = cond (eqb (length text) 0 || ltb limit.text (length text)) 1 (cond short 12 (cond long 14 0))
 
+-- THE ANALYSIS refuses with the number of a row, or with 15
+abbrev pub Refuses : ℕ → Type 0
+Refuses n = Numbered n ⊎ (n ≡ tooMany)
+
+abbrev pub AnswerInRange : ℕ → Answer → Type 0
+AnswerInRange m (Reached n last) = Unit {0}
+AnswerInRange m Unreached = Unit {0}
+AnswerInRange m (Refused n l) = Refuses n × (l ≤ m)
+
+answer-range : (m : ℕ) (P : Program) (Q : Question) (run run′ : List ℕ) (a : Answer) → Answered P Q run run′ a → AnswerInRange m a
+answer-range m P Q run run′ (Reached n last) h = tt
+answer-range m P Q run run′ Unreached h = tt
+answer-range m P Q run run′ (Refused n l) h = (inr (h .1), omega (arith, h .2))
+
+left-range : (m : ℕ) (o : Outcome) (work run : List ℕ) (a : Analysis) (work′ run′ : List ℕ) → InRange m o → Leaves o work run a work′ run′ → AnswerInRange m (a .answer)
+left-range m (refused n l) work run a work′ run′ r h = rw (h .0) (inl (r .0), r .1)
+left-range m (accepted D P Q) work run a work′ run′ r h = answer-range m P Q run run′ (a .answer) (h .verdict)
+
+pub analysis-range : (text work run : List ℕ) (a : Analysis) (work′ run′ : List ℕ) → Analyzes text work run a work′ run′ → AnswerInRange (limit.text + 1) (a .answer)
+analysis-range text work run a work′ run′ =
+    let small = short (length work) (length run) in
+    left-range (limit.text + 1) (called text small false) work run a work′ run′ (called-range text small false)
+
 -- KIND AND VALUE are read off an answer's number, and a refusal's number and line off its value
 pub code-read : (kind value : ℕ) → value < 4294967296 → (code kind value / 4294967296 ≡ kind) × (code kind value % 4294967296 ≡ value)
 code-read kind value h = (omega arith, omega arith)
 
-pub refusal-read : (n l : ℕ) → Numbered n → l ≤ (limit.text + 1) → (n * 65536 + l < 4294967296) × ((n * 65536 + l) / 65536 ≡ n) × ((n * 65536 + l) % 65536 ≡ l)
-refusal-read n l h k = let few : n ≤ 14 = ⊎-elim (λ q. omega arith) (λ q. omega arith) h in (omega arith, omega arith, omega arith)
+pub refusal-read : (n l : ℕ) → Refuses n → l ≤ (limit.text + 1) → (n * 65536 + l < 4294967296) × ((n * 65536 + l) / 65536 ≡ n) × ((n * 65536 + l) % 65536 ≡ l)
+refusal-read n l h k = let few : n ≤ tooMany = ⊎-elim (λ q. ⊎-elim (λ r. omega arith) (λ r. omega arith) q) (λ q. omega arith) h in (omega arith, omega arith, omega arith)

@@ -32,7 +32,7 @@ examples =
     ("", 1, 0) ∷
     ("(state A!)\n", 2, 1) ∷
     ("(state  A)\n", 3, 1) ∷
-    ("(state A)\n(state B)\n(state C)\n(state D)\n(state E)\n(state F)\n(state G)\n(state H)\n", 4, 8) ∷
+    ("(state A)\n(state B)\n(state C)\n(state D)\n(state E)\n(state F)\n(state G)\n(state H)\n(state I)\n(state J)\n(state K)\n(state L)\n(state M)\n(state N)\n(state O)\n(state P)\n(state Q)\n(state R)\n(state S)\n(state T)\n(state U)\n(state V)\n(state W)\n(state X)\n(state Y)\n", 4, 25) ∷
     ("(state A)\n(state A)\n", 5, 2) ∷
     ("(new (A))\n", 6, 1) ∷
     ("(state A)\n(rel R 1)\n(rule (R x y) (A x) (A y))\n", 7, 3) ∷

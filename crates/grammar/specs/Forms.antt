@@ -71,7 +71,7 @@ abbrev pub properLiteral : Literal → Bool
 properLiteral (plain a) = properAtom a
 properLiteral (negated a) = properAtom a
 
--- "a list has 0 to 7 names"
+-- document 02, R-6: "lists of up to 24 names"
 abbrev pub properList : List Word → Bool
 properList l = all isName l && leb (length l) limit.list
 

@@ -18,7 +18,7 @@ lower a b = cond (eqb a 0) b (cond (eqb b 0) a (min a b))
 abbrev pub row : ℕ → Bool → ℕ
 row n applies = cond applies n 0
 
--- row 4, "one declaration or clause too many": at most 7 states; 16 relations, of them 6 with n = 2; 64 clauses
+-- row 4, "one declaration or clause too many": up to 24 states; 16 relations, of them 6 with n = 2; 64 clauses
 abbrev pub manyStates : Declared → Bool
 manyStates D = leb limit.states (count 0 D)
 

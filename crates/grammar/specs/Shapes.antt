@@ -80,7 +80,7 @@ literal s = whether (after (bytes "(not ") s)
       (a, t) ← atom s
       some (plain a, t)
 
--- "a LIST has 0 to 7 names"
+-- a LIST has, by document 02, R-6, "up to 24 names"
 unfoldable pub list : List ℕ → Read (List Word)
 list s = whether (after (bytes "()") s) (λ t. some ([], t)) (bracket name (limit.list - 1) s)
 

@@ -9,9 +9,9 @@ text = 16384
 abbrev pub name : ℕ
 name = 16
 
--- "`(state A)`: at most 7"
+-- document 02, R-6: "Up to 24 `state` lines are allowed"
 abbrev pub states : ℕ
-states = 7
+states = 24
 
 -- "`(rel R n)` ..: at most 16, of them at most 6 with n = 2"
 abbrev pub rels : ℕ
@@ -24,9 +24,9 @@ pairs = 6
 abbrev pub clauses : ℕ
 clauses = 64
 
--- "a list has 0 to 7 names"
+-- document 02, R-6: "and lists of up to 24 names"
 abbrev pub list : ℕ
-list = 7
+list = 24
 
 -- "a body 0 to 8 literals"
 abbrev pub body : ℕ
@@ -44,16 +44,16 @@ variables = 3
 abbrev pub carried : ℕ
 carried = 2
 
--- WHAT IS LENT. Row 12: "work area under 32,768 bytes"; document 02, R-5: the run table and "the longest replayed run .. become 9,344, as do the figures in rows 12 and 14"
+-- WHAT IS LENT. Row 12; document 02, R-6: "32,768 becomes 65,536 wherever document 01 has it"; R-5: the run table and "the longest replayed run .. become 9,344, as do the figures in rows 12 and 14"
 abbrev pub work : ℕ
-work = 32768
+work = 65536
 
 abbrev pub run : ℕ
 run = 9344
 
--- A HAND-IN: 9,344 places of at most 24 bytes, and the lines before them
+-- A HAND-IN: 9,344 places of at most 24 bytes, 128 lines of 24 names before them, and more
 abbrev pub handin : ℕ
-handin = 262144
+handin = 524288
 
 -- PLACES AND STATES. "Objects are numbered from 0 in order of creation, 254 the highest"
 abbrev pub objects : ℕ
@@ -63,7 +63,7 @@ objects = 255
 abbrev pub none : ℕ
 none = 255
 
--- "1 + 2 + .. + 127 .. for one object of each state": the non-empty sets of state relations
+-- document 02, R-6: "At most 127 non-empty atomic states may be reachable"
 abbrev pub atomic : ℕ
 atomic = 127
 

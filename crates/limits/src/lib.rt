@@ -7,7 +7,7 @@ pub const TEXT: usize = 16_384;
 pub const NAME: usize = 16;
 
 // The `state` lines.
-pub const STATES: usize = 7;
+pub const STATES: usize = 24;
 
 // The `rel` lines, and those of them with two variables.
 pub const RELS: usize = 16;
@@ -18,7 +18,7 @@ pub const PAIRS: usize = 6;
 pub const CLAUSES: usize = 64;
 
 // The names of a list.
-pub const LIST: usize = 7;
+pub const LIST: usize = 24;
 
 // The literals of a body or a stage.
 pub const BODY: usize = 8;
@@ -33,12 +33,12 @@ pub const VARIABLES: usize = 3;
 pub const CARRIED: usize = 2;
 
 // The bytes of the work area, and the places of a run.
-pub const WORK: usize = 32_768;
+pub const WORK: usize = 65_536;
 
 pub const RUN: usize = 9_344;
 
 // The bytes of a hand-in.
-pub const HANDIN: usize = 262_144;
+pub const HANDIN: usize = 524_288;
 
 // The objects of a database that is replayed.
 pub const OBJECTS: usize = 255;

@@ -21,9 +21,9 @@ stateLines text m states = joined (map (atomicLine text m) states)
 abbrev pub runLines : List ℕ → List ℕ
 runLines ns = joined (map (λ n. lineFor (placeOf n)) ns)
 
--- bytes that have room for every listing: 128 states and 9,344 places
+-- bytes that have room for every listing, 128 states and 9,344 places: a listing can be handed in
 abbrev pub size : ℕ
-size = 262144
+size = limit.handin
 
 -- WHAT CAN BE LISTED: the first k of at most 128 states, and the first n of at most 9,344 places
 pub record Listable (text : List ℕ) (m : Model) (states : List ℕ) (k : ℕ) (run : List ℕ) (n : ℕ) : Type 0 where

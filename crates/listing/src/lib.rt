@@ -1,4 +1,5 @@
 // The listing of a verdict, or the line of a refusal, written into a lent slice.
+use limits::HANDIN;
 use listing_lines::LONGEST;
 use listing_lines::atomic_line;
 use listing_lines::place_line;
@@ -15,8 +16,8 @@ ghost use Rattle.listing_bytes.specs.Writing.{Writes, WritesLine};
 ghost use Rattle.listing_lines.specs.Lines.{verdictLine, statesLine, atomicLine, lineFor, Named, refusedLine, longest};
 ghost use Rattle.listing.specs.Report.{stateLines, runLines, size, Listable, WritesListing};
 
-// Bytes that have room for every listing.
-pub const SIZE: usize = 262_144;
+// Bytes that have room for every listing: a listing can be handed in.
+pub const SIZE: usize = HANDIN;
 
 // Writes the lines of the verdict and of the number of states.
 fn put_summary(out: &mut [u8], reached: bool, n: u32) -> usize

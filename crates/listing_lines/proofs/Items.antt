@@ -34,7 +34,7 @@ objects-short [] h = omega arith
 objects-short (o ∷ os) h = ⊎-elim (λ (q : eqb o 255 ≡ true). rw q (omega arith))
     (λ (q : eqb o 255 ≡ false). rw (q, length-append (decimal o) (items (map decimal (objects os)))) (omega (arith, word-short o (h .0), objects-short os (h .1)))) (either (eqb o 255))
 
--- NAMES have at most 16 bytes, and at most 7 are of state relations
+-- NAMES have at most 16 bytes, and at most 24 are of state relations
 fewer : (k i : ℕ) (rs : List ℕ) → inClass k (take i rs) ≤ inClass k rs
 fewer k zero rs = omega arith
 fewer k (suc i) [] = omega arith
@@ -58,10 +58,10 @@ module _ (text : List ℕ) (m : Model) (s : ℕ) (small : Fits w32 s) (good : Go
   state-more : (i : ℕ) → i < m .relations .count → has s (code i) ≡ true → states (suc i) ≡ states i + 1
   state-more i h e = rw (eq-eqb (classOf (code i)) 0 (omega (arith, set-below s (code i) 32 (small .fits) e))) at (states-more i h)
 
-  name-short : (i : ℕ) → i < m .relations .count → length (nameAt text m i) ≤ 16
+  name-short : (i : ℕ) → i < m .relations .count → length (nameAt text m i) ≤ limit.name
   name-short i h = omega (arith, length-slice (getD (m .names) i 0) (getD (m .names) i 0 + getD (m .lengths) i 0) text (named .within i h), named .short i h)
 
-  names-short : (i : ℕ) → i ≤ m .relations .count → length (items (namesIn text m s i)) ≤ 17 * states i
+  names-short : (i : ℕ) → i ≤ m .relations .count → length (items (namesIn text m s i)) ≤ (1 + limit.name) * states i
   names-short zero h = omega arith
   names-short (suc i) h = ⊎-elim
       (λ (q : has s (code i) ≡ true).

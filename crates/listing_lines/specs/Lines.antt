@@ -61,6 +61,6 @@ joined (l ∷ ls) = l ++ joined ls
 unfoldable pub listingOf : List ℕ → Model → Bool → List ℕ → List Place → List ℕ
 listingOf text m reached states run = verdictLine reached ++ statesLine (length states) ++ joined (map (atomicLine text m) states) ++ joined (map placeLine run)
 
--- how long a line can be: that of an atomic state with 7 names of 16 bytes
+-- how long a line can be: that of an atomic state with 24 names of 16 bytes
 abbrev pub longest : ℕ
 longest = 9 + limit.states * (1 + limit.name)

@@ -22,14 +22,15 @@ use Rattle.marker_worth.specs.Worth.{Worth}
 abbrev pub narrow : ℕ → ℕ → ℕ → Bool
 narrow bytes places standing = short bytes places || ltb standing limit.run
 
--- WHAT AN ACCEPTED TEXT LEAVES in the buffers, by what the hand-in says: an unreadable one leaves them; the run of a yes is written by its numbers, and who stood by at its kept steps is noted
+-- WHAT AN ACCEPTED TEXT LEAVES in the buffers, by what the hand-in says: an unreadable one leaves them; the run of a yes is written by its numbers, and who stood by at its kept steps is noted.
+-- It is so whatever the mark, 15 too, after which document 02 has "the first 65,536 work bytes zero": the table has the run of the hand-in itself, not one that is shown.
 abbrev pub Leaves : Program → Question → Handin → List ℕ → List ℕ → List ℕ → List ℕ → List ℕ → List ℕ → Type 0
 Leaves P Q (unreadable at) work run stood work′ run′ stood′ = (work′ ≡ work) × (run′ ≡ run) × (stood′ ≡ stood)
 Leaves P Q says-no work run stood work′ run′ stood′ = (work′ ≡ wiped work) × (run′ ≡ run) × (stood′ ≡ stood)
 Leaves P Q (says-yes first ps) work run stood work′ run′ stood′ =
     (work′ ≡ wiped work) × (run′ ≡ map numberOf ps ++ drop (length ps) run) × Notes P Q (start []) (map numberOf ps) stood stood′
 
--- THE MARK r, by the table's answer to the text: a refusal leaves the buffers, whatever the hand-in says
+-- THE MARK r, by the table's answer to the text: a refusal of its lines leaves the buffers, whatever the hand-in says; 15 "follows all checks of lines"
 abbrev pub Marked : Outcome → Handin → List ℕ → List ℕ → List ℕ → Mark → List ℕ → List ℕ → List ℕ → Type 0
 Marked (refused n l) h work run stood r work′ run′ stood′ = (r ≡ Refused n l) × (work′ ≡ work) × (run′ ≡ run) × (stood′ ≡ stood)
 Marked (accepted D P Q) h work run stood r work′ run′ stood′ = Worth P Q h r × Leaves P Q h work run stood work′ run′ stood′

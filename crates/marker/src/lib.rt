@@ -56,7 +56,7 @@ fn mark_model(m: Model, handin: &[u8], work: &mut [u8], run: &mut [u32], stood: 
     }
 }
 
-// Reads a text, and marks a hand-in to it; a refusal and an unreadable hand-in leave the buffers as they are.
+// Reads a text, and marks a hand-in to it; a refusal other than 15 and an unreadable hand-in leave the buffers as they are.
 pub fn mark(text: &[u8], handin: &[u8], work: &mut [u8], run: &mut [u32], stood: &mut [u32]) -> Mark
     ensures { λ r. ⌜ Marks (now (text .entry)) (now (handin .entry)) (now (work .entry)) (now (run .entry)) (now (stood .entry)) r (now (work .exit)) (now (run .exit)) (now (stood .exit)) ⌝ }
 {

@@ -1,6 +1,7 @@
--- FROM THE REPLAY TO THE RUN: what is answered to the numbers of places is said of the places.
-use mathlib.Core.Path.{_≡_, refl, subst}
+-- FROM THE REPLAY TO THE RUN: what is answered to the numbers of places is said of the places. FROM THE VERDICT TO THE MARK.
+use mathlib.Core.Path.{_≡_, refl, sym, subst}
 use mathlib.Core.Logic.{inl, inr, ⊎-elim}
+use mathlib.Core.Bool.{true, false}
 use mathlib.Core.List.{List, [], _∷_}
 use Prim.Native.Nat.{ℕ, suc, _+_, _≤_}
 use native.Mathlib.Omega.{arith}
@@ -9,7 +10,7 @@ use denote.Enum.Declared.{tagOf}
 use lib.ListN.{length, replicate, length-replicate}
 use Rattle.limits.specs.Limits as limit
 use Rattle.semantics.specs.Models.{Program, Question}
-use Rattle.semantics.specs.Runs.{Place, Session, after, Plays}
+use Rattle.semantics.specs.Runs.{Place, Session, start, after, Plays}
 use Rattle.calls.specs.Wiping.{wiped}
 use Rattle.calls.proofs.Wiped.{wiped-over}
 use Rattle.replay_session.specs.declared.Answer.{Answer}
@@ -17,7 +18,11 @@ use Rattle.replay_session.specs.declared.Answer.the-variants.{Kept, Broken, Ref
 use Rattle.replay_session.specs.Replays.{Replays, Decodes}
 use Rattle.replay_session.proofs.Answer.{the-type}
 use Rattle.replay_session.proofs.Answers.{broken}
-use Rattle.marker_worth.specs.Worth.{BreaksAt}
+use Rattle.handin.specs.Handins.{says-no, says-yes}
+use Rattle.marker_worth.specs.declared.Mark.{Mark}
+use Rattle.marker_worth.specs.declared.Mark.the-variants.{Right, Other, Breaks}
+use Rattle.marker_worth.specs.Worth.{BreaksAt, Worth}
+use Rattle.marker_worth.specs.Judging.{Judged}
 
 module _ (P : Program) (Q : Question) where
   -- KEPT
@@ -57,6 +62,18 @@ module _ (P : Program) (Q : Question) where
   kept-else s ns i Kept h g = g
   kept-else s ns i (Broken j) h g = absurd (⊎-elim (λ e. omega arith) (λ e. omega arith) h)
   kept-else s ns i (Refused number line) h g = absurd (no-refusal s ns i number line g)
+
+  -- A NO
+  pub no-worth : (r : Mark) → Judged P Q (Other true) Right r → Worth P Q says-no r
+  no-worth r (inl (many, e)) = subst (Worth P Q says-no) (sym e) (many, refl, refl)
+  no-worth r (inr (few, inl (reached, e))) = subst (Worth P Q says-no) (sym e) (refl, reached, few)
+  no-worth r (inr (few, inr (unreached, e))) = subst (Worth P Q says-no) (sym e) (unreached, few)
+
+  -- A YES whose run breaks
+  pub broken-worth : (first place : ℕ) (ps : List Place) (r : Mark) → BreaksAt P Q (start []) ps place → Judged P Q (Breaks place (first + place)) (Other false) r → Worth P Q (says-yes first ps) r
+  broken-worth first place ps r b (inl (many, e)) = subst (Worth P Q (says-yes first ps)) (sym e) ((place, b), many, refl, refl)
+  broken-worth first place ps r b (inr (few, inl (reached, e))) = subst (Worth P Q (says-yes first ps)) (sym e) (reached, b, refl, few)
+  broken-worth first place ps r b (inr (few, inr (unreached, e))) = subst (Worth P Q (says-yes first ps)) (sym e) (refl, unreached, few)
 
 -- the work area wiped twice
 pub wiped-twice : (w : List ℕ) → wiped (wiped w) ≡ wiped w

@@ -32,18 +32,22 @@ module _ (P : Program) (Q : Question) where
   pub one-worth : (h : Handin) (a b : Mark) → Worth P Q h a → Worth P Q h b → a ≡ b
   one-worth (unreadable at) a b g h = g ∙ sym h
   one-worth says-no Right Right g h = refl
-  one-worth says-no Right (Other r) g h = absurd (g (h .1))
-  one-worth says-no (Other r) Right g h = absurd (h (g .1))
+  one-worth says-no Right (Other r) g h = absurd (g .0 (h .1))
+  one-worth says-no (Other r) Right g h = absurd (h .0 (g .1))
   one-worth says-no (Other r) (Other q) g h = ap Other (g .0 ∙ sym (h .0))
   one-worth says-no Right (Breaks k l) g h = absurd h
   one-worth says-no Right (Unreadable l) g h = absurd h
-  one-worth says-no Right (Refused n l) g h = absurd h
+  one-worth says-no Right (Refused n l) g h = absurd (g .1 (h .0))
   one-worth says-no (Other r) (Breaks k l) g h = absurd h
   one-worth says-no (Other r) (Unreadable l) g h = absurd h
-  one-worth says-no (Other r) (Refused n l) g h = absurd h
+  one-worth says-no (Other r) (Refused n l) g h = absurd (g .2 (h .0))
   one-worth says-no (Breaks k l) b g h = absurd g
   one-worth says-no (Unreadable l) b g h = absurd g
-  one-worth says-no (Refused n l) b g h = absurd g
+  one-worth says-no (Refused n l) Right g h = absurd (h .1 (g .0))
+  one-worth says-no (Refused n l) (Other r) g h = absurd (h .2 (g .0))
+  one-worth says-no (Refused n l) (Refused k i) g h = ap₂ {C = Mark} Refused (g .1 ∙ sym (h .1)) (g .2 ∙ sym (h .2))
+  one-worth says-no (Refused n l) (Breaks k i) g h = absurd h
+  one-worth says-no (Refused n l) (Unreadable i) g h = absurd h
   one-worth (says-yes first run) Right Right g h = refl
   one-worth (says-yes first run) Right (Other r) g h = absurd (h .1 (same-as-paper P Q .1 (run, g)))
   one-worth (says-yes first run) Right (Breaks k l) g h = absurd (unbroken (start []) run k g (h .1))
@@ -56,10 +60,14 @@ module _ (P : Program) (Q : Question) where
       let e = one-break (start []) run k j (g .1) (h .1) in
       ap₂ {C = Mark} Breaks e (omega (arith, e, g .2, h .2))
   one-worth (says-yes first run) Right (Unreadable l) g h = absurd h
-  one-worth (says-yes first run) Right (Refused n l) g h = absurd h
+  one-worth (says-yes first run) Right (Refused n l) g h = absurd (unbroken (start []) run (h .0 .0) g (h .0 .1))
   one-worth (says-yes first run) (Other r) (Unreadable l) g h = absurd h
-  one-worth (says-yes first run) (Other r) (Refused n l) g h = absurd h
+  one-worth (says-yes first run) (Other r) (Refused n l) g h = absurd (g .2 (h .1))
   one-worth (says-yes first run) (Breaks k i) (Unreadable l) g h = absurd h
-  one-worth (says-yes first run) (Breaks k i) (Refused n l) g h = absurd h
+  one-worth (says-yes first run) (Breaks k i) (Refused n l) g h = absurd (g .3 (h .1))
   one-worth (says-yes first run) (Unreadable l) b g h = absurd g
-  one-worth (says-yes first run) (Refused n l) b g h = absurd g
+  one-worth (says-yes first run) (Refused n l) Right g h = absurd (unbroken (start []) run (g .0 .0) h (g .0 .1))
+  one-worth (says-yes first run) (Refused n l) (Other r) g h = absurd (h .2 (g .1))
+  one-worth (says-yes first run) (Refused n l) (Breaks k i) g h = absurd (h .3 (g .1))
+  one-worth (says-yes first run) (Refused n l) (Refused k i) g h = ap₂ {C = Mark} Refused (g .2 ∙ sym (h .2)) (g .3 ∙ sym (h .3))
+  one-worth (says-yes first run) (Refused n l) (Unreadable i) g h = absurd h

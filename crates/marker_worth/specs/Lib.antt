@@ -1,1 +1,2 @@
 pub mod Worth
+pub mod Judging

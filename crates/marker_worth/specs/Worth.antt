@@ -5,13 +5,23 @@ use mathlib.Core.Bool.{true, false}
 use mathlib.Core.List.{List, [], _∷_}
 use Prim.Native.Nat.{ℕ, _+_, _≤_}
 use lib.ListN.{length, take, drop}
+use Rattle.limits.specs.Limits as limit
 use Rattle.semantics.specs.Models.{Program, Question}
+use Rattle.semantics.specs.Steps.{MoreThan}
 use Rattle.semantics.specs.Questions.{Reached}
 use Rattle.semantics.specs.Runs.{Place, Session, start, Allowed, Kept}
 use Rattle.semantics.specs.Building.{Leads}
 use Rattle.handin.specs.Handins.{Handin, says-no, says-yes, unreadable}
 use Rattle.marker_worth.specs.declared.Mark.{Mark}
 use Rattle.marker_worth.specs.declared.Mark.the-variants.{Refused, Unreadable, Right, Other, Breaks}
+
+-- TOO MANY STATES for a verdict, document 02, R-6: "more than 127 non-empty states are reachable"
+abbrev pub Crowded : Program → Type 0
+Crowded P = MoreThan limit.atomic P
+
+-- the refusal "exactly if" there are too many, "with line 0"
+abbrev pub tooMany : ℕ
+tooMany = 15
 
 module _ (P : Program) (Q : Question) where
   -- the next place is not allowed, or there is none though a stage is left
@@ -23,16 +33,17 @@ module _ (P : Program) (Q : Question) where
   abbrev pub BreaksAt : Session → List Place → ℕ → Type 0
   BreaksAt s run k = (k ≤ length run) × ((t : Session) × Leads P Q s (take k run) t × Stuck t (drop k run))
 
-  -- THE MARK of a hand-in, once the text is accepted: a run that breaks is told where, "with the hand-in's line of that place, or its end", if a run could be kept
+  -- THE MARK of a hand-in, once the text is accepted: a run that breaks is told where, "with the hand-in's line of that place, or its end", if a run could be kept.
+  -- A no, and a run that breaks, need a verdict. A run that is kept is right however many states are reachable: the refusal comes "from an analysis, never from a replay".
   abbrev pub Worth : Handin → Mark → Type 0
   Worth (unreadable at) r = r ≡ Unreadable at
-  Worth says-no Right = Reached P Q → ⊥
-  Worth says-no (Other reached) = (reached ≡ true) × Reached P Q
+  Worth says-no Right = (Reached P Q → ⊥) × (Crowded P → ⊥)
+  Worth says-no (Other reached) = (reached ≡ true) × Reached P Q × (Crowded P → ⊥)
   Worth says-no (Breaks place line) = ⊥
   Worth says-no (Unreadable line) = ⊥
-  Worth says-no (Refused number line) = ⊥
+  Worth says-no (Refused number line) = Crowded P × (number ≡ tooMany) × (line ≡ 0)
   Worth (says-yes first run) Right = Kept P Q run
-  Worth (says-yes first run) (Other reached) = (reached ≡ false) × (Reached P Q → ⊥)
-  Worth (says-yes first run) (Breaks place line) = Reached P Q × BreaksAt (start []) run place × (line ≡ first + place)
+  Worth (says-yes first run) (Other reached) = (reached ≡ false) × (Reached P Q → ⊥) × (Crowded P → ⊥)
+  Worth (says-yes first run) (Breaks place line) = Reached P Q × BreaksAt (start []) run place × (line ≡ first + place) × (Crowded P → ⊥)
   Worth (says-yes first run) (Unreadable line) = ⊥
-  Worth (says-yes first run) (Refused number line) = ⊥
+  Worth (says-yes first run) (Refused number line) = ((place : ℕ) × BreaksAt (start []) run place) × Crowded P × (number ≡ tooMany) × (line ≡ 0)

@@ -37,9 +37,9 @@ stages =
 abbrev pub office : Model
 office =
     record {
-      relations = record { codes = 0 ∷ 1 ∷ 64 ∷ replicate 20 0; count = 3 };
-      names = 7 ∷ 21 ∷ 32 ∷ replicate 20 0;
-      lengths = 5 ∷ 4 ∷ 7 ∷ replicate 20 0;
+      relations = record { codes = 0 ∷ 1 ∷ 64 ∷ replicate 37 0; count = 3 };
+      names = 7 ∷ 21 ∷ 32 ∷ replicate 37 0;
+      lengths = 5 ∷ 4 ∷ 7 ∷ replicate 37 0;
       clauses = clauses;
       clausecount = 4;
       literals = 65536 ∷ 256 ∷ 0 ∷ 65536 ∷ 16777216 ∷ 4194304 ∷ replicate 538 0;

@@ -35,7 +35,7 @@ declaredIn m k = inClass k (take (m .relations .count) (m .relations .codes))
 abbrev pub Declared : Model → ℕ → Type 0
 Declared m r = (classOf r < 4) × (indexOf r < declaredIn m (classOf r))
 
--- the relations are declared in order, each with the next index of its class: "at most 7" states, "at most 16" derived, "of them at most 6 with n = 2"
+-- the relations are declared in order, each with the next index of its class: "up to 24" states, "at most 16" derived, "of them at most 6 with n = 2"
 pub record GoodRelations (m : Model) : Type 0 where
   pub count : m .relations .count ≤ limit.declared
   pub states : declaredIn m 0 ≤ limit.states

@@ -1,4 +1,4 @@
--- WHAT THE REPLAY ANSWERS to a text: "after every answer that is no refusal, a single place's included, the first 32,768 work bytes are zero and the rest untouched".
+-- WHAT THE REPLAY ANSWERS to a text: "after every answer that is no refusal, a single place's included, the first" 65,536 "work bytes are zero and the rest untouched".
 use mathlib.Core.Path.{_≡_}
 use mathlib.Core.Bool.{Bool}
 use mathlib.Core.List.{List, []}
@@ -20,7 +20,7 @@ use Rattle.replay_session.specs.Replays.{Replays}
 use Rattle.replay_session.specs.Notes.{Notes}
 use Rattle.replay_runs.specs.Replies.{PlaceReply}
 
--- row 12, "work area under 32,768 bytes"
+-- row 12, "work area under" 65,536 "bytes"
 abbrev pub narrow : List ℕ → Bool
 narrow work = ltb (length work) limit.work
 

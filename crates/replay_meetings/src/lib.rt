@@ -1,4 +1,5 @@
 // The meeting of a stage put to the replay's state.
+use facts_bits::BYTES;
 use facts_candidates::Choice;
 use facts_find::Found;
 use limits::CARRIED;
@@ -109,18 +110,18 @@ fn carry_all(carried: [u32; CARRIED], objects: [u32; CARRIED]) -> [u32; CARRIED]
 }
 
 // The derived relations that a meeting of a stage rests on, as a row of bits.
-pub fn needs(numbers: &[u32], literals: &[u32], stage: u32) -> [u8; 16]
+pub fn needs(numbers: &[u32], literals: &[u32], stage: u32) -> [u8; BYTES]
     requires { ⌜ ((m : Model) × Plain m (now numbers) (now literals)) ⌝ }
     ensures { λ r. ⌜ ((m : Model) → Plain m (now (numbers .entry)) (now (literals .entry)) → (os : List ℕ) → Rests m r (meet stage os)) ⌝ }
 {
     if stage == 0 {
-        return [0u8; 16];
+        return [0u8; BYTES];
     }
     if stage > numbers[1] {
-        return [0u8; 16];
+        return [0u8; BYTES];
     }
     let g = replay_numbers::stage_at(numbers, stage as usize - 1);
-    facts_rests::add([0u8; 16], literals, g.first, g.count)
+    facts_rests::add([0u8; BYTES], literals, g.first, g.count)
 }
 
 // The meeting of a stage with objects, the named ones first.

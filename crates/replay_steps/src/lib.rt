@@ -1,4 +1,5 @@
 // A step put to the replay's state: whether it is allowed, and what it makes of the state. The model and the view are lent as plain numbers.
+use facts_bits::BYTES;
 use facts_candidates::Choice;
 use facts_find::FREE;
 use facts_find::Found;
@@ -70,17 +71,17 @@ fn clause_on(numbers: &[u32], n: usize, line: u32) -> usize
 }
 
 // The derived relations that a step of a line rests on, as a row of bits.
-pub fn needs(numbers: &[u32], literals: &[u32], line: u32) -> [u8; 16]
+pub fn needs(numbers: &[u32], literals: &[u32], line: u32) -> [u8; BYTES]
     requires { ⌜ ((m : Model) × Plain m (now numbers) (now literals)) ⌝ }
     ensures { λ r. ⌜ ((m : Model) → Plain m (now (numbers .entry)) (now (literals .entry)) → (object : ℕ) → Rests m r (step line object)) ⌝ }
 {
     let n = numbers[0] as usize;
     let k = clause_on(numbers, n, line);
     if k >= n {
-        return [0u8; 16];
+        return [0u8; BYTES];
     }
     let c = replay_numbers::clause_at(numbers, k);
-    facts_rests::add([0u8; 16], literals, c.first, c.count)
+    facts_rests::add([0u8; BYTES], literals, c.first, c.count)
 }
 
 // The first choice that has the fixed objects and for which a body holds in a database of n objects, or that there is none.

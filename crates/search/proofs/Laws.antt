@@ -1,29 +1,31 @@
--- What is found when no clause adds a state is all, and the last level gives the verdict.
+-- What is found when no clause adds a state is all, and the last level gives the verdict; a state too many shows that more are reachable.
 use mathlib.Core.Path.{_≡_, refl, sym, ap, _∙_, subst}
-use mathlib.Core.Logic.{_⊎_, inl, inr, ⊎-elim, _↔_, _≢_}
+use mathlib.Core.Logic.{inl, inr, ⊎-elim, _↔_, _≢_}
 use mathlib.Core.Bool.{Bool, true, false, false≢true}
 use mathlib.Core.List.{List}
 use Prim.Native.Nat.{ℕ, _+_, _*_, _≤_, _<_}
 use native.Mathlib.Omega.{arith}
+use Rattle.limits.specs.Limits as limit
 use Rattle.semantics.specs.Labels.{relabel}
-use Rattle.semantics.specs.Models.{Body, Line, rule, new, next, other}
+use Rattle.semantics.specs.Models.{elem, Body, Line, rule, new, next, other}
 use Rattle.semantics.specs.Facts.{state, In, Derived, Meets}
-use Rattle.semantics.specs.Steps.{Reachable}
+use Rattle.semantics.specs.Steps.{Reachable, MoreThan}
 use Rattle.semantics.specs.Questions.{Verdict}
 use Rattle.semantics.specs.Tables.{Shows, From, Empties}
 use Rattle.semantics.specs.Walkers.{Whole, Comes}
 use Rattle.semantics.proofs.Tools.{same?, clash}
 use Rattle.semantics.proofs.Bodies.{more-facts}
 use Rattle.semantics.proofs.WalkersMoves.{states}
+use Rattle.semantics.proofs.Crowded.{crowded, roomy}
 use Rattle.model.specs.declared.Model.{Model}
 use Rattle.model.specs.Records.{clauseLine, programOf, questionOf, clauseAt}
 use Rattle.model.specs.WellFormed.{WellFormed}
 use Rattle.model.proofs.Lines.{every-line}
-use Rattle.facts_bits.specs.Bits.{Empty, Copied}
+use Rattle.facts_bits.specs.Bits.{Copied, Next as Following}
 use Rattle.facts_table.specs.Table.{tableOf}
 use Rattle.search_states.specs.declared.States.{States}
 use Rattle.search_states.specs.States.{row, Known, by, from}
-use Rattle.search_states.proofs.Laws.{row-full}
+use Rattle.search_states.proofs.Laws.{length-row, row-full}
 use Rattle.search_clauses.specs.Reach.{Lists}
 use Rattle.search_reachable.specs.Reachable.{Reaches}
 use Rattle.search_ways.specs.Moves.{Marks, Exactly}
@@ -37,28 +39,31 @@ use Rattle.search.specs.Search.{Entered}
 -- THE ROWS OF A LEVEL one after the other: those below f have no slot
 module _ (rows : List ℕ) (k : ℕ) where
   abbrev pub NoneBelow : ℕ → Type 0
-  NoneBelow f = (e g : ℕ) → e < 128 → g < f → pairAt rows k e g ≡ false
+  NoneBelow f = (e g : ℕ) → e < limit.listed → g < f → pairAt rows k e g ≡ false
 
-  module _ (f : ℕ) (row : List ℕ) (copied : Copied rows (128 * k + f) row) (none : Bool) (test : Empty row none) where
-    pub pair-here : f < 128 → none ≡ false → Entered rows k
-    pair-here l q = let s = test .some q in (s .0, f, s .1, l, sym (copied .bits (s .0) (s .1)) ∙ s .2)
+  module _ (f : ℕ) (row : List ℕ) (copied : Copied rows (limit.listed * k + f) row) (first : ℕ) (next : Following row 0 first) where
+    pub pair-here : f < limit.listed → first < limit.listed → Entered rows k
+    pair-here l q = (first, f, q, l, sym (copied .bits first (omega arith)) ∙ next .set (omega arith))
 
-    pub none-more : none ≡ true → NoneBelow f → NoneBelow (f + 1)
+    pub none-more : limit.listed ≤ first → NoneBelow f → NoneBelow (f + 1)
     none-more q h e g l i = ⊎-elim
-        (λ (z : g ≡ f). subst (λ (n : ℕ). pairAt rows k e n ≡ false) (sym z) (sym (copied .bits e l) ∙ test .none q e))
+        (λ (z : g ≡ f). subst (λ (n : ℕ). pairAt rows k e n ≡ false) (sym z) (sym (copied .bits e (omega arith)) ∙ next .clear e (omega arith) (omega arith)))
         (λ (z : g ≢ f). h e g l (omega (arith, i, z)))
         (same? g f)
 
-  pub no-pair : (f : ℕ) → 128 ≤ f → NoneBelow f → Entered rows k → ⊥
+  pub no-pair : (f : ℕ) → limit.listed ≤ f → NoneBelow f → Entered rows k → ⊥
   no-pair f l h s = clash (s .4) (h (s .0) (s .1) (s .2) (omega (arith, l, s .3)))
 
 module _ (m : Model) (wf : WellFormed m) (w : List ℕ) (s : States) (reaches : Reaches m w s) where
   pub exactly : Exactly m w s
   exactly = record { proper = reaches .proper; agree = reaches .agree; shown = reaches .exact .states; facts = reaches .exact .facts; marks = reaches .marks }
 
-  -- NO LINE ADDS A STATE
-  pub no-more : Whole (programOf m) (row s)
-  no-more = whole m w s exactly (reaches .listed)
+  -- ONE STATE TOO MANY shows that more than so many are reachable
+  pub too-many : s .over ≡ true → MoreThan limit.atomic (programOf m)
+  too-many q =
+      let o = reaches .over q in
+      subst (λ (n : ℕ). MoreThan n (programOf m)) (length-row s (reaches .proper) ∙ o .0)
+      (crowded (programOf m) (wf .safe) (row s) (by s) (from s) (reaches .found) (reaches .proper .distinct) (λ t e z. row-full s (reaches .proper) (subst (λ (n : ℕ). elem n (row s) ≡ true) z e)) (o .1))
 
   -- what holds over the states shows with the facts of the work area
   shown : (σ : ℕ → ℕ) (b : Body) → Meets (programOf m) (row s) σ b → Shows (row s) (tableOf w) σ b
@@ -76,23 +81,33 @@ module _ (m : Model) (wf : WellFormed m) (w : List ℕ) (s : States) (reaches : 
       known-empty (subst (Known s) (ap (λ (o : ℕ). relabel (state (row s) o) plus minus) (f .2 .1) ∙ sym (f .1)) (h (f .2 .0) (shown (f .2 .0) b (f .2 .2))))
   noted other h p f = absurd f
 
-  emptied : Empties (programOf m) (row s) → s .empty ≡ true
-  emptied (ℓ, p, f) = every-line m (λ (L : Line). (p : ℕ) → From (programOf m) (row s) 0 p L → s .empty ≡ true) (λ p f. absurd f)
-      (λ i h. noted (clauseLine (m .literals) (clauseAt m i)) (reaches .listed i h)) ℓ p f
+  -- NO STATE TOO MANY
+  module _ (fits : s .over ≡ false) where
+    -- no line adds a state
+    pub no-more : Whole (programOf m) (row s)
+    no-more = whole m w s exactly (reaches .listed fits)
 
-  -- EXACTLY THE REACHABLE STATES, and the verdict; both speak of runs of every length
-  pub reachable : (t : ℕ) → Reachable (programOf m) t ↔ Known s t
-  reachable t =
-      let q = states (programOf m) (wf .safe) (row s) no-more (by s) (from s) (reaches .found) t in
-      ((λ r. ⊎-elim (λ e. inl (e .0, emptied (e .1))) (λ e. inr e) (q .0 r)), λ k. q .1 (⊎-elim (λ e. inl (e .0, reaches .empty (e .1))) (λ e. inr e) k))
+    -- no more are reachable than there is room for
+    pub not-many : MoreThan limit.atomic (programOf m) → ⊥
+    not-many = roomy (programOf m) (wf .safe) (row s) (by s) (from s) (reaches .found) no-more limit.atomic (rw (length-row s (reaches .proper)) (reaches .proper .count))
 
-  pub verdict : (ways : List ℕ) → Marks ways (Between (s .count) (λ e u. Comes (programOf m) (row s) (state (row s) e) (state (row s) u))) → (l : Levels) → Filled m (row s) w ways l
-      → (r : Bool) → (r ≡ true) ↔ Entered (l .rows) (m .stagecount) → Verdict (programOf m) (questionOf m) r
-  verdict ways closed l filled r test = go r test
-    where
-      law : Entered (l .rows) (m .stagecount) ↔ Verdict (programOf m) (questionOf m) true
-      law = levels.verdict m wf w s exactly ways closed l filled no-more (reaches .found)
+    emptied : Empties (programOf m) (row s) → s .empty ≡ true
+    emptied (ℓ, p, f) = every-line m (λ (L : Line). (p : ℕ) → From (programOf m) (row s) 0 p L → s .empty ≡ true) (λ p f. absurd f)
+        (λ i h. noted (clauseLine (m .literals) (clauseAt m i)) (reaches .listed fits i h)) ℓ p f
 
-      go : (b : Bool) → (b ≡ true) ↔ Entered (l .rows) (m .stagecount) → Verdict (programOf m) (questionOf m) b
-      go true q = law .0 (q .0 refl)
-      go false q = λ x. absurd (false≢true (q .1 (law .1 x)))
+    -- EXACTLY THE REACHABLE STATES, and the verdict; both speak of runs of every length
+    pub reachable : (t : ℕ) → Reachable (programOf m) t ↔ Known s t
+    reachable t =
+        let q = states (programOf m) (wf .safe) (row s) no-more (by s) (from s) (reaches .found) t in
+        ((λ r. ⊎-elim (λ e. inl (e .0, emptied (e .1))) (λ e. inr e) (q .0 r)), λ k. q .1 (⊎-elim (λ e. inl (e .0, reaches .empty (e .1))) (λ e. inr e) k))
+
+    pub verdict : (ways : List ℕ) → Marks ways (Between (s .count) (λ e u. Comes (programOf m) (row s) (state (row s) e) (state (row s) u))) → (l : Levels) → Filled m (row s) w ways l
+        → (r : Bool) → (r ≡ true) ↔ Entered (l .rows) (m .stagecount) → Verdict (programOf m) (questionOf m) r
+    verdict ways closed l filled r test = go r test
+      where
+        law : Entered (l .rows) (m .stagecount) ↔ Verdict (programOf m) (questionOf m) true
+        law = levels.verdict m wf w s exactly ways closed l filled no-more (reaches .found)
+
+        go : (b : Bool) → (b ≡ true) ↔ Entered (l .rows) (m .stagecount) → Verdict (programOf m) (questionOf m) b
+        go true q = law .0 (q .0 refl)
+        go false q = λ x. absurd (false≢true (q .1 (law .1 x)))

@@ -7,6 +7,7 @@ use Prim.Native.Nat.{ℕ, suc, _+_, _*_, _≤_, _<_}
 use native.Mathlib.Omega.{arith}
 use borrow.Author.Tests.{eq-eqb, ne-eqb}
 use lib.ListN.{length, replicate, length-replicate}
+use Rattle.limits.specs.Limits as limit
 use Rattle.semantics.proofs.Tools.{either, same?, clash}
 use Rattle.model.specs.declared.Model.{Model}
 use Rattle.facts_bits.specs.Bits.{bitAt, withBit, inRow, Joined}
@@ -21,11 +22,11 @@ written-none from rows clear = record { long = refl; kept = λ i e l g. refl; cl
 
 -- A ROW MORE, joined to one that has no bit, is that row, and the others stay
 module _ (from f : ℕ) (old rows : List ℕ) (w : Written from (from + f) old rows) (r rows′ : List ℕ) (j : Joined rows (from + f) r rows′) where
-  row-here : (e : ℕ) → e < 128 → inRow rows′ (from + f) e ≡ bitAt r e
-  row-here e l = j (from + f) e l ∙ rw (w .clear (from + f) e (omega arith) l, eq-eqb (from + f) (from + f) refl)
+  row-here : (e : ℕ) → e < limit.listed → inRow rows′ (from + f) e ≡ bitAt r e
+  row-here e l = j (from + f) e (omega arith) ∙ rw (w .clear (from + f) e (omega arith) l, eq-eqb (from + f) (from + f) refl)
 
-  row-there : (i e : ℕ) → i ≢ from + f → e < 128 → inRow rows′ i e ≡ inRow rows i e
-  row-there i e n l = j i e l ∙ rw (ne-eqb i (from + f) n) (or-nothing (inRow rows i e))
+  row-there : (i e : ℕ) → i ≢ from + f → e < limit.listed → inRow rows′ i e ≡ inRow rows i e
+  row-there i e n l = j i e (omega arith) ∙ rw (ne-eqb i (from + f) n) (or-nothing (inRow rows i e))
     where
       or-nothing : (a : Bool) → (a || false) ≡ a
       or-nothing true = refl
@@ -38,8 +39,8 @@ module _ (from f : ℕ) (old rows : List ℕ) (w : Written from (from + f) old r
     clear = λ i e l g. row-there i e (λ q. omega arith) g ∙ w .clear i e (omega arith) g;
   }
 
-  pub rows-more : (D : ℕ → ℕ → Type 0) → Has r (λ e. D e f) → ((e g : ℕ) → e < 128 → g < f → (inRow rows (from + g) e ≡ true) ↔ D e g)
-      → (e g : ℕ) → e < 128 → g < f + 1 → (inRow rows′ (from + g) e ≡ true) ↔ D e g
+  pub rows-more : (D : ℕ → ℕ → Type 0) → Has r (λ e. D e f) → ((e g : ℕ) → e < limit.listed → g < f → (inRow rows (from + g) e ≡ true) ↔ D e g)
+      → (e g : ℕ) → e < limit.listed → g < f + 1 → (inRow rows′ (from + g) e ≡ true) ↔ D e g
   rows-more D h before e g l k = ⊎-elim
       (λ (z : g ≡ f). subst (λ (n : ℕ). (inRow rows′ (from + n) e ≡ true) ↔ D e n) (sym z)
       (let p = h .bits e l in ((λ q. p .0 (sym (row-here e l) ∙ q)), λ q. row-here e l ∙ p .1 q)))
@@ -47,23 +48,23 @@ module _ (from f : ℕ) (old rows : List ℕ) (w : Written from (from + f) old r
       (same? g f)
 
 -- the first level has the pair of slots 0 alone
-pub begun : (n : ℕ) → 0 < n → (e f : ℕ) → e < 128 → f < 128 → (pairAt (withBit (replicate n 0) 0) 0 e f ≡ true) ↔ ((e ≡ 0) × (f ≡ 0))
-begun n some e f l h = let p = marks-bit (replicate n 0) 0 0 (omega arith) (rw length-replicate (omega arith)) .bits (128 * 0 + f) e l in (
-  (λ q. ⊎-elim (λ x. clash x (no-bit n (128 * 0 + f) e l)) (λ x. (x .1, omega (arith, x .0))) (p .0 q)),
+pub begun : (n : ℕ) → 0 < n → (e f : ℕ) → e < limit.listed → f < limit.listed → (pairAt (withBit (replicate n 0) 0) 0 e f ≡ true) ↔ ((e ≡ 0) × (f ≡ 0))
+begun n some e f l h = let p = marks-bit (replicate n 0) 0 0 (omega arith) (rw length-replicate (omega arith)) .bits (limit.listed * 0 + f) e (omega arith) in (
+  (λ q. ⊎-elim (λ x. clash x (no-bit n (limit.listed * 0 + f) e (omega arith))) (λ x. (x .1, omega (arith, x .0))) (p .0 q)),
   λ q. p .1 (inr (omega (arith, q .1), q .0)),
 )
 
-pub begun-clear : (n : ℕ) → 0 < n → Clear (128 * suc 0) (withBit (replicate n 0) 0)
-begun-clear n some i e l h = let p = marks-bit (replicate n 0) 0 0 (omega arith) (rw length-replicate (omega arith)) .bits i e h in
-    ⊎-elim (λ q. absurd (⊎-elim (λ x. clash x (no-bit n i e h)) (λ x. omega (arith, x .0)) (p .0 q))) (λ q. q) (either (inRow (withBit (replicate n 0) 0) i e))
+pub begun-clear : (n : ℕ) → 0 < n → Clear (limit.listed * suc 0) (withBit (replicate n 0) 0)
+begun-clear n some i e l h = let p = marks-bit (replicate n 0) 0 0 (omega arith) (rw length-replicate (omega arith)) .bits i e (omega arith) in
+    ⊎-elim (λ q. absurd (⊎-elim (λ x. clash x (no-bit n i e (omega arith))) (λ x. omega (arith, x .0)) (p .0 q))) (λ q. q) (either (inRow (withBit (replicate n 0) 0) i e))
 
 module _ (m : Model) (S w ways : List ℕ) where
   -- the same pairs on both levels
-  module _ (A A′ : ℕ → ℕ → Bool) (a : (e f : ℕ) → e < 128 → f < 128 → A e f ≡ A′ e f) where
+  module _ (A A′ : ℕ → ℕ → Bool) (a : (e f : ℕ) → e < limit.listed → f < limit.listed → A e f ≡ A′ e f) where
     next-so : (k e f : ℕ) → Next m S w ways k A e f → Next m S w ways k A′ e f
     next-so k e f q = let x = q .0 in ((x .0, x .1, x .2, x .3, sym (a (x .0) (x .1) (x .2) (x .3)) ∙ x .4, x .5, x .6), q .1)
 
-  passed-so : (k : ℕ) (A B A′ B′ : ℕ → ℕ → Bool) → ((e f : ℕ) → e < 128 → f < 128 → A e f ≡ A′ e f) → ((e f : ℕ) → e < 128 → f < 128 → B e f ≡ B′ e f) → Passed m S w ways k A B → Passed m S w ways k A′ B′
+  passed-so : (k : ℕ) (A B A′ B′ : ℕ → ℕ → Bool) → ((e f : ℕ) → e < limit.listed → f < limit.listed → A e f ≡ A′ e f) → ((e f : ℕ) → e < limit.listed → f < limit.listed → B e f ≡ B′ e f) → Passed m S w ways k A B → Passed m S w ways k A′ B′
   passed-so k A B A′ B′ a b h = record {
     pairs = λ e f l g. let p = h .pairs e f l g in (
       (λ q. next-so A A′ a k e f (p .0 (b e f l g ∙ q))),
@@ -72,9 +73,9 @@ module _ (m : Model) (S w ways : List ℕ) where
   }
 
   -- A LEVEL MORE: the stages before stay passed
-  module _ (k : ℕ) (old new : List ℕ) (kept : (i e : ℕ) → i < 128 * suc k → e < 128 → inRow new i e ≡ inRow old i e) where
-    level-same : (j : ℕ) → j ≤ k → (e f : ℕ) → e < 128 → f < 128 → pairAt old j e f ≡ pairAt new j e f
-    level-same j h e f l g = sym (kept (128 * j + f) e (omega arith) l)
+  module _ (k : ℕ) (old new : List ℕ) (kept : (i e : ℕ) → i < limit.listed * suc k → e < limit.listed → inRow new i e ≡ inRow old i e) where
+    level-same : (j : ℕ) → j ≤ k → (e f : ℕ) → e < limit.listed → f < limit.listed → pairAt old j e f ≡ pairAt new j e f
+    level-same j h e f l g = sym (kept (limit.listed * j + f) e (omega arith) l)
 
     pub passed-more : ((j : ℕ) → j < k → Passed m S w ways j (pairAt old j) (pairAt old (suc j))) → Passed m S w ways k (pairAt old k) (pairAt new (suc k))
         → (j : ℕ) → j < suc k → Passed m S w ways j (pairAt new j) (pairAt new (suc j))

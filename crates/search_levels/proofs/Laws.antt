@@ -7,6 +7,7 @@ use mathlib.Core.Option.{Option, none, some}
 use Prim.Native.Nat.{ℕ, zero, suc, _≤_, _<_}
 use native.Mathlib.Omega.{arith}
 use lib.ListN.{length, getD}
+use Rattle.limits.specs.Limits as limit
 use Rattle.semantics.specs.Models.{elem, Body, Program, Question, vars}
 use Rattle.semantics.specs.Facts.{Database, state, In, Derived, Meets}
 use Rattle.semantics.specs.Questions.{Reached}
@@ -57,7 +58,7 @@ module _ (m : Model) (wf : WellFormed m) (w : List ℕ) (s : States) (ex : Exact
   count : length S ≡ s .count
   count = length-row s (ex .proper)
 
-  small : (e : ℕ) → e < length S → e < 128
+  small : (e : ℕ) → e < length S → e < limit.listed
   small e h = omega (arith, ex .proper .count, count)
 
   -- ONE WALKER, that of the carried variable of cell v, at stage k, which holds for σ
@@ -81,31 +82,31 @@ module _ (m : Model) (wf : WellFormed m) (w : List ℕ) (s : States) (ex : Exact
     arrives false q = rw (q, carried-own m wf v k q) (holds .0 x q, refl)
 
     -- where it is led from slot u to slot e, it is there
-    goes : (u e : ℕ) → e < 128 → Sits S (chosen m v k) (K x) u → Moved ways (holder m v k) (chosen m v k) u e → Seated (holder m v k) σ x e → Leads × Sits S (chosen m v (suc k)) after e
+    goes : (u e : ℕ) → e < limit.listed → Sits S (chosen m v k) (K x) u → Moved ways (holder m v k) (chosen m v k) u e → Seated (holder m v k) σ x e → Leads × Sits S (chosen m v (suc k)) after e
     goes u e g = go (chosen m v k) (holder m v k) refl
       where
         go : (c h : Bool) → holder m v k ≡ h → Sits S c (K x) u → Moved ways h c u e → Seated h σ x e → Leads × Sits S (c || holder m v k) after e
         go c false q i move seat = ((λ t z y. clash z q), stays c e q (subst (λ (n : ℕ). Sits S c (K x) n) move i))
         go false true q i move seat = ((λ t z y. no-none (sym (i .0) ∙ y)), subst (λ (n : ℕ). Sits S (false || holder m v k) after n) seat (arrives false q))
         go true true q i move seat = (
-          (λ t z y. subst (λ (n : ℕ). Comes P S t (state S n)) (sym seat) (subst (λ (a : ℕ). Comes P S a (state S e)) (some-same (state S u) t (sym (i .1) ∙ y)) (closed .bits u e g .0 move .2))),
+          (λ t z y. subst (λ (n : ℕ). Comes P S t (state S n)) (sym seat) (subst (λ (a : ℕ). Comes P S a (state S e)) (some-same (state S u) t (sym (i .1) ∙ y)) (closed .bits u e (omega arith) .0 move .2))),
           subst (λ (n : ℕ). Sits S (true || holder m v k) after n) seat (arrives true q),
         )
 
     -- and where it can come to its object's state, it is led there
-    comes : (u : ℕ) → u < 128 → Sits S (chosen m v k) (K x) u → Leads → (e : ℕ) × (e < 128) × Moved ways (holder m v k) (chosen m v k) u e × Seated (holder m v k) σ x e × Sits S (chosen m v (suc k)) after e
+    comes : (u : ℕ) → u < limit.listed → Sits S (chosen m v k) (K x) u → Leads → (e : ℕ) × (e < limit.listed) × Moved ways (holder m v k) (chosen m v k) u e × Seated (holder m v k) σ x e × Sits S (chosen m v (suc k)) after e
     comes u g i lead = go (chosen m v k) (holder m v k) refl i
       where
         here : holder m v k ≡ true → σ x < length S
         here q = holds .0 x q
 
-        go : (c h : Bool) → holder m v k ≡ h → Sits S c (K x) u → (e : ℕ) × (e < 128) × Moved ways h c u e × Seated h σ x e × Sits S (c || holder m v k) after e
+        go : (c h : Bool) → holder m v k ≡ h → Sits S c (K x) u → (e : ℕ) × (e < limit.listed) × Moved ways h c u e × Seated h σ x e × Sits S (c || holder m v k) after e
         go c false q i = (u, g, refl, tt, stays c u q i)
         go false true q i = (σ x, small (σ x) (here q), i .1, refl, arrives false q)
         go true true q i = (
           σ x,
           small (σ x) (here q),
-          closed .bits u (σ x) (small (σ x) (here q)) .1 (subst (λ (n : ℕ). u < n) count (i .0), subst (λ (n : ℕ). σ x < n) count (here q), lead (state S u) q (i .1)),
+          closed .bits u (σ x) (let z = small (σ x) (here q) in omega arith) .1 (subst (λ (n : ℕ). u < n) count (i .0), subst (λ (n : ℕ). σ x < n) count (here q), lead (state S u) q (i .1)),
           refl,
           arrives true q,
         )
@@ -126,7 +127,7 @@ module _ (m : Model) (wf : WellFormed m) (w : List ℕ) (s : States) (ex : Exact
       cell c z f = subst (λ (i : ℕ). Comes P S t (state S (σ i))) (sym z) (f (subst (λ (i : ℕ). elem i (vars (getD Q k [])) ≡ true) z e) (subst (λ (i : ℕ). K i ≡ some t) z q))
 
   -- SOUND: for a pair of level k there is a stand of level k with the walkers there
-  sound : (k : ℕ) → k ≤ m .stagecount → (e f : ℕ) → e < 128 → f < 128 → pairAt (l .rows) k e f ≡ true → (K : Stand) × Level P Q S nobody k K × Both k K e f
+  sound : (k : ℕ) → k ≤ m .stagecount → (e f : ℕ) → e < limit.listed → f < limit.listed → pairAt (l .rows) k e f ≡ true → (K : Stand) × Level P Q S nobody k K × Both k K e f
   sound zero h e f g i q = let z = filled .begins e f g i .0 q in (nobody, (λ y. refl), ((refl, z .0), (refl, z .1)))
   sound (suc k) h e f g i q =
       let z = filled .stages k (omega arith) .pairs e f g i .0 q in
@@ -139,7 +140,7 @@ module _ (m : Model) (wf : WellFormed m) (w : List ℕ) (s : States) (ex : Exact
       (stood Q S (getD Q k []) σ (r .0), (r .0, r .1, (σ, holds, all-lead k (r .0) (r .1) σ holds (one .0) (two .0), λ y. refl)), (one .1, two .1))
 
   -- COMPLETE: for a stand of level k there is the pair of its walkers' slots
-  complete : (k : ℕ) → k ≤ m .stagecount → (K : Stand) → Level P Q S nobody k K → (e f : ℕ) × (e < 128) × (f < 128) × (pairAt (l .rows) k e f ≡ true) × Both k K e f
+  complete : (k : ℕ) → k ≤ m .stagecount → (K : Stand) → Level P Q S nobody k K → (e f : ℕ) × (e < limit.listed) × (f < limit.listed) × (pairAt (l .rows) k e f ≡ true) × Both k K e f
   complete zero h K q = (0, 0, omega arith, omega arith, filled .begins 0 0 (omega arith) (omega arith) .1 (refl, refl), ((q (carriedAt m 0), refl), (q (carriedAt m 1), refl)))
   complete (suc k) h K q =
       let r = complete k (omega arith) (q .0) (q .1) in
@@ -159,14 +160,14 @@ module _ (m : Model) (wf : WellFormed m) (w : List ℕ) (s : States) (ex : Exact
       )
 
   -- THE LAST LEVEL has a pair exactly if some stand passes every stage,
-  pub passable-law : ((e f : ℕ) × (e < 128) × (f < 128) × (pairAt (l .rows) (m .stagecount) e f ≡ true)) ↔ Passable (programOf m) (questionOf m) (row s) nobody
+  pub passable-law : ((e f : ℕ) × (e < limit.listed) × (f < limit.listed) × (pairAt (l .rows) (m .stagecount) e f ≡ true)) ↔ Passable (programOf m) (questionOf m) (row s) nobody
   passable-law = (
     λ q. let r = sound (m .stagecount) (omega arith) (q .0) (q .1) (q .2) (q .3) (q .4) in (r .0, subst (λ (k : ℕ). Level P Q S nobody k (r .0)) (sym (stages m wf)) (r .1)),
     λ q. let r = complete (m .stagecount) (omega arith) (q .0) (subst (λ (k : ℕ). Level P Q S nobody k (q .0)) (stages m wf) (q .1)) in (r .0, r .1, r .2, r .3, r .4),
   )
 
   -- and so exactly if the question is reached, in runs of every length
-  pub verdict : Whole (programOf m) (row s) → Discovered (programOf m) s → ((e f : ℕ) × (e < 128) × (f < 128) × (pairAt (l .rows) (m .stagecount) e f ≡ true)) ↔ Reached (programOf m) (questionOf m)
+  pub verdict : Whole (programOf m) (row s) → Discovered (programOf m) s → ((e f : ℕ) × (e < limit.listed) × (f < limit.listed) × (pairAt (l .rows) (m .stagecount) e f ≡ true)) ↔ Reached (programOf m) (questionOf m)
   verdict whole found =
       let q = verdicts.verdict P (wf .safe) Q S (by s) (from s) found (wf .safely) whole in
       ((λ r. q .1 (passable-law .0 r)), λ r. passable-law .1 (q .0 r))

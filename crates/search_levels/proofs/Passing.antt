@@ -11,6 +11,7 @@ use lib.ListN.{length, replicate}
 use Rattle.limits.specs.Limits as limit
 use Rattle.semantics.specs.Facts.{Database}
 use Rattle.semantics.proofs.Tools.{clash}
+use Rattle.facts_bits.specs.Width as width
 use Rattle.facts_bits.specs.Bits.{bitAt, Both, Empty}
 use Rattle.facts_bits.proofs.Laws.{full-bits}
 use Rattle.facts_candidates.specs.declared.Choice.{Choice}
@@ -27,7 +28,7 @@ use Rattle.search_levels.proofs.Rows.{has-so, has-nothing}
 abbrev Seats : Choice → Walker → ℕ → Choice → Type 0
 Seats c a e r = (x : ℕ) → x < limit.variables → chosen r x ≡ cond (a .stands && eqb x (a .seat)) e (chosen c x)
 
-fixed-seated : (c r : Choice) (a : Walker) (v e : ℕ) → v ≤ limit.variables → e < 128 → (a .stands ≡ true → a .seat < v) → (a .stands ≡ true → chosen c (a .seat) ≡ limit.none) → Seats c a e r
+fixed-seated : (c r : Choice) (a : Walker) (v e : ℕ) → v ≤ limit.variables → e < width.slots → (a .stands ≡ true → a .seat < v) → (a .stands ≡ true → chosen c (a .seat) ≡ limit.none) → Seats c a e r
     → (σ : ℕ → ℕ) → Fixed v r σ ↔ (Fixed v c σ × Seated (a .stands) σ (a .seat) e)
 fixed-seated c r a v e few l = go (a .stands)
   where
@@ -39,13 +40,13 @@ fixed-seated c r a v e few l = go (a .stands)
       λ f y g n. let z = law y (omega arith) in f .0 y g (λ p. n (z ∙ p)) ∙ sym z,
     )
 
-pub fixed-both : (c one both : Choice) (a b : Walker) (v e f : ℕ) → v ≤ limit.variables → e < 128 → f < 128
+pub fixed-both : (c one both : Choice) (a b : Walker) (v e f : ℕ) → v ≤ limit.variables → e < limit.listed → f < limit.listed
     → (a .stands ≡ true → a .seat < v) → (b .stands ≡ true → b .seat < v) → (a .stands ≡ true → b .stands ≡ true → a .seat ≢ b .seat)
     → ((x : ℕ) → chosen c x ≡ limit.none) → Seats c a e one → Seats one b f both
     → (σ : ℕ → ℕ) → Fixed v both σ ↔ (Seated (a .stands) σ (a .seat) e × Seated (b .stands) σ (b .seat) f)
 fixed-both c one both a b v e f few l h first second apart free p q σ =
-    let x = fixed-seated c one a v e few l first (λ s. free (a .seat)) p σ in
-    let y = fixed-seated one both b v f few h second other q σ in (
+    let x = fixed-seated c one a v e few (omega arith) first (λ s. free (a .seat)) p σ in
+    let y = fixed-seated one both b v f few (omega arith) second other q σ in (
       (λ z. let k = y .0 z in (x .0 (k .0) .1, k .1)),
       λ z. y .1 (x .1 ((λ i g n. absurd (n (free i))), z .0), z .1),
     )
@@ -79,7 +80,7 @@ module _ (S w literals : List ℕ) (t : Meeting) (row : List ℕ) (f : ℕ) wher
   pub met-kept : t .first .stands ≡ false → Met S w literals t 0 f → Has row Kept
   met-kept s h = record { bits = λ e l. ((λ q. (q, any-first s 0 e h)), λ q. q .0) }
 
-  pub met-none : t .first .stands ≡ false → (Met S w literals t 0 f → ⊥) → Has (replicate 16 0) Kept
+  pub met-none : t .first .stands ≡ false → (Met S w literals t 0 f → ⊥) → Has (replicate width.bytes 0) Kept
   met-none s h = has-nothing Kept (λ e l q. h (any-first s e 0 (q .1)))
 
 module _ (S w literals ways : List ℕ) (t : Meeting) (A : ℕ → ℕ → Bool) (f : ℕ) where
@@ -95,10 +96,10 @@ module _ (S w literals ways : List ℕ) (t : Meeting) (A : ℕ → ℕ → Bool)
 
   -- ROW f OF THE NEXT LEVEL has hopeful slots,
   module _ (led able row : List ℕ) (l : Has led (λ e. Led ways t A e f)) (h : Has able (Hopeful S w literals ways t A)) (both : Both led able row) where
-    row-bits : (e : ℕ) → e < 128 → (bitAt row e ≡ true) ↔ (Led ways t A e f × Hopeful S w literals ways t A e)
+    row-bits : (e : ℕ) → e < limit.listed → (bitAt row e ≡ true) ↔ (Led ways t A e f × Hopeful S w literals ways t A e)
     row-bits e g = let p = l .bits e g in let q = h .bits e g in let z = and-eq-true-iff (bitAt led e) (bitAt able e) in (
-      (λ b. let y = z .0 (sym (both .bits e g) ∙ b) in (p .0 (y .0), q .0 (y .1))),
-      λ b. both .bits e g ∙ z .1 (p .1 (b .0), q .1 (b .1)),
+      (λ b. let y = z .0 (sym (both .bits e (omega arith)) ∙ b) in (p .0 (y .0), q .0 (y .1))),
+      λ b. both .bits e (omega arith) ∙ z .1 (p .1 (b .0), q .1 (b .1)),
     )
 
     unseated : t .second .stands ≡ false → (e : ℕ) → Met S w literals (alone t) e 0 → Met S w literals t e f
@@ -125,21 +126,21 @@ module _ (S w literals ways : List ℕ) (t : Meeting) (A : ℕ → ℕ → Bool)
   paired-empty led l z = record { bits = λ e g. ((λ q. clash q (z .none refl e)), λ q. l .bits e g .1 (q .0)) }
 
   -- and none where the stage does not hold
-  pub paired-none : ((e : ℕ) → Met S w literals t e f → ⊥) → Has (replicate 16 0) Paired
+  pub paired-none : ((e : ℕ) → Met S w literals t e f → ⊥) → Has (replicate width.bytes 0) Paired
   paired-none h = has-nothing Paired (λ e l q. h e (q .1))
 
 -- THE SAME PAIRS on the level before lead to the same pairs
-onward-so : (ways : List ℕ) (s c : Bool) (A B : ℕ → Type 0) → ((u : ℕ) → u < 128 → A u → B u) → (e : ℕ) → Onward ways s c A e → Onward ways s c B e
+onward-so : (ways : List ℕ) (s c : Bool) (A B : ℕ → Type 0) → ((u : ℕ) → u < limit.listed → A u → B u) → (e : ℕ) → Onward ways s c A e → Onward ways s c B e
 onward-so ways s c A B f e q = (q .0, q .1, f (q .0) (q .1) (q .2), q .3)
 
-module _ (ways : List ℕ) (t : Meeting) (A B : ℕ → ℕ → Bool) (same : (u v : ℕ) → u < 128 → v < 128 → A u v ≡ B u v) where
+module _ (ways : List ℕ) (t : Meeting) (A B : ℕ → ℕ → Bool) (same : (u v : ℕ) → u < limit.listed → v < limit.listed → A u v ≡ B u v) where
   pub led-so : (e f : ℕ) → Led ways t A e f → Led ways t B e f
   led-so e f = onward-so ways (t .first .stands) (t .first .chosen) (λ u. Onward ways (t .second .stands) (t .second .chosen) (λ v. A u v ≡ true) f) (λ u. Onward ways (t .second .stands) (t .second .chosen) (λ v. B u v ≡ true) f)
       (λ u l. onward-so ways (t .second .stands) (t .second .chosen) (λ v. A u v ≡ true) (λ v. B u v ≡ true) (λ v g q. sym (same u v l g) ∙ q) f) e
 
   pub hopeful-so : (S w literals : List ℕ) (e : ℕ) → Hopeful S w literals ways t A e → Hopeful S w literals ways t B e
   hopeful-so S w literals e q = (
-    onward-so ways (t .first .stands) (t .first .chosen) (λ u. (v : ℕ) × (v < 128) × (A u v ≡ true)) (λ u. (v : ℕ) × (v < 128) × (B u v ≡ true)) (λ u l z. (z .0, z .1, sym (same u (z .0) l (z .1)) ∙ z .2)) e (q .0),
+    onward-so ways (t .first .stands) (t .first .chosen) (λ u. (v : ℕ) × (v < limit.listed) × (A u v ≡ true)) (λ u. (v : ℕ) × (v < limit.listed) × (B u v ≡ true)) (λ u l z. (z .0, z .1, sym (same u (z .0) l (z .1)) ∙ z .2)) e (q .0),
     q .1,
   )
 
@@ -151,7 +152,7 @@ onward-has ways s c row D h r = has-so r (Onward ways s c (λ u. bitAt row u ≡
 ))
 
 -- the hopeful slots, from all the rows of a level at once
-pub hopeful-has : (S w literals ways : List ℕ) (t : Meeting) (rows : List ℕ) (k : ℕ) (any : List ℕ) → Has any (Picked rows (128 * k) (replicate 16 255))
+pub hopeful-has : (S w literals ways : List ℕ) (t : Meeting) (rows : List ℕ) (k : ℕ) (any : List ℕ) → Has any (Picked rows (limit.listed * k) (replicate width.bytes 255))
     → (row : List ℕ) → Has row (Onward ways (t .first .stands) (t .first .chosen) (λ u. bitAt any u ≡ true)) → (r : List ℕ) → Has r (λ e. (bitAt row e ≡ true) × Met S w literals (alone t) e 0)
     → Has r (Hopeful S w literals ways t (pairAt rows k))
 hopeful-has S w literals ways t rows k any h row g r = has-so r (λ e. (bitAt row e ≡ true) × Met S w literals (alone t) e 0) (Hopeful S w literals ways t (pairAt rows k)) (λ e l. let p = led .bits e l in (
@@ -159,7 +160,7 @@ hopeful-has S w literals ways t rows k any h row g r = has-so r (λ e. (bitAt ro
   λ q. (p .1 (q .0), q .1),
 ))
   where
-    led : Has row (Onward ways (t .first .stands) (t .first .chosen) (λ u. (v : ℕ) × (v < 128) × (pairAt rows k u v ≡ true)))
-    led = onward-has ways (t .first .stands) (t .first .chosen) any (λ u. (v : ℕ) × (v < 128) × (pairAt rows k u v ≡ true))
-        (has-so any (Picked rows (128 * k) (replicate 16 255)) (λ u. (v : ℕ) × (v < 128) × (pairAt rows k u v ≡ true)) (λ e l. ((λ q. (q .0, q .1, q .3)), λ q. (q .0, q .1, full-bits (q .0) (q .1), q .2)))
+    led : Has row (Onward ways (t .first .stands) (t .first .chosen) (λ u. (v : ℕ) × (v < limit.listed) × (pairAt rows k u v ≡ true)))
+    led = onward-has ways (t .first .stands) (t .first .chosen) any (λ u. (v : ℕ) × (v < limit.listed) × (pairAt rows k u v ≡ true))
+        (has-so any (Picked rows (limit.listed * k) (replicate width.bytes 255)) (λ u. (v : ℕ) × (v < limit.listed) × (pairAt rows k u v ≡ true)) (λ e l. ((λ q. (q .0, q .1, q .3)), λ q. (q .0, q .1, full-bits (q .0) (omega (arith, q .1)), q .2)))
         h) row g

@@ -9,6 +9,7 @@ use borrow.Author.Tests.{ltb-true, ltb-false}
 use lib.Dec.{ltb}
 use lib.ListN.{length, take, getD}
 use lib.Seq.{getD-take, length-take-le}
+use Rattle.limits.specs.Limits as limit
 use Rattle.semantics.specs.Models.{elem, Body, vars, names, supported, Supported}
 use Rattle.semantics.specs.Facts.{Database, Holds, In}
 use Rattle.semantics.specs.Runs.{named}
@@ -22,6 +23,7 @@ use Rattle.model.specs.WellFormed.{WellFormed}
 use Rattle.model.proofs.Accepted.{stage-here, stage-vars, stage-body, stage-different}
 use Rattle.model.proofs.Carried.{carried-own, carried-differ}
 use Rattle.model.proofs.Renaming.{elem-map, elem-of-map, vars-renamed, supported-renamed, holds-renamed, named-renamed}
+use Rattle.facts_bits.specs.Width as width
 use Rattle.facts_table.specs.Table.{tableOf, Consistent}
 use Rattle.facts_candidates.specs.Choices.{Own}
 use Rattle.facts_holds.specs.Shows.{Evaluable}
@@ -135,7 +137,7 @@ module _ (m : Model) (wf : WellFormed m) (k : ℕ) (here : k < m .stagecount) wh
   t = meetingOf g (m .carried) (chosen m 0 k) (chosen m 1 k)
 
   -- it can be asked
-  pub stage-ready : (w slots : List ℕ) (n : ℕ) → Consistent w → Own 128 slots → n ≤ 128 → Ready w slots n (m .literals) t
+  pub stage-ready : (w slots : List ℕ) (n : ℕ) → Consistent w → Own width.slots slots → n ≤ limit.listed → Ready w slots n (m .literals) t
   stage-ready w slots n agree own few = record {
     agree = agree;
     own = own;
@@ -195,5 +197,5 @@ module _ (m : Model) (wf : WellFormed m) (k : ℕ) (here : k < m .stagecount) wh
           inward 1 f (h .0) (h .3),
         )
 
-    pub passed-stage : (old new : List ℕ) → ((e f : ℕ) → e < 128 → f < 128 → (pairAt new (suc k) e f ≡ true) ↔ (Led ways t (pairAt old k) e f × Met S w (m .literals) t e f)) → Passed m S w ways k (pairAt old k) (pairAt new (suc k))
+    pub passed-stage : (old new : List ℕ) → ((e f : ℕ) → e < limit.listed → f < limit.listed → (pairAt new (suc k) e f ≡ true) ↔ (Led ways t (pairAt old k) e f × Met S w (m .literals) t e f)) → Passed m S w ways k (pairAt old k) (pairAt new (suc k))
     passed-stage old new h = record { pairs = λ e f l i. let p = h e f l i in let q = next-law (pairAt old k) e f in ((λ x. q .0 (p .0 x)), λ x. p .1 (q .1 x)) }

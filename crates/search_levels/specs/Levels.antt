@@ -7,6 +7,7 @@ use mathlib.Core.Bool.{Bool, true, false, _||_}
 use mathlib.Core.List.{List, []}
 use Prim.Native.Nat.{ℕ, zero, suc, _+_, _*_, _<_}
 use lib.ListN.{length, getD}
+use Rattle.limits.specs.Limits as limit
 use Rattle.semantics.specs.Models.{elem, vars}
 use Rattle.semantics.specs.Facts.{Database}
 use Rattle.semantics.specs.Tables.{Shows}
@@ -14,7 +15,12 @@ use Rattle.model.specs.declared.Model.{Model}
 use Rattle.model.specs.Records.{questionOf, carriedAt}
 use Rattle.facts_bits.specs.Bits.{inRow}
 use Rattle.facts_table.specs.Table.{tableOf}
+use Rattle.search_ways.specs.Moves.{matrixBytes}
 use Rattle.search_levels.specs.declared.Levels.{Levels}
+
+-- the bytes of the matrices of all levels
+abbrev pub levelsBytes : ℕ
+levelsBytes = (limit.stages + 1) * matrixBytes
 
 -- the carried variable of cell v stands in stage k, counted from 0
 abbrev pub holder : Model → ℕ → ℕ → Bool
@@ -27,7 +33,7 @@ chosen m v (suc k) = chosen m v k || holder m v k
 
 -- the pair of slot e for the first carried variable and slot f for the second is on level k
 abbrev pub pairAt : List ℕ → ℕ → ℕ → ℕ → Bool
-pairAt rows k e f = inRow rows (128 * k + f) e
+pairAt rows k e f = inRow rows (limit.listed * k + f) e
 
 -- an object goes from slot u to slot e before a stage is met: it stays where its variable does not stand in the stage;
 -- where it does, any slot will do as long as it stood in none before, and else one to which its object can come, as `ways` says
@@ -43,15 +49,15 @@ Seated true σ x e = σ x ≡ e
 
 -- level k + 1 has the pair e f, where level k has the pairs A: both objects are led on, each by itself, and stage k holds with them
 abbrev pub Next : Model → Database → List ℕ → List ℕ → ℕ → (ℕ → ℕ → Bool) → ℕ → ℕ → Type 0
-Next m S w ways k A e f = ((u v : ℕ) × (u < 128) × (v < 128) × (A u v ≡ true) × Moved ways (holder m 0 k) (chosen m 0 k) u e × Moved ways (holder m 1 k) (chosen m 1 k) v f)
+Next m S w ways k A e f = ((u v : ℕ) × (u < limit.listed) × (v < limit.listed) × (A u v ≡ true) × Moved ways (holder m 0 k) (chosen m 0 k) u e × Moved ways (holder m 1 k) (chosen m 1 k) v f)
     × ((σ : ℕ → ℕ) × Shows S (tableOf w) σ (getD (questionOf m) k []) × Seated (holder m 0 k) σ (carriedAt m 0) e × Seated (holder m 1 k) σ (carriedAt m 1) f)
 
 -- STAGE k IS PASSED: level k has the pairs A, and level k + 1 has the pairs B
 pub record Passed (m : Model) (S : Database) (w ways : List ℕ) (k : ℕ) (A B : ℕ → ℕ → Bool) : Type 0 where
-  pub pairs : (e f : ℕ) → e < 128 → f < 128 → (B e f ≡ true) ↔ Next m S w ways k A e f
+  pub pairs : (e f : ℕ) → e < limit.listed → f < limit.listed → (B e f ≡ true) ↔ Next m S w ways k A e f
 
 -- THE LEVELS over the states S with the facts of the work area w
 pub record Filled (m : Model) (S : Database) (w ways : List ℕ) (l : Levels) : Type 0 where
-  pub long : length (l .rows) ≡ 10240
-  pub begins : (e f : ℕ) → e < 128 → f < 128 → (pairAt (l .rows) 0 e f ≡ true) ↔ ((e ≡ 0) × (f ≡ 0))
+  pub long : length (l .rows) ≡ levelsBytes
+  pub begins : (e f : ℕ) → e < limit.listed → f < limit.listed → (pairAt (l .rows) 0 e f ≡ true) ↔ ((e ≡ 0) × (f ≡ 0))
   pub stages : (k : ℕ) → k < m .stagecount → Passed m S w ways k (pairAt (l .rows) k) (pairAt (l .rows) (suc k))

@@ -11,6 +11,7 @@ use Rattle.semantics.specs.Facts.{Database}
 use Rattle.semantics.specs.Tables.{Shows, seat}
 use Rattle.model.specs.declared.Stage.{Stage}
 use Rattle.model.specs.Records.{bodyAt}
+use Rattle.facts_bits.specs.Width as width
 use Rattle.facts_bits.specs.Bits.{bitAt, inRow}
 use Rattle.facts_table.specs.Table.{tableOf, Consistent, Rows}
 use Rattle.facts_candidates.specs.Choices.{Own}
@@ -21,15 +22,15 @@ use Rattle.search_levels.specs.Levels.{Moved, Seated}
 
 -- a row by value has exactly the slots of D
 pub record Has (r : List ℕ) (D : ℕ → Type 0) : Type 0 where
-  pub bits : (e : ℕ) → e < 128 → (bitAt r e ≡ true) ↔ D e
+  pub bits : (e : ℕ) → e < limit.listed → (bitAt r e ≡ true) ↔ D e
 
 -- one of the picked rows has slot e; row 0 of the matrix is row `at` of the table
 abbrev pub Picked : List ℕ → ℕ → List ℕ → ℕ → Type 0
-Picked table at picked e = (u : ℕ) × (u < 128) × (bitAt picked u ≡ true) × (inRow table (at + u) e ≡ true)
+Picked table at picked e = (u : ℕ) × (u < limit.listed) × (bitAt picked u ≡ true) × (inRow table (at + u) e ≡ true)
 
 -- an object goes to slot e from one of the slots A, where s says whether its variable stands in the stage and c whether it stood in one before
 abbrev pub Onward : List ℕ → Bool → Bool → (ℕ → Type 0) → ℕ → Type 0
-Onward ways s c A e = (u : ℕ) × (u < 128) × A u × Moved ways s c u e
+Onward ways s c A e = (u : ℕ) × (u < limit.listed) × A u × Moved ways s c u e
 
 -- both go to the pair e f from one of the pairs A
 abbrev pub Led : List ℕ → Meeting → (ℕ → ℕ → Bool) → ℕ → ℕ → Type 0
@@ -46,7 +47,7 @@ alone t = record { part = t .part; first = t .first; second = record { seat = 0;
 
 -- the first object can go to slot e, whatever the second does, and the stage holds with it
 abbrev pub Hopeful : Database → List ℕ → List ℕ → List ℕ → Meeting → (ℕ → ℕ → Bool) → ℕ → Type 0
-Hopeful S w literals ways t A e = Onward ways (t .first .stands) (t .first .chosen) (λ u. (v : ℕ) × (v < 128) × (A u v ≡ true)) e × Met S w literals (alone t) e 0
+Hopeful S w literals ways t A e = Onward ways (t .first .stands) (t .first .chosen) (λ u. (v : ℕ) × (v < limit.listed) × (A u v ≡ true)) e × Met S w literals (alone t) e 0
 
 -- what is said of the n states whose facts the work area has
 abbrev pub Over : List ℕ → ℕ → (Database → Type 0) → Type 0
@@ -55,8 +56,8 @@ Over w n C = (S : Database) → Rows S w → length S ≡ n → C S
 -- the stage can be asked: the two variables are different ones of it where they stand there
 pub record Ready (w slots : List ℕ) (n : ℕ) (literals : List ℕ) (t : Meeting) : Type 0 where
   pub agree : Consistent w
-  pub own : Own 128 slots
-  pub few : n ≤ 128
+  pub own : Own width.slots slots
+  pub few : n ≤ limit.listed
   pub body : Evaluable literals (t .part)
   pub first : t .first .stands ≡ true → t .first .seat < t .part .variables
   pub second : t .second .stands ≡ true → t .second .seat < t .part .variables
@@ -75,10 +76,10 @@ meetingOf g carried c d = record {
 
 -- the rows from `from` on have no bit
 abbrev pub Clear : ℕ → List ℕ → Type 0
-Clear from rows = (i e : ℕ) → from ≤ i → e < 128 → inRow rows i e ≡ false
+Clear from rows = (i e : ℕ) → from ≤ i → e < limit.listed → inRow rows i e ≡ false
 
 -- only the rows from `from` up to `to` were written, and those behind have no bit
 pub record Written (from to : ℕ) (old new : List ℕ) : Type 0 where
   pub long : length new ≡ length old
-  pub kept : (i e : ℕ) → i < from → e < 128 → inRow new i e ≡ inRow old i e
+  pub kept : (i e : ℕ) → i < from → e < limit.listed → inRow new i e ≡ inRow old i e
   pub clear : Clear to new

@@ -1,9 +1,14 @@
 // The levels of a question: in which states the carried objects can be with so many stages met, pair by pair, by who can come from which state to which.
+use facts_bits::BYTES;
+use facts_bits::WIDTH;
 use facts_candidates::Choice;
 use facts_holds::Part;
+use limits::LISTED;
+use limits::STAGES;
 use model::Model;
 use model::Stage;
 use search_states::States;
+use search_ways::MATRIX;
 ghost use mathlib.Core.Path.{_≡_};
 ghost use mathlib.Core.Logic.{_↔_};
 ghost use mathlib.Core.Bool.{true, cond, _&&_, _||_};
@@ -12,20 +17,21 @@ ghost use lib.Dec.{eqb};
 ghost use lib.ListN.{length};
 ghost use Rattle.limits.specs.Limits as limit;
 ghost use Rattle.model.specs.WellFormed.{WellFormed};
+ghost use Rattle.facts_bits.specs.Width as width;
 ghost use Rattle.facts_bits.specs.Bits.{bitAt, inRow};
 ghost use Rattle.facts_candidates.specs.Choices.{chosen};
 ghost use Rattle.search_states.specs.States.{row};
-ghost use Rattle.search_ways.specs.Moves.{Exactly};
-ghost use Rattle.search_levels.specs.Levels.{pairAt, Filled};
+ghost use Rattle.search_ways.specs.Moves.{matrixBytes, Exactly};
+ghost use Rattle.search_levels.specs.Levels.{levelsBytes, pairAt, Filled};
 ghost use Rattle.search_levels.specs.Passing.{Has, Picked, Onward, Led, Met, Hopeful, Over, Ready, walkerOf, meetingOf, Clear, Written};
 
-// The slots that a row has, and the rows that a matrix has.
-const SLOTS: usize = 128;
+// The bytes of the matrices of all levels.
+pub const LEVELS: usize = (STAGES + 1) * MATRIX;
 
 // Matrix k has the pairs of level k, with k stages met: bit e of its row f is set if the object of the first carried variable can be in slot e while that of the
 // second is in slot f. As long as a variable stood in no stage its slot is 0 and says nothing.
 pub struct Levels {
-    pub rows: [u8; 10240],
+    pub rows: [u8; LEVELS],
 }
 
 // A carried variable at a stage: its number in the stage, whether it stands there, and whether it stood in a stage before.
@@ -63,7 +69,7 @@ fn holds(
     e: usize,
     f: usize,
 ) -> bool
-    requires { ⌜ Ready (now work) (now slots) n (now literals) t × (e < 128) × (f < 128) ⌝ }
+    requires { ⌜ Ready (now work) (now slots) n (now literals) t × (e < limit.listed) × (f < limit.listed) ⌝ }
     ensures { λ r. ⌜ Over (now (work .entry)) n (λ S. (r ≡ true) ↔ Met S (now (work .entry)) (now (literals .entry)) t e f) ⌝ }
 {
     let free = facts_holds::free();
@@ -80,12 +86,12 @@ fn fitting(
     literals: &[u32],
     t: Meeting,
     f: usize,
-    row: [u8; 16],
-) -> [u8; 16]
-    requires { ⌜ Ready (now work) (now slots) n (now literals) t × (t .first .stands ≡ true) × (f < 128) ⌝ }
+    row: [u8; BYTES],
+) -> [u8; BYTES]
+    requires { ⌜ Ready (now work) (now slots) n (now literals) t × (t .first .stands ≡ true) × (f < limit.listed) ⌝ }
     ensures { λ r. ⌜ Over (now (work .entry)) n (λ S. Has r (λ e. (bitAt row e ≡ true) × Met S (now (work .entry)) (now (literals .entry)) t e f)) ⌝ }
 {
-    let mut out = [0u8; 16];
+    let mut out = [0u8; BYTES];
     let mut e = facts_bits::next(row, 0);
     while e < n {
         if holds(work, slots, n, literals, t, e, f) {
@@ -104,9 +110,9 @@ fn met(
     literals: &[u32],
     t: Meeting,
     f: usize,
-    row: [u8; 16],
-) -> [u8; 16]
-    requires { ⌜ Ready (now work) (now slots) n (now literals) t × (f < 128) ⌝ }
+    row: [u8; BYTES],
+) -> [u8; BYTES]
+    requires { ⌜ Ready (now work) (now slots) n (now literals) t × (f < limit.listed) ⌝ }
     ensures { λ r. ⌜ Over (now (work .entry)) n (λ S. Has r (λ e. (bitAt row e ≡ true) × Met S (now (work .entry)) (now (literals .entry)) t e f)) ⌝ }
 {
     if t.first.stands {
@@ -118,17 +124,17 @@ fn met(
     if holds(work, slots, n, literals, t, 0, f) {
         return row;
     }
-    [0u8; 16]
+    [0u8; BYTES]
 }
 
 // The slots that the picked rows of a matrix have, where its row 0 is row `at` of the table.
-fn union(table: &[u8], at: usize, picked: [u8; 16]) -> [u8; 16]
-    requires { ⌜ at * 16 + 2048 ≤ length (now table) ⌝ }
+fn union(table: &[u8], at: usize, picked: [u8; BYTES]) -> [u8; BYTES]
+    requires { ⌜ at * width.bytes + matrixBytes ≤ length (now table) ⌝ }
     ensures { λ r. ⌜ Has r (Picked (now (table .entry)) at picked) ⌝ }
 {
-    let mut out = [0u8; 16];
+    let mut out = [0u8; BYTES];
     let mut u = facts_bits::next(picked, 0);
-    while u < SLOTS {
+    while u < LISTED {
         let row = facts_bits::row(table, at + u);
         facts_bits::join(&mut out, 0, row);
         u = facts_bits::next(picked, u + 1);
@@ -137,14 +143,14 @@ fn union(table: &[u8], at: usize, picked: [u8; 16]) -> [u8; 16]
 }
 
 // The slots from which one can come to slot f.
-fn column(ways: &[u8], f: usize) -> [u8; 16]
-    requires { ⌜ (length (now ways) ≡ 2048) × (f < 128) ⌝ }
+fn column(ways: &[u8], f: usize) -> [u8; BYTES]
+    requires { ⌜ (length (now ways) ≡ matrixBytes) × (f < limit.listed) ⌝ }
     ensures { λ r. ⌜ Has r (λ u. inRow (now (ways .entry)) u f ≡ true) ⌝ }
 {
-    let mut out = [0u8; 16];
+    let mut out = [0u8; BYTES];
     let mut u: usize = 0;
-    while u < SLOTS {
-        if facts_bits::get(ways, u * SLOTS + f) {
+    while u < LISTED {
+        if facts_bits::get(ways, u * WIDTH + f) {
             facts_bits::put(&mut out, u);
         }
         u += 1;
@@ -153,8 +159,8 @@ fn column(ways: &[u8], f: usize) -> [u8; 16]
 }
 
 // The slots to which the first object goes from the slots of a row.
-fn onward(ways: &[u8], a: Walker, row: [u8; 16]) -> [u8; 16]
-    requires { ⌜ length (now ways) ≡ 2048 ⌝ }
+fn onward(ways: &[u8], a: Walker, row: [u8; BYTES]) -> [u8; BYTES]
+    requires { ⌜ length (now ways) ≡ matrixBytes ⌝ }
     ensures { λ r. ⌜ Has r (Onward (now (ways .entry)) (a .stands) (a .chosen) (λ u. bitAt row u ≡ true)) ⌝ }
 {
     if !a.stands {
@@ -166,15 +172,15 @@ fn onward(ways: &[u8], a: Walker, row: [u8; 16]) -> [u8; 16]
     if facts_bits::get(&row, 0) {
         return facts_bits::full();
     }
-    [0u8; 16]
+    [0u8; BYTES]
 }
 
 // The slots that the first object has on level k with those from which the second one goes to slot f.
-fn gathered(ways: &[u8], b: Walker, rows: &[u8], k: usize, f: usize) -> [u8; 16]
-    requires { ⌜ (length (now ways) ≡ 2048) × (length (now rows) ≡ 10240) × (k < 5) × (f < 128) ⌝ }
+fn gathered(ways: &[u8], b: Walker, rows: &[u8], k: usize, f: usize) -> [u8; BYTES]
+    requires { ⌜ (length (now ways) ≡ matrixBytes) × (length (now rows) ≡ levelsBytes) × (k ≤ limit.stages) × (f < limit.listed) ⌝ }
     ensures { λ r. ⌜ Has r (λ u. Onward (now (ways .entry)) (b .stands) (b .chosen) (λ v. pairAt (now (rows .entry)) k u v ≡ true) f) ⌝ }
 {
-    let at = SLOTS * k;
+    let at = LISTED * k;
     if !b.stands {
         return facts_bits::row(rows, at + f);
     }
@@ -185,8 +191,8 @@ fn gathered(ways: &[u8], b: Walker, rows: &[u8], k: usize, f: usize) -> [u8; 16]
 }
 
 // The slots that go with slot f when both objects are led on from level k.
-fn led(ways: &[u8], t: Meeting, rows: &[u8], k: usize, f: usize) -> [u8; 16]
-    requires { ⌜ (length (now ways) ≡ 2048) × (length (now rows) ≡ 10240) × (k < 5) × (f < 128) ⌝ }
+fn led(ways: &[u8], t: Meeting, rows: &[u8], k: usize, f: usize) -> [u8; BYTES]
+    requires { ⌜ (length (now ways) ≡ matrixBytes) × (length (now rows) ≡ levelsBytes) × (k ≤ limit.stages) × (f < limit.listed) ⌝ }
     ensures { λ r. ⌜ Has r (λ e. Led (now (ways .entry)) t (pairAt (now (rows .entry)) k) e f) ⌝ }
 {
     let row = gathered(ways, t.second, rows, k, f);
@@ -203,11 +209,11 @@ fn hopeful(
     ways: &[u8],
     rows: &[u8],
     k: usize,
-) -> [u8; 16]
-    requires { ⌜ Ready (now work) (now slots) n (now literals) t × (length (now ways) ≡ 2048) × (length (now rows) ≡ 10240) × (k < 5) ⌝ }
+) -> [u8; BYTES]
+    requires { ⌜ Ready (now work) (now slots) n (now literals) t × (length (now ways) ≡ matrixBytes) × (length (now rows) ≡ levelsBytes) × (k ≤ limit.stages) ⌝ }
     ensures { λ r. ⌜ Over (now (work .entry)) n (λ S. Has r (Hopeful S (now (work .entry)) (now (literals .entry)) (now (ways .entry)) t (pairAt (now (rows .entry)) k))) ⌝ }
 {
-    let any = union(rows, SLOTS * k, facts_bits::full());
+    let any = union(rows, LISTED * k, facts_bits::full());
     let row = onward(ways, t.first, any);
     let nobody = Walker {
         seat: 0,
@@ -234,10 +240,10 @@ fn next_row(
     ways: &[u8],
     rows: &[u8],
     k: usize,
-    able: [u8; 16],
+    able: [u8; BYTES],
     f: usize,
-) -> [u8; 16]
-    requires { ⌜ Ready (now work) (now slots) n (now literals) t × (length (now ways) ≡ 2048) × (length (now rows) ≡ 10240) × (k < 5) × (f < 128) × Over (now work) n (λ S. Has able (Hopeful S (now work) (now literals) (now ways) t (pairAt (now rows) k))) ⌝ }
+) -> [u8; BYTES]
+    requires { ⌜ Ready (now work) (now slots) n (now literals) t × (length (now ways) ≡ matrixBytes) × (length (now rows) ≡ levelsBytes) × (k ≤ limit.stages) × (f < limit.listed) × Over (now work) n (λ S. Has able (Hopeful S (now work) (now literals) (now ways) t (pairAt (now rows) k))) ⌝ }
     ensures { λ r. ⌜ Over (now (work .entry)) n (λ S. Has r (λ e. Led (now (ways .entry)) t (pairAt (now (rows .entry)) k) e f × Met S (now (work .entry)) (now (literals .entry)) t e f)) ⌝ }
 {
     let pairs = led(ways, t, rows, k, f);
@@ -251,7 +257,7 @@ fn next_row(
     if f < n {
         return met(work, slots, n, literals, t, f, row);
     }
-    [0u8; 16]
+    [0u8; BYTES]
 }
 
 // Meets a stage: writes the matrix of level k + 1 from that of level k.
@@ -265,14 +271,14 @@ fn pass(
     rows: &mut [u8],
     k: usize,
 )
-    requires { ⌜ Ready (now work) (now slots) n (now literals) t × (length (now ways) ≡ 2048) × (length (now rows) ≡ 10240) × (k < 4) × Clear (128 * suc k) (now rows) ⌝ }
-    ensures { λ _. ⌜ Written (128 * suc k) (128 * suc (suc k)) (now (rows .entry)) (now (rows .exit)) × Over (now (work .entry)) n (λ S. (e f : ℕ) → e < 128 → f < 128 → (pairAt (now (rows .exit)) (suc k) e f ≡ true) ↔ (Led (now (ways .entry)) t (pairAt (now (rows .entry)) k) e f × Met S (now (work .entry)) (now (literals .entry)) t e f)) ⌝ }
+    requires { ⌜ Ready (now work) (now slots) n (now literals) t × (length (now ways) ≡ matrixBytes) × (length (now rows) ≡ levelsBytes) × (k < limit.stages) × Clear (limit.listed * suc k) (now rows) ⌝ }
+    ensures { λ _. ⌜ Written (limit.listed * suc k) (limit.listed * suc (suc k)) (now (rows .entry)) (now (rows .exit)) × Over (now (work .entry)) n (λ S. (e f : ℕ) → e < limit.listed → f < limit.listed → (pairAt (now (rows .exit)) (suc k) e f ≡ true) ↔ (Led (now (ways .entry)) t (pairAt (now (rows .entry)) k) e f × Met S (now (work .entry)) (now (literals .entry)) t e f)) ⌝ }
 {
     let able = hopeful(work, slots, n, literals, t, ways, rows, k);
     let mut f: usize = 0;
-    while f < SLOTS {
+    while f < LISTED {
         let row = next_row(work, slots, n, literals, t, ways, rows, k, able, f);
-        facts_bits::join(rows, SLOTS * (k + 1) + f, row);
+        facts_bits::join(rows, LISTED * (k + 1) + f, row);
         f += 1;
     }
 }
@@ -321,12 +327,12 @@ fn after(w: Walker) -> bool
 
 // The levels of a question over the found states, where `ways` has who can come from which slot to which.
 pub fn fill(work: &[u8], m: Model, s: States, ways: &[u8]) -> Levels
-    requires { ⌜ WellFormed m × Exactly m (now work) s × (length (now ways) ≡ 2048) ⌝ }
+    requires { ⌜ WellFormed m × Exactly m (now work) s × (length (now ways) ≡ matrixBytes) ⌝ }
     ensures { λ r. ⌜ Filled m (row s) (now (work .entry)) (now (ways .entry)) r ⌝ }
 {
     let slots = facts_candidates::slots();
     let n = s.count;
-    let mut rows = [0u8; 10240];
+    let mut rows = [0u8; LEVELS];
     facts_bits::put(&mut rows, 0);
     let mut first = false;
     let mut second = false;

@@ -6,36 +6,17 @@ use mathlib.Core.List.{List, [], _∷_, _++_}
 use Prim.Native.Nat.{ℕ, zero, suc, _+_, _≤_, _<_}
 use native.Mathlib.Omega.{arith}
 use native.Mathlib.Numerals.{add-one}
-use borrow.Author.Tests.{eqb-true, eqb-false, eq-eqb, ne-eqb}
+use borrow.Author.Tests.{eqb-true, eqb-false, eq-eqb, ne-eqb, lt-ltb, le-ltb}
 use lib.Dec.{eqb}
 use lib.ListN.{length, length-set}
 use lib.Seq.{take-suc-set, length-take-le, getD-set-same, getD-set-other}
 use Rattle.limits.specs.Limits as limit
 use Rattle.semantics.specs.Models.{elem, Program, line, Distinct}
 use Rattle.semantics.specs.Tables.{From}
-use Rattle.semantics.proofs.Tools.{either, same?, clash, or-true-cases, or-false, or-right, elem-cases, distinct-length}
+use Rattle.semantics.proofs.Tools.{either, same?, clash, or-true-cases, or-false, or-right, elem-cases}
 use Rattle.semantics.proofs.Growth.{founded-more}
 use Rattle.search_states.specs.declared.States.{States}
-use Rattle.search_states.specs.States.{row, by, from, nothing, appended, noted, added, Proper, Discovered}
-
--- 1 .. n
-span : ℕ → List ℕ
-span zero = []
-span (suc n) = suc n ∷ span n
-
-length-span : (n : ℕ) → length (span n) ≡ n
-unfolding span
-length-span zero = refl
-length-span (suc n) = ap suc (length-span n)
-
-elem-span : (t n : ℕ) → 1 ≤ t → t ≤ n → elem t (span n) ≡ true
-unfolding span
-elem-span t zero l h = absurd (omega arith)
-elem-span t (suc n) l h =
-    ⊎-elim
-    (λ (e : t ≡ suc n). rw (eq-eqb t (suc n) e))
-    (λ (e : t ≢ suc n). or-right (eqb t (suc n)) (elem t (span n)) (elem-span t n l (omega arith)))
-    (same? t (suc n))
+use Rattle.search_states.specs.States.{row, by, from, nothing, appended, noted, crowded, added, Proper, Discovered}
 
 pub only-one : (x y : ℕ) → elem x (y ∷ []) ≡ true → x ≡ y
 only-one x y e = ⊎-elim (λ q. eqb-true x y q) (λ q. absurd (false≢true q)) (or-true-cases (eqb x y) false e)
@@ -52,10 +33,6 @@ distinct-snoc (x ∷ xs) t d e =
       distinct-snoc xs t (d .1) (p .1),
     )
 
--- different numbers from 1 to n are at most n
-pub few : (xs : List ℕ) (n : ℕ) → Distinct xs → ((t : ℕ) → elem t xs ≡ true → (1 ≤ t) × (t < suc n)) → length xs ≤ n
-few xs n d h = let k = distinct-length xs (span n) d (λ t e. elem-span t n (h t e .0) (let q = h t e .1 in omega arith)) in omega (arith, length-span n)
-
 -- by what the tests of adding say
 pub added-empty : (s : States) (t ℓ p : ℕ) → t ≡ 0 → noted s ≡ added s t ℓ p
 unfolding added
@@ -65,9 +42,13 @@ pub added-same : (s : States) (t ℓ p : ℕ) → t ≢ 0 → elem t (row s) ≡
 unfolding added
 added-same s t ℓ p n e = rw (ne-eqb t 0 n, e)
 
-pub added-fresh : (s : States) (t ℓ p : ℕ) → t ≢ 0 → elem t (row s) ≡ false → appended s t ℓ p ≡ added s t ℓ p
+pub added-fresh : (s : States) (t ℓ p : ℕ) → t ≢ 0 → elem t (row s) ≡ false → s .count < limit.atomic → appended s t ℓ p ≡ added s t ℓ p
 unfolding added
-added-fresh s t ℓ p n e = rw (ne-eqb t 0 n, e)
+added-fresh s t ℓ p n e l = rw (ne-eqb t 0 n, e, lt-ltb (s .count) limit.atomic l)
+
+pub added-over : (s : States) (t ℓ p : ℕ) → t ≢ 0 → elem t (row s) ≡ false → limit.atomic ≤ s .count → crowded s ≡ added s t ℓ p
+unfolding added
+added-over s t ℓ p n e l = rw (ne-eqb t 0 n, e, le-ltb (s .count) limit.atomic l)
 
 -- the row of no states
 pub proper-nothing : Proper nothing
@@ -90,14 +71,12 @@ module _ (s : States) (proper : Proper s) where
   proper-noted =
       record { count = proper .count; states = proper .states; lines = proper .lines; origins = proper .origins; distinct = proper .distinct; atomic = proper .atomic }
 
-  module _ (t : ℕ) (some : t ≢ 0) (small : t < limit.sets) (fresh : elem t (row s) ≡ false) where
-    -- there is room for a state that is not empty and not listed
-    pub room : s .count < limit.atomic
-    room = omega (arith, length-row, few (t ∷ row s) limit.atomic (fresh, proper .distinct) atomic)
-      where
-        atomic : (x : ℕ) → elem x (t ∷ row s) ≡ true → (1 ≤ x) × (x < limit.sets)
-        atomic x e = ⊎-elim (λ q. rw (eqb-true x t q) (omega (arith, some), small)) (λ q. proper .atomic x q) (or-true-cases (eqb x t) (elem x (row s)) e)
+  -- and so does noting one too many
+  pub proper-crowded : Proper (crowded s)
+  proper-crowded =
+      record { count = proper .count; states = proper .states; lines = proper .lines; origins = proper .origins; distinct = proper .distinct; atomic = proper .atomic }
 
+  module _ (t : ℕ) (some : t ≢ 0) (small : t < limit.sets) (fresh : elem t (row s) ≡ false) (room : s .count < limit.atomic) where
     module _ (ℓ p : ℕ) where
       pub row-appended : row (appended s t ℓ p) ≡ row s ++ (t ∷ [])
       row-appended = rw add-one (take-suc-set (s .states) (s .count) t (let r = room in let b = proper .states in omega arith))

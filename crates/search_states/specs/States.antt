@@ -3,7 +3,7 @@ use mathlib.Core.Path.{_≡_}
 use mathlib.Core.Logic.{_⊎_}
 use mathlib.Core.Bool.{true, false, cond}
 use Prim.Native.Nat.{ℕ, _+_, _≤_, _<_}
-use lib.Dec.{eqb}
+use lib.Dec.{eqb, ltb}
 use lib.ListN.{length, take, getD, set, replicate}
 use Rattle.limits.specs.Limits as limit
 use Rattle.semantics.specs.Models.{elem, Program, Distinct}
@@ -28,22 +28,26 @@ Known s t = ((t ≡ 0) × (s .empty ≡ true)) ⊎ (elem t (row s) ≡ true)
 
 -- no state is found
 abbrev pub nothing : States
-nothing = record { states = replicate limit.atomic 0; lines = replicate limit.atomic 0; origins = replicate limit.atomic 0; count = 0; empty = false }
+nothing = record { states = replicate limit.atomic 0; lines = replicate limit.atomic 0; origins = replicate limit.atomic 0; count = 0; empty = false; over = false }
 
 -- the state t behind, which came by line ℓ from state p
 abbrev pub appended : States → ℕ → ℕ → ℕ → States
 appended s t ℓ p =
-    record { states = set (s .states) (s .count) t; lines = set (s .lines) (s .count) ℓ; origins = set (s .origins) (s .count) p; count = s .count + 1; empty = s .empty }
+    record { states = set (s .states) (s .count) t; lines = set (s .lines) (s .count) ℓ; origins = set (s .origins) (s .count) p; count = s .count + 1; empty = s .empty; over = s .over }
 
 -- the empty state noted
 abbrev pub noted : States → States
-noted s = record { states = s .states; lines = s .lines; origins = s .origins; count = s .count; empty = true }
+noted s = record { states = s .states; lines = s .lines; origins = s .origins; count = s .count; empty = true; over = s .over }
 
--- the state is added where it is not found: the empty one is noted, any other stands behind
+-- one state too many noted
+abbrev pub crowded : States → States
+crowded s = record { states = s .states; lines = s .lines; origins = s .origins; count = s .count; empty = s .empty; over = true }
+
+-- the state is added where it is not found: the empty one is noted, any other stands behind, or is one too many where there is no room
 unfoldable pub added : States → ℕ → ℕ → ℕ → States
-added s t ℓ p = cond (eqb t 0) (noted s) (cond (elem t (row s)) s (appended s t ℓ p))
+added s t ℓ p = cond (eqb t 0) (noted s) (cond (elem t (row s)) s (cond (ltb (s .count) limit.atomic) (appended s t ℓ p) (crowded s)))
 
--- the states of the row are different, none is empty, and each is a set of at most 7 relations
+-- the states of the row are different, none is empty, and each is a set of at most 24 relations
 pub record Proper (s : States) : Type 0 where
   pub count : s .count ≤ limit.atomic
   pub states : length (s .states) ≡ limit.atomic

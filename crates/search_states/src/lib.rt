@@ -6,18 +6,19 @@ ghost use Rattle.limits.specs.Limits as limit;
 ghost use Rattle.semantics.specs.Models.{elem};
 ghost use Rattle.semantics.specs.Tables.{seat};
 ghost use Rattle.search_states.specs.States.{nothing, appended, added, Proper};
-ghost use Rattle.search_states.specs.Rising.{Lists};
+ghost use Rattle.search_states.specs.Rising.{nearest, Least, Lists};
 use limits::ATOMIC;
 use limits::LISTED;
 use limits::SETS;
 
-// State i came by line lines[i] from state origins[i]. The empty state has no place in the row: it moves nothing and stands for no variable.
+// State i came by line lines[i] from state origins[i]. The empty state has no place in the row: it moves nothing and stands for no variable. A state more than the row has room for is noted as one too many.
 pub struct States {
     pub states: [u32; ATOMIC],
     pub lines: [u32; ATOMIC],
     pub origins: [u32; ATOMIC],
     pub count: usize,
     pub empty: bool,
+    pub over: bool,
 }
 
 // The states by rising number.
@@ -39,6 +40,7 @@ pub fn none() -> States
         origins,
         count: 0,
         empty: false,
+        over: false,
     }
 }
 
@@ -78,7 +80,7 @@ fn append(mut s: States, state: u32, line: u32, origin: u32) -> States
     s
 }
 
-// The row with the state behind, unless it is listed already; of the empty state it is noted that it is found.
+// The row with the state behind, unless it is listed already; of the empty state it is noted that it is found, and of a state for which there is no room that there is one too many.
 pub fn add(mut s: States, state: u32, line: u32, origin: u32) -> States
     requires { ⌜ Proper s × (state < limit.sets) ⌝ }
     ensures { λ r. ⌜ r ≡ added s state line origin ⌝ }
@@ -90,7 +92,38 @@ pub fn add(mut s: States, state: u32, line: u32, origin: u32) -> States
     if among(&s.states, s.count, state) {
         return s;
     }
-    append(s, state, line, origin)
+    if s.count < ATOMIC {
+        return append(s, state, line, origin);
+    }
+    s.over = true;
+    s
+}
+
+// The number that is nearer to t from above, where one is the best so far.
+fn nearer(best: u32, x: u32, t: u32) -> u32
+    ensures { λ r. ⌜ r ≡ nearest best x t ⌝ }
+{
+    if x < t {
+        return best;
+    }
+    if x < best {
+        return x;
+    }
+    best
+}
+
+// The least of the first n numbers of the row that is at least t, or SETS where there is none below it.
+fn least(row: &[u32], n: usize, t: u32) -> u32
+    requires { ⌜ n ≤ length (now row) ⌝ }
+    ensures { λ r. ⌜ Least (take n (now (row .entry))) t r ⌝ }
+{
+    let mut best = SETS;
+    let mut i = 0;
+    while i < n {
+        best = nearer(best, row[i], t);
+        i += 1;
+    }
+    best
 }
 
 // The found states by rising number.
@@ -104,13 +137,11 @@ pub fn rising(s: States) -> Listing
     if s.empty {
         count = 1;
     }
-    let mut t: u32 = 1;
+    let mut t = least(&s.states, s.count, 1);
     while t < SETS {
-        if among(&s.states, s.count, t) {
-            states[count] = t;
-            count += 1;
-        }
-        t += 1;
+        states[count] = t;
+        count += 1;
+        t = least(&s.states, s.count, t + 1);
     }
     Listing { states, count }
 }

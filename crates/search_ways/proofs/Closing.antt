@@ -7,7 +7,9 @@ use Prim.Native.Nat.{ℕ, zero, suc, _≤_, _<_}
 use native.Mathlib.Omega.{arith}
 use native.Mathlib.Nat.{not-suc-le-zero}
 use lib.ListN.{replicate}
+use Rattle.limits.specs.Limits as limit
 use Rattle.semantics.proofs.Tools.{same?}
+use Rattle.facts_bits.specs.Width as width
 use Rattle.facts_bits.specs.Bits.{bitAt, inRow, Kept}
 use Rattle.facts_bits.proofs.Laws.{full-bits}
 use Rattle.search_ways.specs.Moves.{Marks, With}
@@ -16,11 +18,11 @@ use Rattle.search_ways.specs.Chains.{Inside, Links, Linked, Through}
 use Rattle.search_ways.proofs.Marking.{marks-so, Upto}
 
 -- row k by value
-pub copied : (w : List ℕ) (k : ℕ) (r : List ℕ) → Kept (replicate 16 255) w k r → (t : ℕ) → t < 128 → bitAt r t ≡ inRow w k t
-copied w k r h t l = h .bits t l ∙ ap (λ b. b && inRow w k t) (full-bits t l)
+pub copied : (w : List ℕ) (k : ℕ) (r : List ℕ) → Kept (replicate width.bytes 255) w k r → (t : ℕ) → t < width.slots → bitAt r t ≡ inRow w k t
+copied w k r h t l = h .bits t (omega arith) ∙ ap (λ b. b && inRow w k t) (full-bits t (omega arith))
 
 -- rows that are not reached yet are as they were
-pub unchanged : (w₀ w : List ℕ) (n e : ℕ) (D : ℕ → ℕ → Type 0) → Marks w (With w₀ (Upto e n D)) → (t : ℕ) → t < 128 → inRow w e t ≡ true ↔ inRow w₀ e t ≡ true
+pub unchanged : (w₀ w : List ℕ) (n e : ℕ) (D : ℕ → ℕ → Type 0) → Marks w (With w₀ (Upto e n D)) → (t : ℕ) → t < width.slots → inRow w e t ≡ true ↔ inRow w₀ e t ≡ true
 unchanged w₀ w n e D m t l = let p = m .bits e t l in ((λ q. ⊎-elim (λ x. x) (λ x. absurd (omega (arith, x .0))) (p .0 q)), λ q. p .1 (inl q))
 
 -- BY WAY OF THE SLOTS BELOW k
@@ -55,8 +57,8 @@ module _ (w : List ℕ) where
       from t (inl x) = x
       from t (inr x) = x .1
 
-  module _ (n : ℕ) (few : n ≤ 128) (inside : Inside n w) where
-    via-inside : (k e t : ℕ) → k ≤ n → t < 128 → Via k e t → (e < n) × (t < n)
+  module _ (n : ℕ) (few : n ≤ limit.listed) (inside : Inside n w) where
+    via-inside : (k e t : ℕ) → k ≤ n → t < width.slots → Via k e t → (e < n) × (t < n)
     via-inside zero e t h l v = inside e t l v
     via-inside (suc k) e t h l v = ⊎-elim
         (λ x. via-inside k e t (omega arith) l x)
@@ -91,7 +93,7 @@ module _ (w : List ℕ) where
   linked-via n e t [] h = via-first n e t h
   linked-via n e t (u ∷ us) h = via-through n u e t (h .0) (via-first n e u (h .1)) (linked-via n u t us (h .2))
 
-  pub via-all : (n : ℕ) → n ≤ 128 → Inside n w → (w′ : List ℕ) → Marks w′ (Via n) → Marks w′ (Between n (Linked w n))
+  pub via-all : (n : ℕ) → n ≤ limit.listed → Inside n w → (w′ : List ℕ) → Marks w′ (Via n) → Marks w′ (Between n (Linked w n))
   via-all n few inside w′ h = marks-so w′ (Via n) (Between n (Linked w n))
       (λ e t l. (
         λ v. let b = via-inside n few inside n e t (omega arith) l v in (b .0, b .1, via-linked n n e t (omega arith) v),

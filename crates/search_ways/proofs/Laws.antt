@@ -15,6 +15,7 @@ use Rattle.model.specs.declared.Model.{Model}
 use Rattle.model.specs.Records.{clauseLine, programOf, clauseAt}
 use Rattle.model.specs.WellFormed.{WellFormed}
 use Rattle.model.proofs.Lines.{every-line}
+use Rattle.facts_bits.specs.Width as width
 use Rattle.facts_table.specs.Table.{tableOf}
 use Rattle.search_states.specs.declared.States.{States}
 use Rattle.search_states.specs.States.{row, Proper}
@@ -42,7 +43,7 @@ between-inside n w R m e t l h = let b = m .bits e t l .0 h in (b .0, b .1)
 
 -- CHAINS OF STEPS ARE WAYS
 module _ (m : Model) (wf : WellFormed m) (s : States) (proper : Proper s) (steps : List ℕ) (marked : Marks steps (Between (s .count) (OneStep (programOf m) (row s)))) where
-  small : {e : ℕ} → e < s .count → e < 128
+  small : {e : ℕ} → e < s .count → e < width.slots
   small l = omega (arith, proper .count)
 
   -- a slot's state is not empty

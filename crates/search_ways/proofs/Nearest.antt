@@ -11,6 +11,7 @@ use lib.Dec.{eqb, ltb}
 use borrow.Author.Tests.{eqb-true, eqb-false, ltb-true, ltb-false}
 use lib.ListN.{length, set, take, length-set}
 use lib.Seq.{slice, slice-cons, take-set-lt, drop-set-lt, getD-set-same}
+use Rattle.limits.specs.Limits as limit
 use Rattle.semantics.specs.Models.{line}
 use Rattle.semantics.specs.Facts.{state}
 use Rattle.semantics.specs.Tables.{seat}
@@ -21,23 +22,24 @@ use Rattle.semantics.proofs.WalkersSlots.{one-slot, takes-within}
 use Rattle.model.specs.declared.Model.{Model}
 use Rattle.model.specs.Records.{programOf}
 use Rattle.model.specs.WellFormed.{WellFormed}
+use Rattle.facts_bits.specs.Width as width
 use Rattle.facts_bits.specs.Bits.{withBit, inRow}
 use Rattle.search_states.specs.declared.States.{States}
 use Rattle.search_states.specs.States.{row, Proper}
 use Rattle.search_states.proofs.Laws.{length-row}
-use Rattle.search_ways.specs.Moves.{Marks, None, With, InRow}
+use Rattle.search_ways.specs.Moves.{matrixBytes, Marks, None, With, InRow}
 use Rattle.search_ways.specs.Steps.{Between, OneStep}
 use Rattle.search_ways.specs.Shortest.{Says, Near, NotBefore, Layers, Joined}
 use Rattle.search_ways.proofs.Marking.{marks-so, marks-same, marks-bit, marks-then}
 use Rattle.search_ways.proofs.Laws.{slot-live}
 
 -- THE NEXT LAYER, slot by slot: the slots below u of row j are taken
-pub spread-none : (w l : List ℕ) (i j : ℕ) → Marks l (With l (InRow i 128 (Joined w l 0 j)))
-spread-none w l i j = marks-same l (InRow i 128 (Joined w l 0 j)) (λ k t q. omega (arith, q .2 .1))
+pub spread-none : (w l : List ℕ) (i j : ℕ) → Marks l (With l (InRow i width.slots (Joined w l 0 j)))
+spread-none w l i j = marks-same l (InRow i width.slots (Joined w l 0 j)) (λ k t q. omega (arith, q .2 .1))
 
-module _ (w l₀ l : List ℕ) (i j u : ℕ) (m : Marks l (With l₀ (InRow i 128 (Joined w l₀ u j)))) where
-  pub spread-more : inRow l₀ j u ≡ true → (l′ : List ℕ) (D : ℕ → Type 0) → ((t : ℕ) → t < 128 → D t ↔ (inRow w u t ≡ true)) → Marks l′ (With l (InRow i 128 D)) → Marks l′ (With l₀ (InRow i 128 (Joined w l₀ (u + 1) j)))
-  spread-more q l′ D f h = marks-so l′ (With l₀ (λ k t. InRow i 128 (Joined w l₀ u j) k t ⊎ InRow i 128 D k t)) (With l₀ (InRow i 128 (Joined w l₀ (u + 1) j)))
+module _ (w l₀ l : List ℕ) (i j u : ℕ) (m : Marks l (With l₀ (InRow i width.slots (Joined w l₀ u j)))) where
+  pub spread-more : inRow l₀ j u ≡ true → (l′ : List ℕ) (D : ℕ → Type 0) → ((t : ℕ) → t < width.slots → D t ↔ (inRow w u t ≡ true)) → Marks l′ (With l (InRow i width.slots D)) → Marks l′ (With l₀ (InRow i width.slots (Joined w l₀ (u + 1) j)))
+  spread-more q l′ D f h = marks-so l′ (With l₀ (λ k t. InRow i width.slots (Joined w l₀ u j) k t ⊎ InRow i width.slots D k t)) (With l₀ (InRow i width.slots (Joined w l₀ (u + 1) j)))
       (λ k t g. (
         λ a. ⊎-elim
             (λ x. inl x)
@@ -51,10 +53,10 @@ module _ (w l₀ l : List ℕ) (i j u : ℕ) (m : Marks l (With l₀ (InRow i 12
             (same? (x .2 .0) u)))
             a,
       ))
-      (marks-then l₀ l l′ (InRow i 128 (Joined w l₀ u j)) (InRow i 128 D) m h)
+      (marks-then l₀ l l′ (InRow i width.slots (Joined w l₀ u j)) (InRow i width.slots D) m h)
 
-  pub spread-skip : inRow l₀ j u ≡ false → Marks l (With l₀ (InRow i 128 (Joined w l₀ (u + 1) j)))
-  spread-skip q = marks-so l (With l₀ (InRow i 128 (Joined w l₀ u j))) (With l₀ (InRow i 128 (Joined w l₀ (u + 1) j)))
+  pub spread-skip : inRow l₀ j u ≡ false → Marks l (With l₀ (InRow i width.slots (Joined w l₀ (u + 1) j)))
+  spread-skip q = marks-so l (With l₀ (InRow i width.slots (Joined w l₀ u j))) (With l₀ (InRow i width.slots (Joined w l₀ (u + 1) j)))
       (λ k t g. (
         λ a. ⊎-elim (λ x. inl x) (λ x. inr (x .0, x .1, (x .2 .0, omega (arith, x .2 .1), x .2 .2))) a,
         λ a. ⊎-elim
@@ -68,8 +70,8 @@ module _ (w l₀ l : List ℕ) (i j u : ℕ) (m : Marks l (With l₀ (InRow i 12
       m
 
 -- LAYER BY LAYER
-module _ (w : List ℕ) (n : ℕ) (few : n ≤ 128) (e : ℕ) where
-  pub layers-start : e < n → (l : List ℕ) → Marks l None → length l ≡ 2048 → Marks (withBit l e) (Layers w n e 0)
+module _ (w : List ℕ) (n : ℕ) (few : n ≤ limit.listed) (e : ℕ) where
+  pub layers-start : e < n → (l : List ℕ) → Marks l None → length l ≡ matrixBytes → Marks (withBit l e) (Layers w n e 0)
   layers-start h l m long = marks-so (withBit l e) (With l (λ k t. (k ≡ 0) × (t ≡ e))) (Layers w n e 0)
       (λ k t g. (
         λ a. ⊎-elim (λ x. absurd (m .bits k t g .0 x)) (λ x. (omega (arith, x .0), rw (x .0) (sym (x .1)))) a,
@@ -77,8 +79,8 @@ module _ (w : List ℕ) (n : ℕ) (few : n ≤ 128) (e : ℕ) where
       ))
       (rw (zero-add e) at (marks-bit l 0 e (omega arith) (omega arith)))
 
-  pub layers-more : (j : ℕ) (l l′ : List ℕ) → Marks l (Layers w n e j) → Marks l′ (With l (InRow (j + 1) 128 (Joined w l n j))) → Marks l′ (Layers w n e (j + 1))
-  layers-more j l l′ m h = marks-so l′ (With l (InRow (j + 1) 128 (Joined w l n j))) (Layers w n e (j + 1))
+  pub layers-more : (j : ℕ) (l l′ : List ℕ) → Marks l (Layers w n e j) → Marks l′ (With l (InRow (j + 1) width.slots (Joined w l n j))) → Marks l′ (Layers w n e (j + 1))
+  layers-more j l l′ m h = marks-so l′ (With l (InRow (j + 1) width.slots (Joined w l n j))) (Layers w n e (j + 1))
       (λ k t g. (
         λ a. ⊎-elim
             (λ x. let y = m .bits k t g .0 x in (omega (arith, y .0), y .1))

@@ -7,6 +7,7 @@ use Prim.Native.Nat.{ℕ, _+_, _*_, _≤_, _<_}
 use native.Mathlib.Omega.{arith}
 use lib.ListN.{length, take, getD}
 use lib.Seq.{getD-take, length-take-le}
+use Rattle.limits.specs.Limits as limit
 use Rattle.semantics.specs.Labels.{relabel}
 use Rattle.semantics.specs.Models.{elem, Body, SafeLine, Program, line, Distinct}
 use Rattle.semantics.specs.Facts.{Database, state, Derived}
@@ -23,17 +24,18 @@ use Rattle.model.specs.Records.{lineOf, clauseBody, programOf, clauseAt}
 use Rattle.model.specs.WellFormed.{WellFormed}
 use Rattle.model.proofs.Accepted.{on-line, clause-safe}
 use Rattle.model.proofs.Lines.{clause-or-other}
+use Rattle.facts_bits.specs.Width as width
 use Rattle.facts_bits.specs.Bits.{withBit, inRow}
 use Rattle.search_states.specs.declared.States.{States}
 use Rattle.search_states.specs.States.{row, Proper}
 use Rattle.search_states.proofs.Laws.{length-row}
 use Rattle.search_states.proofs.Seats.{seat-in, seat-out}
-use Rattle.search_ways.specs.Moves.{Marks, None, With, Starts, InRow, CanTake}
+use Rattle.search_ways.specs.Moves.{matrixBytes, Marks, None, With, Starts, InRow, CanTake}
 use Rattle.search_ways.specs.Steps.{Between, Turns, Led, OneStep}
 use Rattle.search_ways.proofs.Marking.{marks-so, marks-same, row-put}
 
 -- WHERE A SLOT IS LED: to the one slot that has its relabeled state
-module _ (states : List ℕ) (n : ℕ) (long : n ≤ length states) (one : Distinct (take n states)) (few : n ≤ 128) (plus minus e : ℕ) (here : e < n) (w : List ℕ) (size : length w ≡ 2048) where
+module _ (states : List ℕ) (n : ℕ) (long : n ≤ length states) (one : Distinct (take n states)) (few : n ≤ limit.listed) (plus minus e : ℕ) (here : e < n) (w : List ℕ) (size : length w ≡ matrixBytes) where
   abbrev S : Database
   S = take n states
 
@@ -47,7 +49,7 @@ module _ (states : List ℕ) (n : ℕ) (long : n ≤ length states) (one : Disti
   at : relabel (getD states e 0) plus minus ≡ relabel (state S e) plus minus
   at = ap (λ (x : ℕ). relabel x plus minus) (sym (getD-take n states e 0 here))
 
-  pub led-one : (t : ℕ) → t ≡ seat (relabel (getD states e 0) plus minus) S → t < n → Marks (withBit w (e * 128 + t)) (With w (InRow e n Fits))
+  pub led-one : (t : ℕ) → t ≡ seat (relabel (getD states e 0) plus minus) S → t < n → Marks (withBit w (e * width.bits + t)) (With w (InRow e n Fits))
   led-one t q h = row-put w e n t Fits h (omega arith) (omega arith) fits (λ u l g. one-slot S one u t (rw length-S l) (rw length-S h) (g ∙ sym fits))
     where
       fits : Fits t
@@ -126,7 +128,7 @@ module _ (m : Model) (wf : WellFormed m) (s : States) (proper : Proper s) where
   )
 
   module _ (table : List ℕ) (marked : Marks table (CanTake m s)) where
-    small : (e : ℕ) → e < s .count → e < 128
+    small : (e : ℕ) → e < s .count → e < width.slots
     small e l = omega (arith, proper .count)
 
     -- the table has a clause for each move

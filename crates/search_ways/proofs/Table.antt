@@ -16,6 +16,7 @@ use Rattle.model.specs.declared.Model.{Model}
 use Rattle.model.specs.Records.{lineOf, clauseBody, programOf, clauseAt}
 use Rattle.model.specs.WellFormed.{WellFormed}
 use Rattle.model.proofs.Accepted.{clause-safe}
+use Rattle.facts_bits.specs.Width as width
 use Rattle.facts_bits.specs.Bits.{bitAt, inRow, Copied, Joined}
 use Rattle.facts_heads.specs.Heads.{guard, IsMark}
 use Rattle.facts_plans.specs.Plans.{headOf}
@@ -33,8 +34,8 @@ module _ (m : Model) (w : List ℕ) where
   pub below-none : (t : List ℕ) → Marks t None → Marks t (Below 0)
   below-none t h = marks-so t None (Below 0) (λ k e l. ((λ q. absurd q), λ q. omega (arith, q .0))) h
 
-  pub below-more : (i : ℕ) (t t′ : List ℕ) → Marks t (Below i) → Marks t′ (With t (InRow i 128 (Noted (clauseAt m i .action) w i))) → Marks t′ (Below (i + 1))
-  below-more i t t′ a b = marks-so t′ (With t (InRow i 128 (Noted (clauseAt m i .action) w i))) (Below (i + 1))
+  pub below-more : (i : ℕ) (t t′ : List ℕ) → Marks t (Below i) → Marks t′ (With t (InRow i width.slots (Noted (clauseAt m i .action) w i))) → Marks t′ (Below (i + 1))
+  below-more i t t′ a b = marks-so t′ (With t (InRow i width.slots (Noted (clauseAt m i .action) w i))) (Below (i + 1))
       (λ k e l. let p = a .bits k e l in (
         λ q. ⊎-elim (λ x. let y = p .0 x in (omega (arith, y .0), y .1)) (λ x. (omega (arith, x .0), subst (λ (j : ℕ). Noted (clauseAt m j .action) w j e) (sym (x .0)) (x .2))) q,
         λ q. ⊎-elim (λ (z : k ≡ i). inr (z, l, subst (λ (j : ℕ). Noted (clauseAt m j .action) w j e) z (q .1))) (λ (z : k ≢ i). inl (p .1 (omega (arith, q .0), q .1))) (same? k i),
@@ -42,11 +43,11 @@ module _ (m : Model) (w : List ℕ) where
       b
 
 -- the row of the marks, joined to row i of the table
-pub copied-row : (w : List ℕ) (i : ℕ) (r : List ℕ) → Copied w (guard i) r → (t t′ : List ℕ) → Joined t i r t′ → Marks t′ (With t (InRow i 128 (λ e. inRow w (guard i) e ≡ true)))
-copied-row w i r c t t′ j = marks-so t′ (With t (InRow i 128 (λ e. bitAt r e ≡ true))) (With t (InRow i 128 (λ e. inRow w (guard i) e ≡ true)))
+pub copied-row : (w : List ℕ) (i : ℕ) (r : List ℕ) → Copied w (guard i) r → (t t′ : List ℕ) → Joined t i r t′ → Marks t′ (With t (InRow i width.slots (λ e. inRow w (guard i) e ≡ true)))
+copied-row w i r c t t′ j = marks-so t′ (With t (InRow i width.slots (λ e. bitAt r e ≡ true))) (With t (InRow i width.slots (λ e. inRow w (guard i) e ≡ true)))
     (λ k e l. (
-      λ q. ⊎-elim (λ x. inl x) (λ x. inr (x .0, x .1, sym (c .bits e l) ∙ x .2)) q,
-      λ q. ⊎-elim (λ x. inl x) (λ x. inr (x .0, x .1, c .bits e l ∙ x .2)) q,
+      λ q. ⊎-elim (λ x. inl x) (λ x. inr (x .0, x .1, sym (c .bits e (omega arith)) ∙ x .2)) q,
+      λ q. ⊎-elim (λ x. inl x) (λ x. inr (x .0, x .1, c .bits e (omega arith) ∙ x .2)) q,
     ))
     (marks-join t i r t′ j)
 

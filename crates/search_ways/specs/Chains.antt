@@ -3,11 +3,12 @@ use mathlib.Core.Path.{_≡_}
 use mathlib.Core.Bool.{true}
 use mathlib.Core.List.{List, [], _∷_}
 use Prim.Native.Nat.{ℕ, _<_}
+use Rattle.facts_bits.specs.Width as width
 use Rattle.facts_bits.specs.Bits.{inRow}
 
 -- only slots below n are marked
 abbrev pub Inside : ℕ → List ℕ → Type 0
-Inside n w = (e t : ℕ) → t < 128 → inRow w e t ≡ true → (e < n) × (t < n)
+Inside n w = (e t : ℕ) → t < width.slots → inRow w e t ≡ true → (e < n) × (t < n)
 
 -- the pairs from e by way of us to t are all marked
 abbrev pub Links : List ℕ → ℕ → ℕ → List ℕ → ℕ → Type 0

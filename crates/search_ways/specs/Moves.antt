@@ -1,10 +1,10 @@
 -- THE TABLE OF MOVES: from which of the found states each clause can be taken.
--- S is the row of found states, and a slot is a place in it. Tables are rows of 128 bits, one bit for each slot.
+-- S is the row of found states, and a slot is a place in it. Tables are rows with a bit for each slot.
 use mathlib.Core.Path.{_≡_}
 use mathlib.Core.Logic.{_⊎_, _↔_}
 use mathlib.Core.Bool.{true}
 use mathlib.Core.List.{List}
-use Prim.Native.Nat.{ℕ, _<_}
+use Prim.Native.Nat.{ℕ, _*_, _<_}
 use Rattle.limits.specs.Limits as limit
 use Rattle.semantics.specs.Models.{Body, Line, rule, new, next, other}
 use Rattle.semantics.specs.Facts.{Database, Holds, In, Derived}
@@ -12,6 +12,7 @@ use Rattle.model.specs.declared.Action.{Action}
 use Rattle.model.specs.declared.Action.the-variants.{Rule, New, Next}
 use Rattle.model.specs.declared.Model.{Model}
 use Rattle.model.specs.Records.{clauseLine, programOf, clauseAt}
+use Rattle.facts_bits.specs.Width as width
 use Rattle.facts_bits.specs.Bits.{inRow}
 use Rattle.facts_table.specs.Table.{tableOf, Consistent, Rows}
 use Rattle.facts_heads.specs.Heads.{guard}
@@ -19,9 +20,16 @@ use Rattle.facts_plans.specs.Plans.{Allowed}
 use Rattle.search_states.specs.declared.States.{States}
 use Rattle.search_states.specs.States.{row, Proper}
 
+-- the bytes of a table of moves, with a row for each clause, and of a matrix, with a row for each slot of a search
+abbrev pub tableBytes : ℕ
+tableBytes = limit.clauses * width.bytes
+
+abbrev pub matrixBytes : ℕ
+matrixBytes = limit.listed * width.bytes
+
 -- THE MARKED PAIRS: bit e of row i is set exactly if R i e
 pub record Marks (w : List ℕ) (R : ℕ → ℕ → Type 0) : Type 0 where
-  pub bits : (i e : ℕ) → e < 128 → (inRow w i e ≡ true) ↔ R i e
+  pub bits : (i e : ℕ) → e < width.slots → (inRow w i e ≡ true) ↔ R i e
 
 -- no pair
 abbrev pub None : ℕ → ℕ → Type 0
@@ -58,7 +66,7 @@ pub record Exactly (m : Model) (w : List ℕ) (s : States) : Type 0 where
   pub agree : Consistent w
   pub shown : Rows (row s) w
   pub facts : (r : ℕ) (os : List ℕ) → In (tableOf w) r os ↔ Derived (programOf m) (row s) r os
-  pub marks : (i e : ℕ) → i < limit.clauses → e < 128 → inRow w (guard i) e ≡ true ↔ Allowed m (row s) i e
+  pub marks : (i e : ℕ) → i < limit.clauses → e < width.slots → inRow w (guard i) e ≡ true ↔ Allowed m (row s) i e
 
 -- THE TABLE OF MOVES: clause i can be taken from slot e
 abbrev pub CanTake : Model → States → ℕ → ℕ → Type 0

@@ -49,27 +49,35 @@ module _ (D : grammar.Declared) (w : Word) where
   state-again t c z h e k = rw (z, lt-leb limit.states t h, e, ne-eqb c 128 k)
 
   module _ (n a b p : ℕ) (x : count 1 D ≡ a) (y : count 2 D ≡ b) (z : count 3 D ≡ p) where
-    pub rel-crowded : 16 ≤ a + b + p → relNumber D w n ≡ 4
+    pub rel-crowded : limit.rels ≤ a + b + p → relNumber D w n ≡ 4
     unfolding relNumber
-    rel-crowded h = rw (x, y, z, le-leb 16 (a + b + p) h) (crowded (again (lookup w D)))
+    rel-crowded h = rw (x, y, z, le-leb limit.rels (a + b + p) h) (crowded (again (lookup w D)))
 
-    pub rel-pairs : a + b + p < 16 → n ≡ 2 → 6 ≤ p → relNumber D w n ≡ 4
+    pub rel-pairs : a + b + p < limit.rels → n ≡ 2 → limit.pairs ≤ p → relNumber D w n ≡ 4
     unfolding relNumber
-    rel-pairs h k l = rw (x, y, z, lt-leb 16 (a + b + p) h, eq-eqb n 2 k, le-leb 6 p l) (crowded (again (lookup w D)))
+    rel-pairs h k l = rw (x, y, z, lt-leb limit.rels (a + b + p) h, eq-eqb n 2 k, le-leb limit.pairs p l) (crowded (again (lookup w D)))
 
-    module _ (c : ℕ) (h : a + b + p < 16) (k : (eqb n 2 && leb 6 p) ≡ false) (e : lookup w D ≡ found c) where
+    module _ (c : ℕ) (h : a + b + p < limit.rels) (k : (eqb n 2 && leb limit.pairs p) ≡ false) (e : lookup w D ≡ found c) where
       pub rel-free : c ≡ 128 → relNumber D w n ≡ 0
       unfolding relNumber lower
-      rel-free q = rw (x, y, z, lt-leb 16 (a + b + p) h, k, e, eq-eqb c 128 q)
+      rel-free q = rw (x, y, z, lt-leb limit.rels (a + b + p) h, k, e, eq-eqb c 128 q)
 
       pub rel-again : (c ≡ 128 → ⊥) → relNumber D w n ≡ 5
       unfolding relNumber lower
-      rel-again q = rw (x, y, z, lt-leb 16 (a + b + p) h, k, e, ne-eqb c 128 q)
+      rel-again q = rw (x, y, z, lt-leb limit.rels (a + b + p) h, k, e, ne-eqb c 128 q)
 
 -- COUNTS
 pub tally-le : (k : ℕ) (codes : List ℕ) (n : ℕ) → tally k codes n ≤ n
 tally-le k codes zero = omega arith
 tally-le k codes (suc n) = let h = tally-le k codes n in ⊎-elim (λ (q : eqb (getD codes n 0 / 32) k ≡ true). rw q (omega arith)) (λ (q : eqb (getD codes n 0 / 32) k ≡ false). rw q (omega arith)) (either (eqb (getD codes n 0 / 32) k))
+
+-- each class is below its own limit, and so below 32
+tally-small : {d : Declared} → Limited d → (k : ℕ) → k < 4 → tally k (d .codes) (d .count) < 32
+tally-small l zero h = omega (arith, l .states)
+tally-small l (suc zero) h = omega (arith, l .derived)
+tally-small l (suc (suc zero)) h = omega (arith, l .derived)
+tally-small l (suc (suc (suc zero))) h = omega (arith, l .derived)
+tally-small l (suc (suc (suc (suc k)))) h = absurd (omega arith)
 
 tally-set : (k : ℕ) (codes : List ℕ) (i c n : ℕ) → n ≤ i → tally k (set codes i c) n ≡ tally k codes n
 tally-set k codes i c zero h = refl
@@ -88,15 +96,15 @@ module _ (codes : List ℕ) (n k t : ℕ) (h : n < length codes) (small : t < 32
 
 -- THE DECLARATIONS WITH ONE NAME MORE
 module _ (text : List ℕ) (d : Declared) (a e : ℕ) (v : Valid text d) (l : Limited d) (h : a ≤ e) (k : e ≤ length text) where
-  pub room : (tally 0 (d .codes) (d .count) < limit.states) ⊎ (tally 1 (d .codes) (d .count) + tally 2 (d .codes) (d .count) + tally 3 (d .codes) (d .count) < 16) → d .count < limit.declared
-  room r = ⊎-elim (λ (q : tally 0 (d .codes) (d .count) < limit.states). omega (arith, l .total, l .derived)) (λ (q : tally 1 (d .codes) (d .count) + tally 2 (d .codes) (d .count) + tally 3 (d .codes) (d .count) < 16). omega (arith, l .total, l .states)) r
+  pub room : (tally 0 (d .codes) (d .count) < limit.states) ⊎ (tally 1 (d .codes) (d .count) + tally 2 (d .codes) (d .count) + tally 3 (d .codes) (d .count) < limit.rels) → d .count < limit.declared
+  room r = ⊎-elim (λ (q : tally 0 (d .codes) (d .count) < limit.states). omega (arith, l .total, l .derived)) (λ (q : tally 1 (d .codes) (d .count) + tally 2 (d .codes) (d .count) + tally 3 (d .codes) (d .count) < limit.rels). omega (arith, l .total, l .states)) r
 
   module _ (j : ℕ) (few : d .count < limit.declared) where
     abbrev code : ℕ
     code = 32 * j + tally j (d .codes) (d .count)
 
     pub entered-valid : j < 4 → Valid text (added d a (e - a) code)
-    entered-valid q = valid-added v few a (e - a) code (omega arith) (let y = tally-le j (d .codes) (d .count) in omega arith)
+    entered-valid q = valid-added v few a (e - a) code (omega arith) (omega (arith, tally-small l j q))
 
     pub entered-names : declaredOf text (added d a (e - a) code) ≡ declaredOf text d ++ ((slice a e text, code) ∷ [])
     entered-names = let z : a + (e - a) ≡ e = omega arith in rw (declared-added v few a (e - a) code, z)
@@ -121,17 +129,16 @@ module _ (d : Declared) (name len k : ℕ) (c : length (d .codes) ≡ limit.decl
   abbrev T : ℕ → ℕ
   T j = tally j (d .codes) (d .count)
 
-  limited-added : k < 4 → T 0 + bump k 0 ≤ limit.states → T 1 + bump k 1 + (T 2 + bump k 2) + (T 3 + bump k 3) ≤ 16 → Limited (added d name len (32 * k + T k))
+  limited-added : k < 4 → T 0 + bump k 0 ≤ limit.states → T 1 + bump k 1 + (T 2 + bump k 2) + (T 3 + bump k 3) ≤ limit.rels → Limited (added d name len (32 * k + T k))
   limited-added q a b =
-      let y : T k < 32 = (let w = tally-le k (d .codes) (d .count) in omega arith) in
-      let o : (j : ℕ) → tally j (set (d .codes) (d .count) (32 * k + T k)) (d .count + 1) ≡ T j + bump k j = λ j. tally-after (d .codes) (d .count) k (T k) j (omega arith) y in
+      let o : (j : ℕ) → tally j (set (d .codes) (d .count) (32 * k + T k)) (d .count + 1) ≡ T j + bump k j = λ j. tally-after (d .codes) (d .count) k (T k) j (omega arith) (tally-small l k q) in
       let m = bumps k q in
       record { total = rw (o 0, o 1, o 2, o 3) (omega (arith, l .total)); states = rw (o 0) a; derived = rw (o 1, o 2, o 3) b }
 
 pub limited-state : (d : Declared) (name len : ℕ) → length (d .codes) ≡ limit.declared → Limited d → d .count < limit.declared → tally 0 (d .codes) (d .count) < limit.states → Limited (added d name len (32 * 0 + tally 0 (d .codes) (d .count)))
 limited-state d name len c l few h = limited-added d name len 0 c l few (omega arith) (omega arith) (omega (arith, l .derived))
 
-pub limited-rel : (d : Declared) (name len n : ℕ) → length (d .codes) ≡ limit.declared → Limited d → d .count < limit.declared → n ≤ 2 → tally 1 (d .codes) (d .count) + tally 2 (d .codes) (d .count) + tally 3 (d .codes) (d .count) < 16
+pub limited-rel : (d : Declared) (name len n : ℕ) → length (d .codes) ≡ limit.declared → Limited d → d .count < limit.declared → n ≤ 2 → tally 1 (d .codes) (d .count) + tally 2 (d .codes) (d .count) + tally 3 (d .codes) (d .count) < limit.rels
     → Limited (added d name len (32 * (n + 1) + tally (n + 1) (d .codes) (d .count)))
 limited-rel d name len n c l few h k =
     let z : bump (n + 1) 0 ≡ 0 = (rw (ne-eqb (n + 1) 0 (λ y. absurd (omega arith)))) in
@@ -216,13 +223,13 @@ module _ {text : List ℕ} {at : ℕ} where
     }
 
 -- `rel`
-pub rel-few : (text : List ℕ) (d : Declared) (u : Word) (n : ℕ) → relNumber (declaredOf text d) u n ≡ 0 → tally 1 (d .codes) (d .count) + tally 2 (d .codes) (d .count) + tally 3 (d .codes) (d .count) < 16
+pub rel-few : (text : List ℕ) (d : Declared) (u : Word) (n : ℕ) → relNumber (declaredOf text d) u n ≡ 0 → tally 1 (d .codes) (d .count) + tally 2 (d .codes) (d .count) + tally 3 (d .codes) (d .count) < limit.rels
 unfolding relNumber
 rel-few text d u n z =
     let D = declaredOf text d in
     let s = count 1 D + count 2 D + count 3 D in
-    ⊎-elim (λ (q : leb 16 s ≡ true). absurd (let y = rw (q, crowded (again (lookup u D))) at z in omega arith))
-    (λ (q : leb 16 s ≡ false). let y = leb-false 16 s q in omega (arith, tally-count text d 1, tally-count text d 2, tally-count text d 3)) (either (leb 16 s))
+    ⊎-elim (λ (q : leb limit.rels s ≡ true). absurd (let y = rw (q, crowded (again (lookup u D))) at z in omega arith))
+    (λ (q : leb limit.rels s ≡ false). let y = leb-false limit.rels s q in omega (arith, tally-count text d 1, tally-count text d 2, tally-count text d 3)) (either (leb limit.rels s))
 
 module _ (text : List ℕ) (d : Declared) (at e n : ℕ) (h : name (drop at text) ≡ some (slice at e text, drop e text)) (k : after (bytes " ") (drop e text) ≡ some (drop (e + 1) text))
     (a : arity (drop (e + 1) text) ≡ some (n, drop (e + 1 + 1) text)) where
@@ -256,7 +263,7 @@ module _ (text : List ℕ) (d : Declared) (at e n : ℕ) (h : name (drop at text
       }
 
       pub rel-added : {r : Declared} → n ≤ 2 → Valid text d → Limited d → at ≤ e → e ≤ length text → relNumber (declaredOf text d) v n ≡ 0
-          → tally 1 (d .codes) (d .count) + tally 2 (d .codes) (d .count) + tally 3 (d .codes) (d .count) < 16 → Entered d at e (n + 1) r
+          → tally 1 (d .codes) (d .count) + tally 2 (d .codes) (d .count) + tally 3 (d .codes) (d .count) < limit.rels → Entered d at e (n + 1) r
           → DeclarationEnd text d (relRest (drop at text)) (record { number = 0; declared = r })
       unfolding relNumber fault declare
       rel-added m vd l b′ c z f en = let few = room text d at e vd l b′ c (inr f) in

@@ -16,7 +16,7 @@ use Rattle.text_names.specs.Names.{Valid, declaredOf, tally, added}
 use Rattle.text_names.specs.declared.Declared.{Declared}
 use Rattle.text_declarations.specs.declared.Declaration.{Declaration}
 
--- the declarations keep the limits of row 4: each is of one of the four classes, "at most 7" states, "at most 16" derived relations
+-- the declarations keep the limits of row 4: each is of one of the four classes, "up to 24" states, "at most 16" derived relations
 pub record Limited (d : Declared) : Type 0 where
   pub total : d .count ≡ tally 0 (d .codes) (d .count) + tally 1 (d .codes) (d .count) + tally 2 (d .codes) (d .count) + tally 3 (d .codes) (d .count)
   pub states : tally 0 (d .codes) (d .count) ≤ limit.states

@@ -14,6 +14,7 @@ use lib.ListN.{length, drop}
 use lib.Pow.{pow-lt}
 use lib.Seq.{slice}
 use borrow.Author.Tests.{ne-eqb, le-ltb}
+use Rattle.limits.specs.Limits as limit
 use Rattle.semantics.specs.Labels.{union, setOf}
 use Rattle.semantics.specs.Models.{elem}
 use Rattle.semantics.proofs.Sets.{has-union, has-ext, has-setOf}
@@ -126,7 +127,7 @@ module _ {text : seq.List ℕ} {D : Declared} {at : ℕ} where
       list-nameless m = record { found = λ z. absurd (z refl); missing = λ z. rw (p, q, m) }
 
       pub list-found : {e : ℕ} {t : Chosen} {r : List} → s ≡ record { fault = 0; set = 0 } → ((at + 1 < e) × (e ≤ length text) × (name (drop (at + 1) text) ≡ some (slice (at + 1) e text, drop e text)))
-          → NameAdded text D s (at + 1) e t → RestEnd text D e 6 t r → ListEnd text D at r
+          → NameAdded text D s (at + 1) e t → RestEnd text D e (limit.list - 1) t r → ListEnd text D at r
       unfolding list bracket
       list-found {e} {t} {r} z (a, b, m) ad v = record {
         found = λ y. let w = v .found y in (slice (at + 1) e text ∷ w .0, omega (arith, w .1), w .2, rw (p, q, m, w .3), w .4 (slice (at + 1) e text ∷ []) (ad .added [] (rw z (empty-list D))));

@@ -60,7 +60,7 @@ module _ (m : Model) (w : List ℕ) (s : States) (known : Known m w s) where
         arith,
         length-steps (build (programOf m) (by s) (from s) (s .count)),
         length-build (programOf m) (row s) (by s) (from s) (known .found) (s .count) (omega (arith, length-row s (known .proper))),
-        mul-le-mul few (let k : suc (s .count) ≤ 128 = omega arith in k),
+        mul-le-mul few (let k : suc (s .count) ≤ limit.listed = omega arith in k),
       )
 
   module _ (run run₁ run₂ : List ℕ) (n r : ℕ) (h : Walked m s run run₁ n) (long : limit.run ≤ length run)

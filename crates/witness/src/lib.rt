@@ -1,27 +1,26 @@
 // The run of a reached question, out of what the search recorded.
+use limits::LISTED;
 use model::Model;
 use search_states::States;
 use witness_walk::Pair;
 ghost use mathlib.Core.Path.{_≡_};
-ghost use Prim.Native.Nat.{ℕ, _≤_, _<_};
+ghost use Prim.Native.Nat.{ℕ, _≤_};
 ghost use lib.ListN.{length};
 ghost use Rattle.limits.specs.Limits as limit;
+ghost use Rattle.search_levels.specs.Levels.{levelsBytes};
 ghost use Rattle.witness_walk.specs.Walk.{Recorded, Sits};
 ghost use Rattle.witness.specs.Witness.{Shown};
 
-// The slots that a row has, and the rows that a matrix has.
-const SLOTS: usize = 128;
-
 // The pair to which the carried objects walk: the first of level k, in the first row that has one.
 fn goal(rows: &[u8], k: usize) -> Pair
-    requires { ⌜ (k < 5) × (length (now rows) ≡ 10240) × ((e f : ℕ) × Sits (now rows) k e f) ⌝ }
+    requires { ⌜ (k ≤ limit.stages) × (length (now rows) ≡ levelsBytes) × ((e f : ℕ) × Sits (now rows) k e f) ⌝ }
     ensures { λ r. ⌜ Sits (now (rows .entry)) k (r .first) (r .second) ⌝ }
 {
     let mut f: usize = 0;
-    while f < SLOTS {
-        let row = facts_bits::row(rows, SLOTS * k + f);
+    while f < LISTED {
+        let row = facts_bits::row(rows, LISTED * k + f);
         let e = facts_bits::next(row, 0);
-        if e < SLOTS {
+        if e < LISTED {
             return Pair {
                 first: e,
                 second: f,

@@ -15,6 +15,7 @@ ghost use Rattle.semantics.specs.Tables.{Shows};
 ghost use Rattle.model.specs.Places.{numberOf};
 ghost use Rattle.model.specs.Records.{bodyAt, questionOf, stageBody, stageAt};
 ghost use Rattle.model.specs.WellFormed.{WellFormed};
+ghost use Rattle.facts_bits.specs.Width as width;
 ghost use Rattle.facts_table.specs.Table.{tableOf, Consistent, Rows};
 ghost use Rattle.facts_candidates.specs.Choices.{chosen, Own};
 ghost use Rattle.facts_find.specs.Bodies.{Fixed};
@@ -69,7 +70,7 @@ fn choice(
     part: Part,
     fixed: Choice,
 ) -> Choice
-    requires { ⌜ Consistent (now work) × Own 128 (now slots) × (n ≤ 128) × Evaluable (now literals) part × ((S : List ℕ) × Rows S (now work) × (length S ≡ n) × ((σ : ℕ → ℕ) × Shows S (tableOf (now work)) σ (bodyAt (now literals) (part .first) (part .count)) × Fixed (part .variables) fixed σ)) ⌝ }
+    requires { ⌜ Consistent (now work) × Own width.slots (now slots) × (n ≤ width.slots) × Evaluable (now literals) part × ((S : List ℕ) × Rows S (now work) × (length S ≡ n) × ((σ : ℕ → ℕ) × Shows S (tableOf (now work)) σ (bodyAt (now literals) (part .first) (part .count)) × Fixed (part .variables) fixed σ)) ⌝ }
     ensures { λ r. ⌜ ((S : List ℕ) → Rows S (now (work .entry)) → length S ≡ n → Shows S (tableOf (now (work .entry))) (chosen r) (bodyAt (now (literals .entry)) (part .first) (part .count)) × Fixed (part .variables) fixed (chosen r)) ⌝ }
 {
     let first = part.first;
@@ -106,7 +107,7 @@ fn number(k: usize, n: usize, c: Choice) -> u32
 
 // A choice of found states, with the fixed ones, that meets stage k + 1.
 fn choose(work: &[u8], slots: &[u8], m: Model, s: States, k: usize, fixed: Choice) -> Choice
-    requires { ⌜ Known m (now work) s × Own 128 (now slots) × (k < m .stagecount) × ((σ : ℕ → ℕ) × Shows (row s) (tableOf (now work)) σ (stageBody (m .literals) (stageAt m k)) × Fixed (stageAt m k .variables) fixed σ) ⌝ }
+    requires { ⌜ Known m (now work) s × Own width.slots (now slots) × (k < m .stagecount) × ((σ : ℕ → ℕ) × Shows (row s) (tableOf (now work)) σ (stageBody (m .literals) (stageAt m k)) × Fixed (stageAt m k .variables) fixed σ) ⌝ }
     ensures { λ r. ⌜ Shows (row s) (tableOf (now (work .entry))) (chosen r) (stageBody (m .literals) (stageAt m k)) × Fixed (stageAt m k .variables) fixed (chosen r) ⌝ }
 {
     let stage = m.stages[k];
@@ -130,7 +131,7 @@ pub fn meet(
     second: usize,
     at: usize,
 ) -> usize
-    requires { ⌜ Known m (now work) s × Own 128 (now slots) × (k < m .stagecount) × ((σ : ℕ → ℕ) × Shows (row s) (tableOf (now work)) σ (getD (questionOf m) k []) × Seats m k σ first second) × (at < length (now run)) ⌝ }
+    requires { ⌜ Known m (now work) s × Own width.slots (now slots) × (k < m .stagecount) × ((σ : ℕ → ℕ) × Shows (row s) (tableOf (now work)) σ (getD (questionOf m) k []) × Seats m k σ first second) × (at < length (now run)) ⌝ }
     ensures { λ r. ⌜ Written (Met m s k first second) 1 (now (run .entry)) at (now (run .exit)) r ⌝ }
 {
     let stage = m.stages[k];

@@ -203,13 +203,13 @@ module _ (m : Model) (w : List ℕ) (s : States) (rows table steps ways : List �
     came-met = let n = next .1 in (n .0, n .1, (seated-in (holder m 0 k) (n .0) (carriedAt m 0) e (n .2), seated-in (holder m 1 k) (n .0) (carriedAt m 1) f (n .3)))
 
     -- each object can do its errand
-    ready : (v u e : ℕ) → e < 128 → (holder m v k ≡ true → came-met .0 (carriedAt m v) ≡ e) → Moved ways (holder m v k) (chosen m v k) u e → Ready m s (holder m v k) (chosen m v k) u e
+    ready : (v u e : ℕ) → e < limit.listed → (holder m v k ≡ true → came-met .0 (carriedAt m v) ≡ e) → Moved ways (holder m v k) (chosen m v k) u e → Ready m s (holder m v k) (chosen m v k) u e
     ready v u e l seat = go (holder m v k) refl (chosen m v k)
       where
         go : (h : Bool) → holder m v k ≡ h → (c : Bool) → Moved ways h c u e → Ready m s h c u e
         go false q c moved = tt
         go true q false moved = omega (arith, seat q, came-met .1 .0 (carriedAt m v) q, length-row s (rec .known .proper))
-        go true q true moved = rec .comes .bits u e l .0 moved
+        go true q true moved = rec .comes .bits u e (omega (arith, l)) .0 moved
 
     module _ (u v : ℕ) (leads : LeadsTo m rows ways k e f u v) where
       pub ready-first : Ready m s (holder m 0 k) (chosen m 0 k) u e

@@ -16,7 +16,7 @@ use Rattle.model.specs.Records.{programOf, questionOf}
 use Rattle.facts_bits.specs.Bits.{inRow}
 use Rattle.search_states.specs.declared.States.{States}
 use Rattle.search_states.specs.States.{row}
-use Rattle.search_ways.specs.Moves.{Marks, CanTake}
+use Rattle.search_ways.specs.Moves.{tableBytes, matrixBytes, Marks, CanTake}
 use Rattle.search_ways.specs.Steps.{Between, OneStep}
 use Rattle.search_levels.specs.Levels.{holder, chosen, pairAt, Moved, Filled}
 use Rattle.witness_lineage.specs.Lineage.{making}
@@ -25,16 +25,16 @@ use Rattle.witness_meetings.specs.Meetings.{Known, Written, pair}
 -- no line adds a state, and the tables have the moves and the single steps between the found states
 pub record Mapped (m : Model) (s : States) (table steps : List ℕ) : Type 0 where
   pub whole : Whole (programOf m) (row s)
-  pub tabled : length table ≡ 1024
+  pub tabled : length table ≡ tableBytes
   pub moves : Marks table (CanTake m s)
-  pub stepped : length steps ≡ 2048
+  pub stepped : length steps ≡ matrixBytes
   pub single : Marks steps (Between (s .count) (OneStep (programOf m) (row s)))
 
 -- WHAT THE SEARCH RECORDED: the states with their facts and moves, who can come from which to which, and the pairs of each level
 pub record Recorded (m : Model) (w : List ℕ) (s : States) (rows table steps ways : List ℕ) : Type 0 where
   pub known : Known m w s
   pub mapped : Mapped m s table steps
-  pub long : length ways ≡ 2048
+  pub long : length ways ≡ matrixBytes
   pub comes : Marks ways (Between (s .count) (λ e t. Comes (programOf m) (row s) (state (row s) e) (state (row s) t)))
   pub levels : Filled m (row s) w ways (record { rows = rows })
 
@@ -89,7 +89,7 @@ post m s i c e d f = record {
 
 -- the pair of slots e f is on level i
 abbrev pub Sits : List ℕ → ℕ → ℕ → ℕ → Type 0
-Sits rows i e f = (e < 128) × (f < 128) × (pairAt rows i e f ≡ true)
+Sits rows i e f = (e < limit.listed) × (f < limit.listed) × (pairAt rows i e f ≡ true)
 
 -- the pair u v of level k leads to the pair e f of the next level
 abbrev pub LeadsTo : Model → List ℕ → List ℕ → ℕ → ℕ → ℕ → ℕ → ℕ → Type 0

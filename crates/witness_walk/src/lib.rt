@@ -1,4 +1,6 @@
 // The walk of the carried objects along the levels, with the meetings, written from its end.
+use facts_bits::WIDTH;
+use limits::LISTED;
 use model::Model;
 use model::Place;
 use search_states::States;
@@ -11,10 +13,12 @@ ghost use Rattle.limits.specs.Limits as limit;
 ghost use Rattle.semantics.specs.Building.{places, with};
 ghost use Rattle.model.specs.Records.{programOf};
 ghost use Rattle.model.specs.WellFormed.{WellFormed};
+ghost use Rattle.facts_bits.specs.Width as width;
 ghost use Rattle.facts_candidates.specs.Choices.{Own};
 ghost use Rattle.search_states.specs.States.{Proper, Discovered};
+ghost use Rattle.search_ways.specs.Moves.{matrixBytes};
 ghost use Rattle.search_ways.specs.Shortest.{Says};
-ghost use Rattle.search_levels.specs.Levels.{holder, chosen, Moved};
+ghost use Rattle.search_levels.specs.Levels.{levelsBytes, holder, chosen, Moved};
 ghost use Rattle.witness_table.specs.Runs.{AllNumerable, backwards};
 ghost use Rattle.witness_meetings.specs.Meetings.{Written};
 ghost use Rattle.witness_walk.specs.Walk.{Mapped, Recorded, Ready, Errand, effort, Sits, LeadsTo, Source, Behind, Walked};
@@ -32,9 +36,6 @@ struct Stand {
     second: usize,
     at: usize,
 }
-
-// The slots that a row has, and the rows that a matrix has.
-const SLOTS: usize = 128;
 
 // Does the carried variable of cell v stand in stage k, counted from 0?
 fn holds(m: Model, v: usize, k: usize) -> bool
@@ -92,7 +93,7 @@ fn lead(
     requires { ⌜ WellFormed m × Proper s × Mapped m s (now table) (now steps) × Ready m s true true from to × (object < limit.objects) × (at + s .count ≤ length (now run)) ⌝ }
     ensures { λ r. ⌜ Written (Errand m s object true true from to) (s .count - 1) (now (run .entry)) at (now (run .exit)) r ⌝ }
 {
-    let mut lines = [0u32; SLOTS];
+    let mut lines = [0u32; LISTED];
     let n = search_ways::way(m, s, table, steps, from, to, &mut lines);
     tell(run, &lines, n, object, at)
 }
@@ -125,7 +126,7 @@ fn errand(
 
 // Can an object go from slot u to slot e before a stage is met?
 fn moves(ways: &[u8], stands: bool, began: bool, u: usize, e: usize) -> bool
-    requires { ⌜ (length (now ways) ≡ 2048) × (u < 128) × (e < 128) ⌝ }
+    requires { ⌜ (length (now ways) ≡ matrixBytes) × (u < limit.listed) × (e < limit.listed) ⌝ }
     ensures { λ r. ⌜ Says r (Moved (now (ways .entry)) stands began u e) ⌝ }
 {
     if !stands {
@@ -134,18 +135,18 @@ fn moves(ways: &[u8], stands: bool, began: bool, u: usize, e: usize) -> bool
     if !began {
         return u == 0;
     }
-    facts_bits::get(ways, u * SLOTS + e)
+    facts_bits::get(ways, u * WIDTH + e)
 }
 
-// The first slot of row j from which an object can go to slot e, or SLOTS where there is none.
+// The first slot of row j from which an object can go to slot e, or LISTED where there is none.
 fn source(rows: &[u8], ways: &[u8], j: usize, stands: bool, began: bool, e: usize) -> usize
-    requires { ⌜ (length (now ways) ≡ 2048) × (length (now rows) ≡ 10240) × (j < 640) × (e < 128) ⌝ }
-    ensures found { λ r. ⌜ (r < 128 → Source (now (rows .entry)) (now (ways .entry)) j stands began e r) ⌝ }
-    ensures first { λ r. ⌜ ((u : ℕ) → u < 128 → Source (now (rows .entry)) (now (ways .entry)) j stands began e u → r < 128) ⌝ }
+    requires { ⌜ (length (now ways) ≡ matrixBytes) × (length (now rows) ≡ levelsBytes) × (j * width.bytes + width.bytes ≤ levelsBytes) × (e < limit.listed) ⌝ }
+    ensures found { λ r. ⌜ (r < limit.listed → Source (now (rows .entry)) (now (ways .entry)) j stands began e r) ⌝ }
+    ensures first { λ r. ⌜ ((u : ℕ) → u < limit.listed → Source (now (rows .entry)) (now (ways .entry)) j stands began e u → r < limit.listed) ⌝ }
 {
     let mut u: usize = 0;
-    while u < SLOTS {
-        if facts_bits::get(rows, j * SLOTS + u) {
+    while u < LISTED {
+        if facts_bits::get(rows, j * WIDTH + u) {
             if moves(ways, stands, began, u, e) {
                 return u;
             }
@@ -157,7 +158,7 @@ fn source(rows: &[u8], ways: &[u8], j: usize, stands: bool, began: bool, e: usiz
 
 // A pair of level k that leads to a pair of the next level.
 fn previous(rows: &[u8], ways: &[u8], m: Model, k: usize, first: usize, second: usize) -> Pair
-    requires { ⌜ WellFormed m × (k < m .stagecount) × (length (now rows) ≡ 10240) × (length (now ways) ≡ 2048) × (first < 128) × (second < 128) × ((u v : ℕ) × LeadsTo m (now rows) (now ways) k first second u v) ⌝ }
+    requires { ⌜ WellFormed m × (k < m .stagecount) × (length (now rows) ≡ levelsBytes) × (length (now ways) ≡ matrixBytes) × (first < limit.listed) × (second < limit.listed) × ((u v : ℕ) × LeadsTo m (now rows) (now ways) k first second u v) ⌝ }
     ensures { λ r. ⌜ LeadsTo m (now (rows .entry)) (now (ways .entry)) k first second (r .first) (r .second) ⌝ }
 {
     let one = holds(m, 0, k);
@@ -165,10 +166,10 @@ fn previous(rows: &[u8], ways: &[u8], m: Model, k: usize, first: usize, second: 
     let begun = carries(m, 0, k);
     let began = carries(m, 1, k);
     let mut v: usize = 0;
-    while v < SLOTS {
+    while v < LISTED {
         if moves(ways, two, began, v, second) {
-            let u = source(rows, ways, SLOTS * k + v, one, begun, first);
-            if u < SLOTS {
+            let u = source(rows, ways, LISTED * k + v, one, begun, first);
+            if u < LISTED {
                 return Pair {
                     first: u,
                     second: v,
@@ -193,7 +194,7 @@ fn back(
     ways: &[u8],
     p: Stand,
 ) -> Stand
-    requires { ⌜ Recorded m (now work) s (now rows) (now table) (now steps) (now ways) × Own 128 (now slots) × (0 < p .level) × (limit.run ≤ length (now run)) × ((run₀ : List ℕ) × Behind m s (now rows) run₀ (now run) (p .level) (p .first) (p .second) (p .at)) ⌝ }
+    requires { ⌜ Recorded m (now work) s (now rows) (now table) (now steps) (now ways) × Own width.slots (now slots) × (0 < p .level) × (limit.run ≤ length (now run)) × ((run₀ : List ℕ) × Behind m s (now rows) run₀ (now run) (p .level) (p .first) (p .second) (p .at)) ⌝ }
     ensures { λ r. ⌜ ((run₀ : List ℕ) → Behind m s (now (rows .entry)) run₀ (now (run .entry)) (p .level) (p .first) (p .second) (p .at) → Behind m s (now (rows .entry)) run₀ (now (run .exit)) (r .level) (r .first) (r .second) (r .at)) × (r .level < p .level) × (length (now (run .exit)) ≡ length (now (run .entry))) ⌝ }
 {
     let k = p.level - 1;
@@ -226,7 +227,7 @@ pub fn walk(
     ways: &[u8],
     goal: Pair,
 ) -> usize
-    requires { ⌜ Recorded m (now work) s (now rows) (now table) (now steps) (now ways) × Own 128 (now slots) × Sits (now rows) (m .stagecount) (goal .first) (goal .second) × (limit.run ≤ length (now run)) ⌝ }
+    requires { ⌜ Recorded m (now work) s (now rows) (now table) (now steps) (now ways) × Own width.slots (now slots) × Sits (now rows) (m .stagecount) (goal .first) (goal .second) × (limit.run ≤ length (now run)) ⌝ }
     ensures { λ r. ⌜ Walked m s (now (run .entry)) (now (run .exit)) r ⌝ }
 {
     let mut p = Stand {

@@ -14,7 +14,7 @@ use Rattle.analyzer_verdict.proofs.conclude.Tie as tie
 returns : tie.Need-returns
 returns c =
     let s = c .before .before .before .before in
-    (subst (Verdict (programOf (s .args .m)) (questionOf (s .args .m))) (not-true (s .args .found .reached) (c .if1 .taken)) (s .pre .1 .verdict), refl)
+    (s .pre .3, subst (Verdict (programOf (s .args .m)) (questionOf (s .args .m))) (not-true (s .args .found .reached) (c .if1 .taken)) (s .pre .1 .verdict), refl)
 
 -- the search says reached
 reached : (c : tie.Else1) → c .before .before .before .before .args .found .reached ≡ true
@@ -36,7 +36,7 @@ witness-requires : tie.Need-witness-requires
 witness-requires c κs =
     let s = c .before .before .before .before .before .before .before .before .before .before .before .before .before .before .before .before in
     let g = s .pre .1 .entered (reached (c .before .before .before .before .before .before .before .before .before .before .before .before)) in
-    (recorded (s .args .m) (s .pre .0) (now (s .args .work)) (s .args .found) (s .pre .1), (g .0, g .1, (g .2, g .3, g .4)), s .pre .2)
+    (recorded (s .args .m) (s .pre .0) (now (s .args .facts)) (s .args .found) (s .pre .1), (g .0, g .1, (g .2, g .3, g .4)), s .pre .2)
 
 sub-place-of : tie.Need-sub-place-of
 sub-place-of c =
@@ -59,6 +59,7 @@ returns-2 : tie.Need-returns-2
 returns-2 c =
     let s = c .before .before .before .before .before .before .before .before .before .before .before .before .before .before .before .before .before .before .before .before .before in
     let w = c .before .before .before .before .witness in (
+      s .pre .3,
       subst (Verdict (programOf (s .args .m)) (questionOf (s .args .m))) (reached (c .before .before .before .before .before .before .before .before .before .before .before .before .before .before .before .before .before)) (s .pre .1 .verdict),
       shown (s .args .m) (s .pre .0) (now (s .args .run)) _ (w .result) _ (w .ensures) (c .place-of .ensures),
     )

@@ -1,21 +1,16 @@
-use mathlib.Core.Path.{sym, _∙_}
+use Prim.Native.Nat.{ℕ}
 use native.Mathlib.Omega.{arith}
-use denote.Ref.{now}
-use lib.Seq.{length-take-le}
-use Rattle.limits.specs.Limits as limit
-use Rattle.calls.proofs.Wiped.{wiped-over}
+use lib.ListN.{length-replicate}
+use Rattle.facts_heads.specs.Heads.{room}
 use borrow.Author.Needs.{needs}
 use Rattle.explain.proofs.explain_model.Statement.{statement}
 use Rattle.explain.proofs.explain_model.Tie as tie
 
-slice-relend-prefix-explain-run : tie.Need-slice-relend-prefix-explain-run
-slice-relend-prefix-explain-run c = search needs
-
 slice-aggregate-explain-run : tie.Need-slice-aggregate-explain-run
-slice-aggregate-explain-run c = let s = c .before .before .before .before in sym (length-take-le limit.work (now (s .args .work)) (s .pre .2))
+slice-aggregate-explain-run c = search needs
 
 explain-run-requires : tie.Need-explain-run-requires
-explain-run-requires c κs = let s = c .before .before .before .before .before in (s .pre .0, s .pre .1, rw (length-take-le limit.work (now (s .args .work)) (s .pre .2)) (omega arith), s .pre .3)
+explain-run-requires c κs = (search needs, search needs, omega (arith, length-replicate {A = ℕ} room 0), search needs)
 
 wipe-requires : tie.Need-wipe-requires
 wipe-requires c κs = search needs
@@ -27,22 +22,7 @@ same-length-2 : tie.Need-same-length-2
 same-length-2 c = search needs
 
 returns : tie.Need-returns
-returns c =
-    let s = c .before .before .before .before .before .before .before .before .before .before .before .before .before .before in
-    let p = c .before .before .before .before .before .before .before .before .explain-run in (
-      p .ensures .0,
-      p .ensures .1,
-      c .before .before .wipe .ensures ∙ wiped-over (now (s .args .work)) (p .last .1 .1 .0) (p .ensures .2 ∙ length-take-le limit.work (now (s .args .work)) (s .pre .2)),
-    )
+returns c = search needs
 
 pub explain-model-spec : {M : Type 1} → statement M
-explain-model-spec =
-    tie.close
-    (tie.spec
-    slice-relend-prefix-explain-run
-    slice-aggregate-explain-run
-    explain-run-requires
-    wipe-requires
-    same-length
-    same-length-2
-    returns)
+explain-model-spec = tie.close (tie.spec slice-aggregate-explain-run explain-run-requires wipe-requires same-length same-length-2 returns)

@@ -4,6 +4,7 @@ use mathlib.Core.Path.{_≡_, refl, sym, ap, subst, _∙_}
 use Prim.Native.Nat.{ℕ, _≤_, _<_, _^_}
 use native.Mathlib.Omega.{arith}
 use mathlib.Core.List.{[], _∷_, List, _++_, map}
+use mathlib.Core.Option as option
 use lib.ListN.{length, take, drop as behind, getD, length-map, length-take, take-append-drop}
 use lib.Seq.{getD-take}
 use lib.Dec.{lit<}
@@ -14,7 +15,7 @@ use mir.Val.{Val, vint, vstruct}
 use mir.Fields.{setV}
 use base.Logic.{SProp, ent, sep, ex, all, wand, allE, apply∗, snd∗, exE, id⊢}
 use base.Fml.{GName, Lft, Fml, fsep, ftrue, fat, flft, flent}
-use prog.Memory.{Memory}
+use prog.Memory.{Memory, fieldOf}
 use prog.Routine.{Routine}
 use prog.Wp.{Heap, Calls, Loops, WpFn, Tables}
 use ghost.Atoms.{Atoms, sem}
@@ -85,7 +86,7 @@ S = Struct (shape T.the-type)
 
 -- where the field stands in the struct
 abbrev off : ℕ
-off = 288
+off = elim (fieldOf R′.mir 3) [ option.none ↦ 0 | option.some f ↦ f .1 ]
 
 room-of : (n : ℕ) → n ≡ 64 → Room T.the-row n
 room-of n e = subst (Room T.the-row) (sym e) (lit< tt, lit< tt)

@@ -3,6 +3,7 @@ use borrow.Author.Needs.{needs}
 use native.Mathlib.Omega.{arith}
 use Prim.Native.Nat.{_+_, _-_}
 use denote.Ref.{now}
+use Rattle.listing_lines.specs.Lines.{longest}
 use Rattle.listing.proofs.Laws.{line-at, part-length}
 use Rattle.listing.proofs.put_state.Statement.{statement}
 use Rattle.listing.proofs.put_state.Tie as tie
@@ -33,7 +34,7 @@ returns c =
     let w = c .before .before .atomic-line .ensures in
     let s = c .before .before .before .before .before .before in
     let d = now (s .args .out) in
-    let k = s .args .at + 128 - s .args .at in
+    let k = s .args .at + longest - s .args .at in
     (line-at d (s .args .at) k (omega (arith, s .pre .2)) w, omega (arith, w .room, part-length d (s .args .at) k (omega (arith, s .pre .2))))
 
 pub put-state-spec : {M : Type 1} → statement M

@@ -2,17 +2,17 @@ use mathlib.Core.Path.{refl}
 use mathlib.Core.Bool.{false≢true}
 use Prim.Native.Nat.{_-_, _≤_}
 use native.Mathlib.Omega.{arith}
-use borrow.Author.Tests.{not-true, not-false}
+use Rattle.limits.specs.Limits as limit
 use Rattle.search.proofs.Laws.{NoneBelow, pair-here, none-more, no-pair}
 use borrow.Author.Needs.{needs}
 use Rattle.search.proofs.entered.Statement.{statement}
 use Rattle.search.proofs.entered.Tie as tie
 
 abbrev Inv-loop : tie.InvT-loop
-Inv-loop rows k at f₀ f = (f ≤ 128) × NoneBelow rows k f
+Inv-loop rows k at f₀ f = (f ≤ limit.listed) × NoneBelow rows k f
 
 abbrev μ-loop : tie.MeasureT-loop
-μ-loop rows k at f₀ f = 128 - f
+μ-loop rows k at f₀ f = limit.listed - f
 
 mul-at : tie.Need-mul-at Inv-loop μ-loop
 mul-at c = search needs
@@ -26,13 +26,13 @@ add-row c = search needs
 row-requires : tie.Need-row-requires Inv-loop μ-loop
 row-requires c κs = search needs
 
-empty-requires : tie.Need-empty-requires Inv-loop μ-loop
-empty-requires c κs = search needs
+next-requires : tie.Need-next-requires Inv-loop μ-loop
+next-requires c κs = search needs
 
 returns : tie.Need-returns Inv-loop μ-loop
 returns c =
     let a = c .before .before .before .before .before .before .args in
-    ((λ q. pair-here (a .rows .now) (a .k) (c .before .before .before .before .loop .f) (c .before .before .row .result) (c .before .before .row .ensures) (c .before .empty .result) (c .before .empty .ensures) (c .before .before .before .loop-test .taken) (not-true (c .before .empty .result) (c .if1 .taken))), λ q. refl)
+    ((λ q. pair-here (a .rows .now) (a .k) (c .before .before .before .before .loop .f) (c .before .before .row .result) (c .before .before .row .ensures) (c .before .next .result) (c .before .next .ensures) (omega (arith, c .before .before .before .loop-test .taken)) (c .if1 .taken)), λ q. refl)
 
 add-f : tie.Need-add-f Inv-loop μ-loop
 add-f c = search needs
@@ -43,7 +43,7 @@ loop-less c = search needs
 loop-again : tie.Need-loop-again Inv-loop μ-loop
 loop-again c =
     let a = c .before .before .before .before .before .before .args in
-    (omega (arith, c .before .before .before .loop-test .taken), none-more (a .rows .now) (a .k) (c .before .before .before .before .loop .f) (c .before .before .row .result) (c .before .before .row .ensures) (c .before .empty .result) (c .before .empty .ensures) (not-false (c .before .empty .result) (c .if1 .left)) (c .before .before .before .before .loop .inv .1))
+    (omega (arith, c .before .before .before .loop-test .taken), none-more (a .rows .now) (a .k) (c .before .before .before .before .loop .f) (c .before .before .row .result) (c .before .before .row .ensures) (c .before .next .result) (c .before .next .ensures) (c .if1 .left) (c .before .before .before .before .loop .inv .1))
 
 returns-2 : tie.Need-returns-2 Inv-loop μ-loop
 returns-2 c =
@@ -60,7 +60,7 @@ entered-spec =
     loop-holds
     add-row
     row-requires
-    empty-requires
+    next-requires
     returns
     add-f
     loop-less

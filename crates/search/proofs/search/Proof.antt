@@ -1,5 +1,6 @@
-use native.Mathlib.Omega.{arith}
-use Rattle.search.proofs.Laws.{exactly, no-more, reachable, verdict}
+use mathlib.Core.Path.{_∙_, sym}
+use mathlib.Core.Bool.{false≢true, true≢false}
+use Rattle.search.proofs.Laws.{too-many, not-many}
 use borrow.Author.Needs.{needs}
 use Rattle.search.proofs.search.Statement.{statement}
 use Rattle.search.proofs.search.Tie as tie
@@ -7,43 +8,37 @@ use Rattle.search.proofs.search.Tie as tie
 reachable-requires : tie.Need-reachable-requires
 reachable-requires c κs = search needs
 
-rising-requires : tie.Need-rising-requires
-rising-requires c κs = search needs
-
-tables-requires : tie.Need-tables-requires
-tables-requires c κs =
-    let s = c .before .before .before .before .before .before .before in
-    let q = c .before .before .before .before .reachable in
-    (s .pre .0, search needs, exactly (s .args .m) (s .pre .0) (q .last .0) (q .result) (q .ensures .0), no-more (s .args .m) (s .pre .0) (q .last .0) (q .result) (q .ensures .0))
-
-fill-requires : tie.Need-fill-requires
-fill-requires c κs = search needs
-
-entered-requires : tie.Need-entered-requires
-entered-requires c κs = (c .before .before .before .fill .ensures .long, omega (arith, c .before .before .before .before .before .before .before .before .before .before .before .before .before .before .before .before .pre .0 .stages))
+counted-requires : tie.Need-counted-requires
+counted-requires c κs = search needs
 
 same-length : tie.Need-same-length
 same-length c = search needs
 
 returns : tie.Need-returns
 returns c =
-    let s = c .before .before .before .before .before .before .before .before .before .before .before .before .before .before .before .before .before in
-    let m = s .args .m in
-    let q = c .before .before .before .before .before .before .before .before .before .before .before .before .before .before .reachable in
-    let f = c .before .before .before .before .fill in
-    let t = c .before .before .before .before .before .before .before .before .before .tables in (
+    let s = c .before .before .before .before .before .before .before in
+    let q = c .before .before .before .before .reachable in (
       record {
-        proper = q .ensures .0 .proper;
-        reachable = reachable m (s .pre .0) (q .last .0) (q .result) (q .ensures .0);
-        listing = c .before .before .before .before .before .before .before .before .before .before .before .rising .ensures;
-        verdict = verdict m (s .pre .0) (q .last .0) (q .result) (q .ensures .0) (t .result .ways) (t .ensures .ways) (f .result) (f .ensures) (c .entered .result) (c .entered .ensures);
-        entered = λ e. c .entered .ensures .0 e;
-        found = q .ensures .0 .found;
-        whole = no-more m (s .pre .0) (q .last .0) (q .result) (q .ensures .0);
-        agree = q .ensures .0 .agree;
-        exact = q .ensures .0 .exact;
-        moves = t .ensures;
-        levels = f .ensures;
+        crowded = ((λ e. too-many (s .args .m) (s .pre .0) (q .last .0) (q .result) (q .ensures .0) (sym (c .before .counted .ensures) ∙ e)), λ e. c .if1 .taken);
+        searched = λ e. absurd (true≢false (sym (c .if1 .taken) ∙ e));
+      },
+      q .ensures .1,
+    )
+
+judged-requires : tie.Need-judged-requires
+judged-requires c κs = search needs
+
+same-length-2 : tie.Need-same-length-2
+same-length-2 c = search needs
+
+returns-2 : tie.Need-returns-2
+returns-2 c =
+    let s = c .before .before .before .before .before .before .before .before .before in
+    let q = c .before .before .before .before .before .before .reachable in
+    let j = c .judged .ensures in (
+      record {
+        crowded = ((λ e. absurd (false≢true (sym (j .1) ∙ e))), λ e. absurd (not-many (s .args .m) (s .pre .0) (q .last .0) (q .result) (q .ensures .0) (sym (c .before .before .before .counted .ensures) ∙ c .before .before .if1 .left) e));
+        searched = λ e. j .0;
       },
       q .ensures .1,
     )
@@ -53,9 +48,9 @@ search-spec =
     tie.close
     (tie.spec
     reachable-requires
-    rising-requires
-    tables-requires
-    fill-requires
-    entered-requires
+    counted-requires
     same-length
-    returns)
+    returns
+    judged-requires
+    same-length-2
+    returns-2)

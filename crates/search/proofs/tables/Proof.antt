@@ -1,5 +1,6 @@
 use Prim.Native.Nat.{_≤_}
 use native.Mathlib.Omega.{arith}
+use Rattle.limits.specs.Limits as limit
 use Rattle.model.specs.Records.{programOf}
 use Rattle.search_states.specs.States.{row}
 use Rattle.search_ways.specs.Steps.{OneStep}
@@ -33,7 +34,7 @@ close-requires c κs =
     let s = c .before .before .before .before .before .before .before .before .before in
     let a = s .args in
     let k = c .before .before .steps2 in
-    let few : a .s .count ≤ 128 = omega (arith, s .pre .2 .proper .count) in
+    let few : a .s .count ≤ limit.listed = omega (arith, s .pre .2 .proper .count) in
     (few, search needs, between-inside (a .s .count) (k .last .1 .1 .1 .0) (OneStep (programOf (a .m)) (row (a .s))) (k .ensures))
 
 returns : tie.Need-returns

@@ -6,13 +6,15 @@ use Prim.Native.Nat.{ℕ, suc, _+_, _-_, _*_, _≤_, _<_}
 use native.Mathlib.Omega.{arith}
 use native.Mathlib.Numerals.{add-one}
 use lib.ListN.{length, replicate}
+use Rattle.limits.specs.Limits as limit
 use Rattle.model.specs.Records.{stageAt}
+use Rattle.facts_bits.specs.Width as width
 use Rattle.facts_candidates.specs.Choices.{Own}
 use Rattle.facts_bits.proofs.Laws.{with-bit-length}
 use Rattle.search_states.specs.States.{row}
 use Rattle.search_states.proofs.Laws.{length-row}
 use Rattle.search_levels.specs.declared.Meeting.{Meeting}
-use Rattle.search_levels.specs.Levels.{chosen, pairAt, Passed}
+use Rattle.search_levels.specs.Levels.{levelsBytes, chosen, pairAt, Passed}
 use Rattle.search_levels.specs.Passing.{Led, Met, Over, Ready, meetingOf, Clear}
 use Rattle.search_levels.proofs.Stages.{numbers-long, stage-ready, chosen-after, passed-stage}
 use Rattle.search_levels.proofs.Filling.{begun, begun-clear, passed-more}
@@ -21,7 +23,7 @@ use Rattle.search_levels.proofs.fill.Statement.{statement}
 use Rattle.search_levels.proofs.fill.Tie as tie
 
 abbrev Inv-loop : tie.InvT-loop
-Inv-loop work ways m slots n rows₀ first₀ second₀ k₀ rows first second k = (k ≤ m .stagecount) × Own 128 slots × (length rows ≡ 10240) × (first ≡ chosen m 0 k) × (second ≡ chosen m 1 k) × Clear (128 * suc k) rows × ((e f : ℕ) → e < 128 → f < 128 → (pairAt rows 0 e f ≡ true) ↔ ((e ≡ 0) × (f ≡ 0))) × Over work n (λ S. (j : ℕ) → j < k → Passed m S work ways j (pairAt rows j) (pairAt rows (suc j)))
+Inv-loop work ways m slots n rows₀ first₀ second₀ k₀ rows first second k = (k ≤ m .stagecount) × Own width.slots slots × (length rows ≡ levelsBytes) × (first ≡ chosen m 0 k) × (second ≡ chosen m 1 k) × Clear (limit.listed * suc k) rows × ((e f : ℕ) → e < limit.listed → f < limit.listed → (pairAt rows 0 e f ≡ true) ↔ ((e ≡ 0) × (f ≡ 0))) × Over work n (λ S. (j : ℕ) → j < k → Passed m S work ways j (pairAt rows j) (pairAt rows (suc j)))
 
 abbrev μ-loop : tie.MeasureT-loop
 μ-loop work ways m slots n rows₀ first₀ second₀ k₀ rows first second k = m .stagecount - k
@@ -41,11 +43,11 @@ loop-holds c =
     let e = put .ensures in (
       omega arith,
       c .before .before .before .slots .ensures,
-      ap length e ∙ with-bit-length (replicate 10240 0) 0,
+      ap length e ∙ with-bit-length (replicate levelsBytes 0) 0,
       refl,
       refl,
-      subst (λ (rows : List ℕ). Clear (128 * suc 0) rows) (sym e) (begun-clear 10240 (omega arith)),
-      subst (λ (rows : List ℕ). (e f : ℕ) → e < 128 → f < 128 → (pairAt rows 0 e f ≡ true) ↔ ((e ≡ 0) × (f ≡ 0))) (sym e) (begun 10240 (omega arith)),
+      subst (λ (rows : List ℕ). Clear (limit.listed * suc 0) rows) (sym e) (begun-clear levelsBytes (omega arith)),
+      subst (λ (rows : List ℕ). (e f : ℕ) → e < limit.listed → f < limit.listed → (pairAt rows 0 e f ≡ true) ↔ ((e ≡ 0) × (f ≡ 0))) (sym e) (begun levelsBytes (omega arith)),
       λ S R n j l. absurd (omega (arith, l)),
     )
 
@@ -76,7 +78,7 @@ pass-requires c κs =
     let s = c .before .before .before .before .before .before .before .before .before .before .before .before .before .before .before .before in
     let a = s .args in
     let l = c .before .before .before .before .before .before .before .before .before .loop in
-    let few : a .s .count ≤ 128 = omega (arith, s .pre .1 .proper .count) in
+    let few : a .s .count ≤ limit.listed = omega (arith, s .pre .1 .proper .count) in
     (subst (λ (t : Meeting). Ready (a .work .now) (c .before .before .before .before .before .before .before .before .before .before .before .before .before .slots .result) (a .s .count) (a .t2 .literals) t) (sym (met-as (c .before .before .before .before .before))) (stage-ready (a .t2) (s .pre .0) (l .k) (c .before .before .before .before .before .before .before .before .loop-test .taken) (a .work .now) (c .before .before .before .before .before .before .before .before .before .before .before .before .before .slots .result) (a .s .count) (s .pre .1 .agree) (l .inv .1) few), s .pre .2, l .inv .2, omega (arith, s .pre .0 .stages, c .before .before .before .before .before .before .before .before .loop-test .taken), l .inv .5)
 
 after-requires : tie.Need-after-requires Inv-loop μ-loop
@@ -106,12 +108,12 @@ loop-again c =
       w .long ∙ l .inv .2,
       c .before .after .ensures ∙ ap (λ (t : Meeting). t .first .chosen || t .first .stands) (met-as (c .before .before .before .before .before .before .before .before .before)) ∙ chosen-after (a .t2) (s .pre .0) (l .k) here 0 ∙ ap (chosen (a .t2) 0) e,
       c .after2 .ensures ∙ ap (λ (t : Meeting). t .second .chosen || t .second .stands) (met-as (c .before .before .before .before .before .before .before .before .before)) ∙ chosen-after (a .t2) (s .pre .0) (l .k) here 1 ∙ ap (chosen (a .t2) 1) e,
-      subst (λ (k : ℕ). Clear (128 * suc k) new) e (w .clear),
-      (λ u v g h. let b = l .inv .6 u v g h in let z = w .kept (128 * 0 + v) u (omega (arith, h)) g in ((λ q. b .0 (sym z ∙ q)), λ q. z ∙ b .1 q)),
+      subst (λ (k : ℕ). Clear (limit.listed * suc k) new) e (w .clear),
+      (λ u v g h. let b = l .inv .6 u v g h in let z = w .kept (limit.listed * 0 + v) u (omega (arith, h)) g in ((λ q. b .0 (sym z ∙ q)), λ q. z ∙ b .1 q)),
       λ S R n. subst (λ (k : ℕ). (j : ℕ) → j < k → Passed (a .t2) S (a .work .now) (a .ways .now) j (pairAt new j) (pairAt new (suc j))) e
           (passed-more (a .t2) S (a .work .now) (a .ways .now) (l .k) (l .rows) new (w .kept) (l .inv .7 S R n)
           (passed-stage (a .t2) (s .pre .0) (l .k) here S (a .work .now) (a .ways .now) (l .rows) new
-          (subst (λ (t : Meeting). (u v : ℕ) → u < 128 → v < 128 → (pairAt new (suc (l .k)) u v ≡ true) ↔ (Led (a .ways .now) t (pairAt (l .rows) (l .k)) u v × Met S (a .work .now) (a .t2 .literals) t u v)) (met-as (c .before .before .before .before .before .before .before .before .before)) (p .ensures .1 S R n)))),
+          (subst (λ (t : Meeting). (u v : ℕ) → u < limit.listed → v < limit.listed → (pairAt new (suc (l .k)) u v ≡ true) ↔ (Led (a .ways .now) t (pairAt (l .rows) (l .k)) u v × Met S (a .work .now) (a .t2 .literals) t u v)) (met-as (c .before .before .before .before .before .before .before .before .before)) (p .ensures .1 S R n)))),
     )
 
 returns : tie.Need-returns Inv-loop μ-loop

@@ -5,7 +5,9 @@ use mathlib.Core.List.{List}
 use Prim.Native.Nat.{ℕ, _+_, _-_, _*_, _≤_, _<_}
 use native.Mathlib.Omega.{arith}
 use lib.ListN.{length, replicate}
+use Rattle.limits.specs.Limits as limit
 use Rattle.semantics.proofs.Tools.{clash}
+use Rattle.facts_bits.specs.Width as width
 use Rattle.facts_bits.specs.Bits.{bitAt, withBit}
 use Rattle.facts_bits.proofs.Laws.{with-bit-length}
 use Rattle.search_ways.specs.Moves.{Marks, With, InRow}
@@ -23,10 +25,10 @@ abbrev Fitting : List ℕ → List ℕ → List ℕ → Meeting → ℕ → List
 Fitting S work literals t f row e = (bitAt row e ≡ true) × Met S work literals t e f
 
 abbrev Inv-loop : tie.InvT-loop
-Inv-loop work slots n literals t f row out₀ e₀ out e = (e ≤ 128) × Ready work slots n literals t × (t .first .stands ≡ true) × (f < 128) × (length row ≡ 16) × (length out ≡ 16) × (e < 128 → bitAt row e ≡ true) × Over work n (λ S. Marks out (With (replicate 16 0) (InRow 0 e (Fitting S work literals t f row))))
+Inv-loop work slots n literals t f row out₀ e₀ out e = (e ≤ width.slots) × Ready work slots n literals t × (t .first .stands ≡ true) × (f < limit.listed) × (length row ≡ width.bytes) × (length out ≡ width.bytes) × (e < width.slots → bitAt row e ≡ true) × Over work n (λ S. Marks out (With (replicate width.bytes 0) (InRow 0 e (Fitting S work literals t f row))))
 
 abbrev μ-loop : tie.MeasureT-loop
-μ-loop work slots n literals t f row out₀ e₀ out e = 128 - e
+μ-loop work slots n literals t f row out₀ e₀ out e = width.slots - e
 
 next-requires : tie.Need-next-requires Inv-loop μ-loop
 next-requires c κs = search needs
@@ -58,10 +60,10 @@ loop-again : tie.Need-loop-again Inv-loop μ-loop
 loop-again c =
     let a = c .before .before .before .before .before .before .before .before .before .args in
     let l = c .before .before .before .before .loop in
-    let z : List ℕ = replicate 16 0 in
+    let z : List ℕ = replicate width.bytes 0 in
     let in-n = c .before .before .before .loop-test .taken in
     let few = l .inv .1 .few in
-    let at : l .e ≡ 0 * 128 + l .e = omega arith in (
+    let at : l .e ≡ 0 * width.bits + l .e = omega arith in (
       c .next2 .ensures .most,
       l .inv .1,
       l .inv .2,
@@ -89,7 +91,7 @@ returns c =
     let D : ℕ → Type 0 = Fitting S (a .work .now) (a .literals .now) (a .t) (a .f) (a .row) in
     has-so (l .out) (λ t. InRow 0 (l .e) D 0 t) D
     (λ t h. ((λ q. q .2), λ q. (refl, omega (arith, c .loop-test .left, first-below (a .work .now) (a .slots .now) (a .n) (a .literals .now) (a .t) (l .inv .1) S n (l .inv .2) t (a .f) (q .1)), q)))
-    (has-row 16 (l .out) (InRow 0 (l .e) D) (l .inv .7 S R n))
+    (has-row width.bytes (l .out) (InRow 0 (l .e) D) (l .inv .7 S R n))
 
 pub fitting-spec : {M : Type 1} → statement M
 fitting-spec =

@@ -3,6 +3,7 @@ use mathlib.Core.Bool.{false≢true}
 use mathlib.Core.List.{List}
 use Prim.Native.Nat.{ℕ, _*_}
 use native.Mathlib.Omega.{arith}
+use Rattle.limits.specs.Limits as limit
 use Rattle.search_levels.specs.Passing.{Has, Picked}
 use Rattle.search_levels.proofs.Passing.{hopeful-has}
 use borrow.Author.Needs.{needs}
@@ -28,7 +29,7 @@ returns : tie.Need-returns
 returns c =
     let a = c .before .before .before .before .before .before .before .before .before .before .before .args in
     let any = c .before .before .before .before .union .result in
-    λ S R n. hopeful-has S (a .work .now) (a .literals .now) (a .ways .now) (a .t) (a .rows .now) (a .k) any (subst (λ (all : List ℕ). Has any (Picked (a .rows .now) (128 * a .k) all)) (c .before .before .before .before .before .full .ensures) (c .before .before .before .before .union .ensures)) (c .before .before .before .onward .result) (c .before .before .before .onward .ensures) (c .met .result) (c .met .ensures S R n)
+    λ S R n. hopeful-has S (a .work .now) (a .literals .now) (a .ways .now) (a .t) (a .rows .now) (a .k) any (subst (λ (all : List ℕ). Has any (Picked (a .rows .now) (limit.listed * a .k) all)) (c .before .before .before .before .before .full .ensures) (c .before .before .before .before .union .ensures)) (c .before .before .before .onward .result) (c .before .before .before .onward .ensures) (c .met .result) (c .met .ensures S R n)
 
 pub hopeful-spec : {M : Type 1} → statement M
 hopeful-spec =

@@ -4,6 +4,7 @@ use mathlib.Core.Bool.{true}
 use mathlib.Core.List.{List}
 use Prim.Native.Nat.{ℕ, suc, _+_, _-_, _*_, _≤_, _<_}
 use native.Mathlib.Omega.{arith}
+use Rattle.limits.specs.Limits as limit
 use Rattle.semantics.specs.Facts.{Database}
 use Rattle.facts_bits.specs.Bits.{Joined}
 use Rattle.search_levels.specs.declared.Meeting.{Meeting}
@@ -21,10 +22,10 @@ abbrev Paired : Database → List ℕ → List ℕ → List ℕ → Meeting → 
 Paired S work literals ways t rows k e f = Led ways t (pairAt rows k) e f × Met S work literals t e f
 
 abbrev Inv-loop : tie.InvT-loop
-Inv-loop work slots n literals t ways rows₀ k able f₀ rows f = (f ≤ 128) × Written (128 * suc k) (128 * suc k + f) rows₀ rows × Over work n (λ S. (e g : ℕ) → e < 128 → g < f → (pairAt rows (suc k) e g ≡ true) ↔ Paired S work literals ways t rows₀ k e g)
+Inv-loop work slots n literals t ways rows₀ k able f₀ rows f = (f ≤ limit.listed) × Written (limit.listed * suc k) (limit.listed * suc k + f) rows₀ rows × Over work n (λ S. (e g : ℕ) → e < limit.listed → g < f → (pairAt rows (suc k) e g ≡ true) ↔ Paired S work literals ways t rows₀ k e g)
 
 abbrev μ-loop : tie.MeasureT-loop
-μ-loop work slots n literals t ways rows₀ k able f₀ rows f = 128 - f
+μ-loop work slots n literals t ways rows₀ k able f₀ rows f = limit.listed - f
 
 hopeful-requires : tie.Need-hopeful-requires Inv-loop μ-loop
 hopeful-requires c κs = search needs
@@ -33,11 +34,11 @@ loop-holds : tie.Need-loop-holds Inv-loop μ-loop
 loop-holds c =
     let s = c .before .before .before .before .before .before .before in
     let a = s .args in
-    (omega arith, written-none (128 * suc (a .k)) (a .rows .now) (s .pre .4), λ S R n e g l q. absurd (omega (arith, q)))
+    (omega arith, written-none (limit.listed * suc (a .k)) (a .rows .now) (s .pre .4), λ S R n e g l q. absurd (omega (arith, q)))
 
 -- level k is as it was
-before-same : (c : tie.At-loop Inv-loop μ-loop) → (u v : ℕ) → u < 128 → v < 128 → pairAt (c .loop .rows) (c .before .before .before .before .before .before .before .before .args .k) u v ≡ pairAt (c .before .before .before .before .before .before .before .before .args .rows .now) (c .before .before .before .before .before .before .before .before .args .k) u v
-before-same c u v l h = c .loop .inv .1 .kept (128 * c .before .before .before .before .before .before .before .before .args .k + v) u (omega (arith, h)) l
+before-same : (c : tie.At-loop Inv-loop μ-loop) → (u v : ℕ) → u < limit.listed → v < limit.listed → pairAt (c .loop .rows) (c .before .before .before .before .before .before .before .before .args .k) u v ≡ pairAt (c .before .before .before .before .before .before .before .before .args .rows .now) (c .before .before .before .before .before .before .before .before .args .k) u v
+before-same c u v l h = c .loop .inv .1 .kept (limit.listed * c .before .before .before .before .before .before .before .before .args .k + v) u (omega (arith, h)) l
 
 next-row-requires : tie.Need-next-row-requires Inv-loop μ-loop
 next-row-requires c κs =
@@ -82,11 +83,11 @@ loop-again c =
     let a = s .args in
     let l = c .before .before .before .before .before .before .before .loop in
     let j = c .before .before .join in
-    let at : 128 * (a .k + 1) + l .f ≡ 128 * suc (a .k) + l .f = omega arith in
+    let at : limit.listed * (a .k + 1) + l .f ≡ limit.listed * suc (a .k) + l .f = omega arith in
     let joined = subst (λ (i : ℕ). Joined (l .rows) i (c .before .before .before .before .next-row .result) (j .last .0)) at (j .ensures) in (
       omega (arith, c .before .before .before .before .before .before .loop-test .taken),
-      written-more (128 * suc (a .k)) (l .f) (a .rows .now) (l .rows) (l .inv .1) (c .before .before .before .before .next-row .result) (j .last .0) joined (j .kept .0),
-      λ S R n. rows-more (128 * suc (a .k)) (l .f) (a .rows .now) (l .rows) (l .inv .1) (c .before .before .before .before .next-row .result) (j .last .0) joined
+      written-more (limit.listed * suc (a .k)) (l .f) (a .rows .now) (l .rows) (l .inv .1) (c .before .before .before .before .next-row .result) (j .last .0) joined (j .kept .0),
+      λ S R n. rows-more (limit.listed * suc (a .k)) (l .f) (a .rows .now) (l .rows) (l .inv .1) (c .before .before .before .before .next-row .result) (j .last .0) joined
           (Paired S (a .work .now) (a .literals .now) (a .ways .now) (a .t) (a .rows .now) (a .k))
           (has-so (c .before .before .before .before .next-row .result) (λ e. Paired S (a .work .now) (a .literals .now) (a .ways .now) (a .t) (l .rows) (a .k) e (l .f)) (λ e. Paired S (a .work .now) (a .literals .now) (a .ways .now) (a .t) (a .rows .now) (a .k) e (l .f))
           (λ e g. (
@@ -105,7 +106,7 @@ returns c =
     let s = c .before .before .before .before .before .before .before .before .before in
     let a = s .args in
     let l = c .before .loop in
-    let e : l .f ≡ 128 = omega (arith, l .inv .0, c .loop-test .left) in
+    let e : l .f ≡ limit.listed = omega (arith, l .inv .0, c .loop-test .left) in
     (record { long = l .inv .1 .long; kept = l .inv .1 .kept; clear = λ i u g h. l .inv .1 .clear i u (omega (arith, e)) h }, λ S R n u v p q. l .inv .2 S R n u v p (omega (arith, e, q)))
 
 pub pass-spec : {M : Type 1} → statement M

@@ -1,11 +1,12 @@
-use mathlib.Core.Path.{_≡_, refl, sym, subst}
+use mathlib.Core.Path.{_≡_, refl}
 use mathlib.Core.Bool.{true}
 use mathlib.Core.List.{List}
 use Prim.Native.Nat.{ℕ, _+_, _-_, _*_, _≤_, _<_}
 use native.Mathlib.Omega.{arith}
 use lib.ListN.{length, replicate}
+use Rattle.facts_bits.specs.Width as width
 use Rattle.facts_bits.specs.Bits.{bitAt}
-use Rattle.search_ways.specs.Moves.{Marks, With, InRow}
+use Rattle.search_ways.specs.Moves.{matrixBytes, Marks, With, InRow}
 use Rattle.search_levels.specs.Passing.{Picked}
 use Rattle.search_levels.proofs.Rows.{has-row, has-so, PickedBelow, picked-none, picked-more, picked-on}
 use borrow.Author.Needs.{needs}
@@ -13,10 +14,10 @@ use Rattle.search_levels.proofs.union.Statement.{statement}
 use Rattle.search_levels.proofs.union.Tie as tie
 
 abbrev Inv-loop : tie.InvT-loop
-Inv-loop table at picked out₀ u₀ out u = (u ≤ 128) × (at * 16 + 2048 ≤ length table) × (length picked ≡ 16) × (length out ≡ 16) × (u < 128 → bitAt picked u ≡ true) × Marks out (With (replicate 16 0) (InRow 0 128 (PickedBelow table at picked u)))
+Inv-loop table at picked out₀ u₀ out u = (u ≤ width.slots) × (at * width.bytes + matrixBytes ≤ length table) × (length picked ≡ width.bytes) × (length out ≡ width.bytes) × (u < width.slots → bitAt picked u ≡ true) × Marks out (With (replicate width.bytes 0) (InRow 0 width.slots (PickedBelow table at picked u)))
 
 abbrev μ-loop : tie.MeasureT-loop
-μ-loop table at picked out₀ u₀ out u = 128 - u
+μ-loop table at picked out₀ u₀ out u = width.slots - u
 
 next-requires : tie.Need-next-requires Inv-loop μ-loop
 next-requires c κs = search needs
@@ -49,7 +50,7 @@ loop-again : tie.Need-loop-again Inv-loop μ-loop
 loop-again c =
     let a = c .before .before .before .before .before .before .before .before .before .args in
     let l = c .before .before .before .before .before .before .loop in
-    let z : List ℕ = replicate 16 0 in
+    let z : List ℕ = replicate width.bytes 0 in
     let j = c .before .before .join in (
       c .next2 .ensures .most,
       l .inv .1,
@@ -57,18 +58,20 @@ loop-again c =
       search needs,
       c .next2 .ensures .set,
       picked-on (a .table .now) (a .at) (a .picked) (l .u + 1) (c .next2 .result) (c .next2 .ensures) z _
-          (picked-more (a .table .now) (a .at) (a .picked) z (l .u) (l .out) (c .before .before .before .before .row .result) _ (l .inv .4 (c .before .before .before .before .before .loop-test .taken)) (c .before .before .before .before .row .ensures) (j .ensures) (l .inv .5)),
+          (picked-more (a .table .now) (a .at) (a .picked) z (l .u) (l .out) (c .before .before .before .before .row .result) _ (c .before .before .before .before .before .loop-test .taken) (l .inv .4 (omega (arith, c .before .before .before .before .before .loop-test .taken))) (c .before .before .before .before .row .ensures) (j .ensures) (l .inv .5)),
     )
 
 returns : tie.Need-returns Inv-loop μ-loop
 returns c =
     let a = c .before .before .before .before .args in
     let l = c .before .loop in
-    let e : l .u ≡ 128 = omega (arith, l .inv .0, c .loop-test .left) in
     let D : ℕ → ℕ → Type 0 = PickedBelow (a .table .now) (a .at) (a .picked) in
-    has-so (l .out) (λ t. InRow 0 128 (D (l .u)) 0 t) (Picked (a .table .now) (a .at) (a .picked))
-    (λ t h. ((λ q. subst (λ (n : ℕ). D n t) e (q .2)), λ q. (refl, h, subst (λ (n : ℕ). D n t) (sym e) q)))
-    (has-row 16 (l .out) (InRow 0 128 (D (l .u))) (l .inv .5))
+    has-so (l .out) (λ t. InRow 0 width.slots (D (l .u)) 0 t) (Picked (a .table .now) (a .at) (a .picked))
+    (λ t h. (
+      (λ q. (q .2 .0, q .2 .2, q .2 .3, q .2 .4)),
+      λ q. (refl, omega arith, (q .0, omega (arith, q .1, c .loop-test .left), q .1, q .2, q .3)),
+    ))
+    (has-row width.bytes (l .out) (InRow 0 width.slots (D (l .u))) (l .inv .5))
 
 pub union-spec : {M : Type 1} → statement M
 union-spec =

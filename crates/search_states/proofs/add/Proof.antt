@@ -1,6 +1,7 @@
 use mathlib.Core.Path.{sym, _∙_}
 use borrow.Author.Needs.{needs}
-use Rattle.search_states.proofs.Laws.{added-empty, added-same, added-fresh, room}
+use native.Mathlib.Omega.{arith}
+use Rattle.search_states.proofs.Laws.{added-empty, added-same, added-fresh, added-over}
 use Rattle.search_states.proofs.add.Statement.{statement}
 use Rattle.search_states.proofs.add.Tie as tie
 
@@ -16,16 +17,18 @@ returns-2 c =
     added-same (a .t1) (a .state) (a .line) (a .origin) (c .before .before .before .before .before .if1 .left) (sym (c .before .among .ensures) ∙ c .if2 .taken)
 
 append-requires : tie.Need-append-requires
-append-requires c κs =
-    let a = c .before .before .before .before .before .before .args in
-    let p = c .before .before .before .before .before .before .pre in
-    room (a .t1) (p .0) (a .state) (c .before .before .before .before .before .if1 .left) (p .1) (sym (c .before .among .ensures) ∙ c .if2 .left)
+append-requires c κs = search needs
 
 returns-3 : tie.Need-returns-3
 returns-3 c =
     let b = c .before in
-    let a = b .before .before .before .before .before .before .args in
-    c .append .ensures ∙ added-fresh (a .t1) (a .state) (a .line) (a .origin) (b .before .before .before .before .before .if1 .left) (sym (b .before .among .ensures) ∙ b .if2 .left)
+    let a = b .before .before .before .before .before .before .before .args in
+    c .append .ensures ∙ added-fresh (a .t1) (a .state) (a .line) (a .origin) (b .before .before .before .before .before .before .if1 .left) (sym (b .before .before .among .ensures) ∙ b .before .if2 .left) (b .if3 .taken)
+
+returns-4 : tie.Need-returns-4
+returns-4 c =
+    let a = c .before .before .before .before .before .before .before .args in
+    added-over (a .t1) (a .state) (a .line) (a .origin) (c .before .before .before .before .before .before .if1 .left) (sym (c .before .before .among .ensures) ∙ c .before .if2 .left) (omega arith)
 
 pub add-spec : {M : Type 1} → statement M
-add-spec = tie.close (tie.spec returns among-requires returns-2 append-requires returns-3)
+add-spec = tie.close (tie.spec returns among-requires returns-2 append-requires returns-3 returns-4)

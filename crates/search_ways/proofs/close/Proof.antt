@@ -3,14 +3,14 @@ use Prim.Native.Nat.{ℕ, _-_, _≤_}
 use native.Mathlib.Omega.{arith}
 use native.Mathlib.Numerals.{add-one}
 use lib.ListN.{length}
-use Rattle.search_ways.specs.Moves.{Marks}
+use Rattle.search_ways.specs.Moves.{matrixBytes, Marks}
 use Rattle.search_ways.proofs.Closing.{Via, via-none, via-more, via-all}
 use borrow.Author.Needs.{needs}
 use Rattle.search_ways.proofs.close.Statement.{statement}
 use Rattle.search_ways.proofs.close.Tie as tie
 
 abbrev Inv-loop : tie.InvT-loop
-Inv-loop ways₀ n k₀ ways k = (k ≤ n) × (length ways ≡ 2048) × Marks ways (Via ways₀ k)
+Inv-loop ways₀ n k₀ ways k = (k ≤ n) × (length ways ≡ matrixBytes) × Marks ways (Via ways₀ k)
 
 abbrev μ-loop : tie.MeasureT-loop
 μ-loop ways₀ n k₀ ways k = n - k

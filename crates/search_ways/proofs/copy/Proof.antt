@@ -1,5 +1,6 @@
 use mathlib.Core.Path.{subst}
 use Prim.Native.Nat.{ℕ}
+use Rattle.facts_bits.specs.Width as width
 use Rattle.facts_bits.specs.Bits.{Copied}
 use Rattle.search_ways.specs.Moves.{InRow, Noted}
 use Rattle.search_ways.proofs.Marking.{marks-same}
@@ -29,12 +30,12 @@ join-requires c κs = search needs
 returns : tie.Need-returns
 returns c =
     let a = c .before .before .before .before .args in
-    marks-same (a .table .now) (InRow (a .i) 128 (Noted (a .c .action) (a .work .now) (a .i))) (λ k t q. rw (c .enum-told .given .1) at (q .2))
+    marks-same (a .table .now) (InRow (a .i) width.slots (Noted (a .c .action) (a .work .now) (a .i))) (λ k t q. rw (c .enum-told .given .1) at (q .2))
 
 returns-2 : tie.Need-returns-2
 returns-2 c =
     let a = c .before .before .before .before .args in
-    marks-same (a .table .now) (InRow (a .i) 128 (Noted (a .c .action) (a .work .now) (a .i))) (λ k t q. rw (c .enum-told2 .given .1) at (q .2))
+    marks-same (a .table .now) (InRow (a .i) width.slots (Noted (a .c .action) (a .work .now) (a .i))) (λ k t q. rw (c .enum-told2 .given .1) at (q .2))
 
 same-length : tie.Need-same-length
 same-length c = search needs

@@ -8,7 +8,7 @@ use Rattle.semantics.specs.Labels.{relabel}
 use Rattle.semantics.specs.Facts.{state}
 use Rattle.semantics.proofs.Tools.{clash}
 use Rattle.model.specs.declared.Action.the-variants.{Next}
-use Rattle.search_ways.specs.Moves.{Marks, With}
+use Rattle.search_ways.specs.Moves.{matrixBytes, Marks, With}
 use Rattle.search_ways.specs.Steps.{Led}
 use Rattle.search_ways.proofs.Marking.{Upto, upto-none, upto-more, upto-skip}
 use borrow.Author.Needs.{needs}
@@ -16,7 +16,7 @@ use Rattle.search_ways.proofs.lead_next.Statement.{statement}
 use Rattle.search_ways.proofs.lead_next.Tie as tie
 
 abbrev Inv-loop : tie.InvT-loop
-Inv-loop states n plus minus table i ways₀ e₀ ways e = (e ≤ n) × (length ways ≡ 2048) × Marks ways (With ways₀ (Upto e n (Led table i (take n states) (Next plus minus))))
+Inv-loop states n plus minus table i ways₀ e₀ ways e = (e ≤ n) × (length ways ≡ matrixBytes) × Marks ways (With ways₀ (Upto e n (Led table i (take n states) (Next plus minus))))
 
 abbrev μ-loop : tie.MeasureT-loop
 μ-loop states n plus minus table i ways₀ e₀ ways e = n - e

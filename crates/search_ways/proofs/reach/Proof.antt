@@ -3,14 +3,14 @@ use Prim.Native.Nat.{_-_, _<_}
 use native.Mathlib.Omega.{arith}
 use lib.ListN.{length}
 use Rattle.facts_bits.proofs.Laws.{with-bit-length}
-use Rattle.search_ways.specs.Moves.{Marks}
+use Rattle.search_ways.specs.Moves.{matrixBytes, Marks}
 use Rattle.search_ways.specs.Shortest.{NotBefore, Layers}
 use Rattle.search_ways.proofs.Nearest.{layers-start, layers-more, not-yet, farther}
 use Rattle.search_ways.proofs.reach.Statement.{statement}
 use Rattle.search_ways.proofs.reach.Tie as tie
 
 abbrev Inv-loop : tie.InvT-loop
-Inv-loop links n from to layers₀ j₀ layers j = (j < n) × (length layers ≡ 2048) × Marks layers (Layers links n from j) × NotBefore links n j from to
+Inv-loop links n from to layers₀ j₀ layers j = (j < n) × (length layers ≡ matrixBytes) × Marks layers (Layers links n from j) × NotBefore links n j from to
 
 abbrev μ-loop : tie.MeasureT-loop
 μ-loop links n from to layers₀ j₀ layers j = n - j

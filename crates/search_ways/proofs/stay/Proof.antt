@@ -3,14 +3,14 @@ use Prim.Native.Nat.{ℕ, _-_, _≤_}
 use native.Mathlib.Omega.{arith}
 use lib.ListN.{length}
 use Rattle.facts_bits.proofs.Laws.{with-bit-length}
-use Rattle.search_ways.specs.Moves.{Marks, With}
+use Rattle.search_ways.specs.Moves.{matrixBytes, Marks, With}
 use Rattle.search_ways.proofs.Marking.{row-put, Upto, upto-none, upto-more}
 use borrow.Author.Needs.{needs}
 use Rattle.search_ways.proofs.stay.Statement.{statement}
 use Rattle.search_ways.proofs.stay.Tie as tie
 
 abbrev Inv-loop : tie.InvT-loop
-Inv-loop n ways₀ e₀ ways e = (e ≤ n) × (length ways ≡ 2048) × Marks ways (With ways₀ (Upto e n (λ (k t : ℕ). k ≡ t)))
+Inv-loop n ways₀ e₀ ways e = (e ≤ n) × (length ways ≡ matrixBytes) × Marks ways (With ways₀ (Upto e n (λ (k t : ℕ). k ≡ t)))
 
 abbrev μ-loop : tie.MeasureT-loop
 μ-loop n ways₀ e₀ ways e = n - e

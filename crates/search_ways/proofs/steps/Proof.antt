@@ -3,14 +3,14 @@ use Prim.Native.Nat.{ℕ, _-_, _≤_}
 use native.Mathlib.Omega.{arith}
 use lib.ListN.{length}
 use Rattle.search_states.specs.States.{row}
-use Rattle.search_ways.specs.Moves.{Marks}
+use Rattle.search_ways.specs.Moves.{matrixBytes, Marks}
 use Rattle.search_ways.proofs.Stepping.{LedTo, led-start, led-more, led-all}
 use borrow.Author.Needs.{needs}
 use Rattle.search_ways.proofs.steps.Statement.{statement}
 use Rattle.search_ways.proofs.steps.Tie as tie
 
 abbrev Inv-loop : tie.InvT-loop
-Inv-loop table ways₀ m s n i₀ ways i = (i ≤ m .clausecount) × (length ways ≡ 2048) × Marks ways (LedTo m (row s) n table i)
+Inv-loop table ways₀ m s n i₀ ways i = (i ≤ m .clausecount) × (length ways ≡ matrixBytes) × Marks ways (LedTo m (row s) n table i)
 
 abbrev μ-loop : tie.MeasureT-loop
 μ-loop table ways₀ m s n i₀ ways i = m .clausecount - i

@@ -2,14 +2,14 @@ use mathlib.Core.Path.{_≡_, subst}
 use Prim.Native.Nat.{ℕ, _-_, _≤_}
 use native.Mathlib.Omega.{arith}
 use lib.ListN.{length}
-use Rattle.search_ways.specs.Moves.{Marks}
+use Rattle.search_ways.specs.Moves.{tableBytes, Marks}
 use Rattle.search_ways.proofs.Table.{Below, below-none, below-more, can-take}
 use borrow.Author.Needs.{needs}
 use Rattle.search_ways.proofs.takes.Statement.{statement}
 use Rattle.search_ways.proofs.takes.Tie as tie
 
 abbrev Inv-loop : tie.InvT-loop
-Inv-loop work table₀ m i₀ table i = (i ≤ m .clausecount) × (length table ≡ 1024) × Marks table (Below m work i)
+Inv-loop work table₀ m i₀ table i = (i ≤ m .clausecount) × (length table ≡ tableBytes) × Marks table (Below m work i)
 
 abbrev μ-loop : tie.MeasureT-loop
 μ-loop work table₀ m i₀ table i = m .clausecount - i

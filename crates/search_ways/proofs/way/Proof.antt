@@ -9,6 +9,7 @@ use Rattle.semantics.specs.Walkers.{Way}
 use Rattle.model.specs.Records.{programOf}
 use Rattle.search_states.specs.States.{row}
 use Rattle.search_states.proofs.Laws.{length-row}
+use Rattle.search_ways.specs.Moves.{matrixBytes}
 use Rattle.search_ways.specs.Shortest.{Near, NotBefore}
 use Rattle.search_ways.proofs.Marking.{marks-none}
 use Rattle.search_ways.proofs.Nearest.{some-near, least-way, last-move, not-before, slice-more}
@@ -29,7 +30,7 @@ reach-requires : tie.Need-reach-requires Inv-loop μ-loop
 reach-requires c κs =
     let s = c .before .before .before .before in
     let a = s .args in
-    (omega (arith, s .pre .1 .count), s .pre .7, s .pre .8, s .pre .5, search needs, marks-none 2048, some-near (a .m) (s .pre .0) (a .s) (s .pre .1) (s .pre .2) (a .links .now) (s .pre .6) (a .from) (a .to) (s .pre .7) (s .pre .8) (s .pre .9))
+    (omega (arith, s .pre .1 .count), s .pre .7, s .pre .8, s .pre .5, search needs, marks-none matrixBytes, some-near (a .m) (s .pre .0) (a .s) (s .pre .1) (s .pre .2) (a .links .now) (s .pre .6) (a .from) (a .to) (s .pre .7) (s .pre .8) (s .pre .9))
 
 loop-holds : tie.Need-loop-holds Inv-loop μ-loop
 loop-holds c =

@@ -3,6 +3,7 @@ use mathlib.Core.Bool.{true}
 use Prim.Native.Nat.{ℕ, _-_, _≤_, _<_}
 use native.Mathlib.Omega.{arith}
 use borrow.Author.Count.{below-more}
+use Rattle.limits.specs.Limits as limit
 use Rattle.semantics.proofs.Tools.{clash}
 use Rattle.search_levels.specs.Levels.{pairAt}
 use borrow.Author.Needs.{needs}
@@ -10,10 +11,10 @@ use Rattle.witness.proofs.goal.Statement.{statement}
 use Rattle.witness.proofs.goal.Tie as tie
 
 abbrev Inv-loop : tie.InvT-loop
-Inv-loop rows k f₀ f = (f ≤ 128) × ((g : ℕ) → g < f → (e : ℕ) × (e < 128) × (pairAt rows k e g ≡ true) → ⊥)
+Inv-loop rows k f₀ f = (f ≤ limit.listed) × ((g : ℕ) → g < f → (e : ℕ) × (e < limit.listed) × (pairAt rows k e g ≡ true) → ⊥)
 
 abbrev μ-loop : tie.MeasureT-loop
-μ-loop rows k f₀ f = 128 - f
+μ-loop rows k f₀ f = limit.listed - f
 
 loop-holds : tie.Need-loop-holds Inv-loop μ-loop
 loop-holds c = (omega arith, λ g l. omega arith)
@@ -34,7 +35,7 @@ returns : tie.Need-returns Inv-loop μ-loop
 returns c =
     let r = c .before .before .row .ensures in
     let n = c .before .next in
-    (c .if1 .taken, c .before .before .before .loop-test .taken, sym (r .bits (n .result) (c .if1 .taken)) ∙ n .ensures .set (c .if1 .taken))
+    (c .if1 .taken, c .before .before .before .loop-test .taken, sym (r .bits (n .result) (omega (arith, c .if1 .taken))) ∙ n .ensures .set (omega (arith, c .if1 .taken)))
 
 add-f : tie.Need-add-f Inv-loop μ-loop
 add-f c = search needs
@@ -47,7 +48,7 @@ loop-again c = (
   omega (arith, c .before .before .before .loop-test .taken),
   below-more _ _ (c .before .before .before .before .loop .inv .1) (λ h.
       let l = c .if1 .left in
-      clash (h .2) (sym (c .before .before .row .ensures .bits (h .0) (h .1)) ∙ c .before .next .ensures .clear (h .0) (omega arith) (omega (arith, h .1)))),
+      clash (h .2) (sym (c .before .before .row .ensures .bits (h .0) (omega (arith, h .1))) ∙ c .before .next .ensures .clear (h .0) (omega arith) (omega (arith, h .1)))),
 )
 
 returns-2 : tie.Need-returns-2 Inv-loop μ-loop

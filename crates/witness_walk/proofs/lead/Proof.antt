@@ -1,6 +1,7 @@
 use mathlib.Core.Path.{_≡_}
 use native.Mathlib.Omega.{arith}
 use lib.ListN.{length}
+use Rattle.limits.specs.Limits as limit
 use Rattle.witness_walk.proofs.Errands.{way-few, way-numerable, way-written}
 use borrow.Author.Needs.{needs}
 use Rattle.witness_walk.proofs.lead.Statement.{statement}
@@ -16,7 +17,7 @@ slice-aggregate-tell : tie.Need-slice-aggregate-tell
 slice-aggregate-tell c = search needs
 
 -- the lines have their room still
-long : (c : tie.After-way) → length (c .way .last .1 .1 .1 .1 .1 .1 .0) ≡ 128
+long : (c : tie.After-way) → length (c .way .last .1 .1 .1 .1 .1 .1 .0) ≡ limit.listed
 long c = search needs
 
 tell-requires : tie.Need-tell-requires

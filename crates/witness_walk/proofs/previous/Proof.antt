@@ -2,6 +2,7 @@ use mathlib.Core.Logic.{⊎-elim}
 use Prim.Native.Nat.{ℕ, _+_, _-_, _*_, _≤_, _<_}
 use native.Mathlib.Omega.{arith}
 use borrow.Author.Count.{below-more}
+use Rattle.limits.specs.Limits as limit
 use Rattle.search_levels.specs.Levels.{Moved}
 use Rattle.witness_walk.specs.Walk.{Source}
 use Rattle.witness_walk.proofs.Sources.{said, denied, found-pair, pair-found}
@@ -10,10 +11,10 @@ use Rattle.witness_walk.proofs.previous.Statement.{statement}
 use Rattle.witness_walk.proofs.previous.Tie as tie
 
 abbrev Inv-loop : tie.InvT-loop
-Inv-loop rows ways k first second one two begun began v₀ v = (v ≤ 128) × ((w : ℕ) → w < v → (u : ℕ) × (u < 128) × Source rows ways (128 * k + w) one begun first u × Moved ways two began w second → ⊥)
+Inv-loop rows ways k first second one two begun began v₀ v = (v ≤ limit.listed) × ((w : ℕ) → w < v → (u : ℕ) × (u < limit.listed) × Source rows ways (limit.listed * k + w) one begun first u × Moved ways two began w second → ⊥)
 
 abbrev μ-loop : tie.MeasureT-loop
-μ-loop rows ways k first second one two begun began v₀ v = 128 - v
+μ-loop rows ways k first second one two begun began v₀ v = limit.listed - v
 
 holds-requires : tie.Need-holds-requires Inv-loop μ-loop
 holds-requires c κs = search needs

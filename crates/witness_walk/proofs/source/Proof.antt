@@ -3,6 +3,7 @@ use mathlib.Core.Logic.{⊎-elim}
 use Prim.Native.Nat.{ℕ, _-_, _≤_, _<_}
 use native.Mathlib.Omega.{arith}
 use borrow.Author.Count.{below-more}
+use Rattle.limits.specs.Limits as limit
 use Rattle.semantics.proofs.Tools.{clash}
 use Rattle.witness_walk.specs.Walk.{Source}
 use Rattle.witness_walk.proofs.Sources.{said, denied}
@@ -11,10 +12,10 @@ use Rattle.witness_walk.proofs.source.Statement.{statement}
 use Rattle.witness_walk.proofs.source.Tie as tie
 
 abbrev Inv-loop : tie.InvT-loop
-Inv-loop rows ways j stands began e u₀ u = (u ≤ 128) × ((v : ℕ) → v < u → Source rows ways j stands began e v → ⊥)
+Inv-loop rows ways j stands began e u₀ u = (u ≤ limit.listed) × ((v : ℕ) → v < u → Source rows ways j stands began e v → ⊥)
 
 abbrev μ-loop : tie.MeasureT-loop
-μ-loop rows ways j stands began e u₀ u = 128 - u
+μ-loop rows ways j stands began e u₀ u = limit.listed - u
 
 loop-holds : tie.Need-loop-holds Inv-loop μ-loop
 loop-holds c = (omega arith, λ v l. omega arith)
