@@ -1,7 +1,7 @@
 /* Tumreslo's calls for C: the analysis of an EON text, the replay of a run, the replay one place at a time, the accepted lines, the mark of a hand-in,
  * and what is declared and stands on a line, for display.
  *
- * The library is written by `rt staticlib exports` as target/staticlib/libexports.a.
+ * The library is written by `./library` as target/staticlib/libeon.a.
  *
  * A buffer is passed as a pointer and its number of elements. Buffers must not overlap, and a pointer must not be null,
  * not even where the number of elements is 0.
