@@ -6,10 +6,10 @@ use mathlib.Core.List.{List, [], _∷_, map}
 use Prim.Native.Nat.{ℕ, suc, _+_, _≤_, _<_}
 use native.Mathlib.Omega.{arith}
 use lib.Dec.{eqb, ltb}
-use lib.ListN.{length, take, length-append, length-map, length-take}
+use lib.ListN.{length, take, getD, length-append, length-map, length-take}
 use borrow.Author.Tests.{eqb-true, eqb-false, ltb-false}
 use Rattle.limits.specs.Limits as limit
-use Rattle.semantics.specs.Models.{Line, rule, new, next, other, line, Program, Question}
+use Rattle.semantics.specs.Models.{Line, rule, new, next, other, line, Program, Question, names}
 use Rattle.semantics.specs.Facts.{Database}
 use Rattle.semantics.specs.Runs as runs
 use Rattle.semantics.specs.Runs.{step, meet, start, after}
@@ -90,7 +90,7 @@ module _ (run : List ℕ) (a : Analysis) (run′ : List ℕ) where
   refusal-fits n h = rw (h .0) (tt, tt, omega arith)
 
   else-fits : (A B : Type 0) (n : ℕ) → (B → Fit a run′) → from.OrElse run a run′ A n B → Fit a run′
-  else-fits A B n next h = ⊎-elim (λ w. refusal-fits n (w .1)) (λ w. next (w .1)) h
+  else-fits A B n rest h = ⊎-elim (λ w. refusal-fits n (w .1)) (λ w. rest (w .1)) h
 
   module _ (P : Program) (Q : Question) where
     verdict-fits : (D : Database) (x o : ℕ) (b : Answer) → from.Answered P Q D x o run run′ b → ShortRun b × Shown (length run′) b
@@ -106,7 +106,7 @@ module _ (run : List ℕ) (a : Analysis) (run′ : List ℕ) where
 
 pub asking-fits : (c : Outcome) (ns : List ℕ) (o : ℕ) (work run : List ℕ) (a : Analysis) (work′ run′ : List ℕ) → asking.Leaves c ns o work run a work′ run′ → Fit a run′
 asking-fits (refused n l) ns o work run a work′ run′ h = rw (h .0) (tt, tt, omega arith)
-asking-fits (accepted D P Q) ns o work run a work′ run′ h = ⊎-elim (λ w. refusal-fits run a run′ 16 (w .1)) (λ w. asked-fits run a run′ P Q (w .0 .db) o _ (w .3)) (h .answer)
+asking-fits (accepted D P Q) ns o work run a work′ run′ h = ⊎-elim (λ w. refusal-fits run a run′ 16 (w .1)) (λ w. asked-fits run a run′ P Q (w .0 .db) o (names (getD Q 0 [])) (w .3)) (h .answer)
 
 -- THE REPLAY
 module _ (P : Program) (Q : Question) where

@@ -16,27 +16,27 @@ from-here-requires c κs = search needs
 
 last-number-requires : tie.Need-last-number-requires
 last-number-requires c κs =
-    let s = c .before .before .before .before .before .before .before .before .before .before .before in
+    let s = c .before .before .before .before .before .before .before .before .before .before .before .before in
     let a = c .before .before .before .before .before .from-here in
     let work = now (s .args .work) in
     let run = now (s .args .run) in
-    asking-fits (called (now (s .args .text)) (short (length work) (length run)) (ltb limit.run (length (now (s .args .before))))) (now (s .args .before)) (s .args .object) work run (a .result) (a .last .1 .0) (a .last .1 .1 .0) (a .ensures) .1
+    asking-fits (called (now (s .args .text)) (short (length work) (length run)) (ltb limit.run (length (now (s .args .before))))) (now (s .args .before)) (s .args .object) work run (a .result) (a .last .1 .1 .1 .0) (a .last .1 .1 .1 .1 .0) (a .ensures) .1
 
 table-requires : tie.Need-table-requires
 table-requires c κs =
-    let s = c .before .before .before .before .before .before .before .before .before .before .before .before in
+    let s = c .before .before .before .before .before .before .before .before .before .before .before .before .before in
     let a = c .before .before .before .before .before .before .from-here in
     let work = now (s .args .work) in
     let run = now (s .args .run) in
-    asking-fits (called (now (s .args .text)) (short (length work) (length run)) (ltb limit.run (length (now (s .args .before))))) (now (s .args .before)) (s .args .object) work run (a .result) (a .last .1 .0) (a .last .1 .1 .0) (a .ensures) .2
+    asking-fits (called (now (s .args .text)) (short (length work) (length run)) (ltb limit.run (length (now (s .args .before))))) (now (s .args .before)) (s .args .object) work run (a .result) (a .last .1 .1 .1 .0) (a .last .1 .1 .1 .1 .0) (a .ensures) .2
 
 coded-requires : tie.Need-coded-requires
 coded-requires c κs =
-    let s = c .before .before .before .before .before .before .before .before .before .before .before .before .before in
+    let s = c .before .before .before .before .before .before .before .before .before .before .before .before .before .before in
     let a = c .before .before .before .before .before .before .before .from-here in
     let work = now (s .args .work) in
     let run = now (s .args .run) in
-    asking-fits (called (now (s .args .text)) (short (length work) (length run)) (ltb limit.run (length (now (s .args .before))))) (now (s .args .before)) (s .args .object) work run (a .result) (a .last .1 .0) (a .last .1 .1 .0) (a .ensures) .0
+    asking-fits (called (now (s .args .text)) (short (length work) (length run)) (ltb limit.run (length (now (s .args .before))))) (now (s .args .before)) (s .args .object) work run (a .result) (a .last .1 .1 .1 .0) (a .last .1 .1 .1 .1 .0) (a .ensures) .0
 
 same-length : tie.Need-same-length
 same-length c = search needs
