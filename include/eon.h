@@ -6,7 +6,7 @@
  * A buffer is passed as a pointer and its number of elements. Buffers must not overlap, and a pointer must not be null,
  * not even where the number of elements is 0.
  *
- * The calls eon_analyze, eon_replay, eon_why, eon_place, eon_mark and eon_handin return kind * 2^32 + value:
+ * The calls eon_analyze, eon_from, eon_replay, eon_why, eon_place, eon_mark and eon_handin return kind * 2^32 + value:
  *
  *   kind 0   unreached               value 0
  *   kind 1   reached                 value: the number n of places of the run shown
@@ -26,11 +26,12 @@
  * 4 one declaration or clause too many; 5 a name declared again; 6 a name undeclared or of the wrong kind; 7 a wrong number of variables;
  * 8 `not` before a derived relation; 9 a variable only under `not` or only in the head, a fourth variable, one repeated in a rule's head;
  * 10 a line after `ask`, or no `ask`; 11 three or more carried variables; 12 a work area under EON_WORK bytes, or a table lent for writing
- * under EON_RUN places; 14 a run over EON_RUN places, or a state that has kept EON_RUN; 15 more than 127 non-empty atomic states are reachable.
- * The first line is 1; the line is 0 for numbers 1, 12, 14 and 15. 15 comes after all others, from eon_analyze, and from eon_mark where the verdict is
- * needed. A replay of such a text works as ever, and the calls for display take it as accepted.
+ * under EON_RUN places; 14 a run over EON_RUN places, or a state that has kept EON_RUN; 15 more than 127 non-empty atomic states are reachable;
+ * 16, 17 and 18 from eon_from, which says when.
+ * The first line is 1; the line is 0 for numbers 1, 12 and 14 to 18. 15 comes after all others, from eon_analyze and eon_from, and from eon_mark where
+ * the verdict is needed. A replay of such a text works as ever, and the calls for display take it as accepted.
  *
- * After a refusal other than 15 the lent buffers are as they were, but for `out`, and so they are after an unreadable hand-in. After 15 and after every
+ * After a refusal below 15 the lent buffers are as they were, but for `out`, and so they are after an unreadable hand-in. After 15 to 18 and after every
  * other answer the first EON_WORK bytes of the work area are zero, and the rest is as it was.
  *
  * A call needs under 512 KB of stack, and no memory but the stack and what is lent.
@@ -73,6 +74,17 @@ extern "C" {
  *
  * run is written only for reached, and only its first n places; so it is as it was after 15. */
 uint64_t eon_analyze(const uint8_t *text, size_t bytes, uint8_t *work, size_t work_bytes, uint32_t *run, size_t places, uint32_t *out);
+
+/* Asks what can still become of an object: kind 0, 1 or 2. `before` has the places kept so far, from the empty database on; the question is put anew from
+ * the database that they leave: reached exactly if from there some run meets all stages, from stage 1 on, with the first variable of stage 1 (by first
+ * appearance) standing for the object. Meetings among the places count for nothing here, and a replay that is left open is unaffected.
+ *
+ * The run shown starts from that database with no stage met and nothing carried; its new objects are numbered from the number created so far, its
+ * meeting of stage 1 names the object first, and it relabels no old object but that one. out and run are as for eon_analyze; the states are the text's.
+ *
+ * Refused besides, after the lines and before 15, each with line 0 and with the buffers as after 15: 16 if one of the places is broken, or the object was
+ * not created; 17 if stage 1 has no variable; 18 if over 126 objects exist. `before` is too long, 14, over EON_RUN places. */
+uint64_t eon_from(const uint8_t *text, size_t bytes, const uint32_t *before, size_t count, uint32_t object, uint8_t *work, size_t work_bytes, uint32_t *run, size_t places, uint32_t *out);
 
 /* Replays a run over a text: kind 2, 3 or 4.
  *

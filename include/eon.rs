@@ -2,6 +2,8 @@
 #[allow(dead_code)]
 extern "C" {
     fn eon_analyze(text: *const u8, bytes: usize, work: *mut u8, work_bytes: usize, run: *mut u32, places: usize, out: *mut u32) -> u64;
+    #[rustfmt::skip]
+    fn eon_from(text: *const u8, bytes: usize, before: *const u32, count: usize, object: u32, work: *mut u8, work_bytes: usize, run: *mut u32, places: usize, out: *mut u32) -> u64;
     fn eon_replay(text: *const u8, bytes: usize, run: *const u32, places: usize, work: *mut u8, work_bytes: usize, stood: *mut u32, numbers: usize) -> u64;
     fn eon_why(text: *const u8, bytes: usize, run: *const u32, places: usize, work: *mut u8, work_bytes: usize, stood: *mut u32, numbers: usize) -> u64;
     fn eon_place(text: *const u8, bytes: usize, session: *mut u32, place: u32, work: *mut u8, work_bytes: usize) -> u64;

@@ -49,9 +49,9 @@ impl Answer {
         matches!(self, Answer::Refused(..))
     }
 
-    /// Whether the work area is used before the answer is known: after every answer but a refusal, and after 15.
+    /// Whether the work area is used before the answer is known: after every answer but a refusal, and after 15 to 18.
     fn wipes(&self) -> bool {
-        !self.is_refusal() || matches!(self, Answer::Refused(15, _))
+        !self.is_refusal() || matches!(self, Answer::Refused(15..=18, _))
     }
 }
 
@@ -74,7 +74,7 @@ impl Area {
         self.bytes.as_mut_ptr()
     }
 
-    /// Whether the area is as documents 01 and 02 have it after the answer: untouched after a refusal other than 15, else 65,536 zeros and the rest
+    /// Whether the area is as documents 01 and 02 have it after the answer: untouched after a refusal below 15, else 65,536 zeros and the rest
     /// untouched.
     fn is_right(&self, answer: &Answer) -> bool {
         let wiped = if answer.wipes() { WORK.min(self.size) } else { 0 };
@@ -102,11 +102,22 @@ pub struct Analysis {
 
 /// Analyzes a text with buffers of these sizes.
 pub fn analyze(text: &[u8], work: usize, places: usize) -> Analysis {
+    analyzed(work, places, |area, table, out| unsafe { eon_analyze(text.as_ptr(), text.len(), area, work, table, places, out) })
+}
+
+/// Asks what can become of an object after the places before, with buffers of these sizes.
+pub fn from_here(text: &[u8], before: &[u32], object: u32, work: usize, places: usize) -> Analysis {
+    analyzed(work, places, |area, table, out| unsafe {
+        eon_from(text.as_ptr(), text.len(), before.as_ptr(), before.len(), object, area, work, table, places, out)
+    })
+}
+
+/// What a call that is answered like the analysis left.
+fn analyzed(work: usize, places: usize, call: impl FnOnce(*mut u8, *mut u32, *mut u32) -> u64) -> Analysis {
     let mut area = Area::new(work);
     let mut table: Vec<u32> = (0..places + BEHIND).map(run_pattern).collect();
     let mut out = [0xDEAD_BEEFu32; OUT];
-    let code = unsafe { eon_analyze(text.as_ptr(), text.len(), area.pointer(), work, table.as_mut_ptr(), places, out.as_mut_ptr()) };
-    let answer = Answer::decode(code);
+    let answer = Answer::decode(call(area.pointer(), table.as_mut_ptr(), out.as_mut_ptr()));
     let written = if let Answer::Reached(n) = answer { n.min(places) } else { 0 };
     let count = (out[0] as usize).min(LISTED);
     Analysis {

@@ -13,6 +13,7 @@ mod lent;
 mod longest;
 mod meaning;
 mod models;
+mod onward;
 mod paired;
 mod playing;
 mod random;
@@ -59,6 +60,17 @@ fn covered_enough(report: &mut Report) {
     report.met_often("kept runs whose pair is one object", 80);
     report.met_often("kept runs whose pair is two objects", 80);
     report.met_often("played on after other objects", 400);
+    for number in [1, 2, 3, 6, 12, 14, 15, 16, 17, 18] {
+        report.met_often(&format!("from here: refused {number:2}"), 1);
+    }
+    report.met_often("from here: reached", 400);
+    report.met_often("from here: Unreached", 300);
+    report.met_often("from here: led about, reached", 300);
+    report.met_often("from here: led about, unreached", 200);
+    report.met_often("from here: a plain run is found", 300);
+    report.met_often("from here: unreached where the plain question is reached", 50);
+    report.met_often("from here: the first variable is carried", 200);
+    report.met_often("from here: the first variable is in stage 1 alone", 200);
     report.met_often("analysis: refused 15", 60);
     report.met_often("models with too many states", 40);
     report.met_often("models with more than 7 labels in use", 60);
@@ -91,6 +103,7 @@ fn main() {
     lent::all(&mut report);
     crowd::all(&mut report);
     buffers::all(&mut report);
+    onward::all(&mut report);
     seeded::models(&mut report);
     covered_enough(&mut report);
     if !report.close() {

@@ -92,8 +92,15 @@ fn run_to(nodes: &[Node], mut at: usize) -> Vec<u32> {
 
 /// Looks at sessions with at most so many objects until all or so many sessions are found.
 pub fn search(m: &Model, objects: usize, most: usize) -> Found {
-    let mut nodes = vec![Node { session: Session::default(), from: 0, place: 0 }];
-    let mut seen: HashSet<Key> = HashSet::from([key(&nodes[0].session)]);
+    search_from(m, Session::default(), None, objects, most)
+}
+
+/// The same from a session on, where the object pointed at stands for the first variable of stage 1.
+pub fn search_from(m: &Model, from: Session, pointed: Option<usize>, objects: usize, most: usize) -> Found {
+    let mut seen: HashSet<(Key, Option<u32>)> = HashSet::new();
+    let mut know = |s: &Session| seen.insert((key(s), pointed.filter(|_| s.met == 0).map(|p| s.db[p])));
+    know(&from);
+    let mut nodes = vec![Node { session: from, from: 0, place: 0 }];
     let mut found = Found { run: None, states: BTreeSet::new(), whole: true };
     let mut at = 0;
     while at < nodes.len() {
@@ -108,8 +115,12 @@ pub fn search(m: &Model, objects: usize, most: usize) -> Found {
         }
         let facts = m.facts(&s.db);
         for place in places(m, &s, &facts, objects) {
+            let another = |p: usize| matches!(place, Place::Meeting(1, os) if os[0] != p);
+            if pointed.is_some_and(another) {
+                continue;
+            }
             let Some(next) = s.after(m, &facts, place) else { continue };
-            if seen.insert(key(&next)) {
+            if know(&next) {
                 nodes.push(Node { session: next, from: at, place: place.encode() });
             }
         }
@@ -118,20 +129,24 @@ pub fn search(m: &Model, objects: usize, most: usize) -> Found {
     found
 }
 
-/// How far a question is met: the stages met, and the state of each carried object that is chosen.
-type Led = (usize, [Option<u32>; CARRIED]);
+/// The object pointed at is led about too, as long as stage 1 is not met.
+const LED: usize = CARRIED + 1;
+const POINTED: usize = CARRIED;
 
-/// One object of each reachable state, which stands by and never changes, and behind these the carried objects that are chosen.
+/// How far a question is met: the stages met, and the state of each carried object that is chosen, and of the object pointed at.
+type Led = (usize, [Option<u32>; LED]);
+
+/// One object of each reachable state, which stands by and never changes, and behind these the objects that are led about.
 struct Crowd {
     db: Vec<u32>,
-    walkers: [Option<usize>; CARRIED],
+    walkers: [Option<usize>; LED],
     facts: Facts,
 }
 
 impl Crowd {
     fn new(m: &Model, states: &BTreeSet<u32>, led: &Led) -> Crowd {
         let mut db: Vec<u32> = states.iter().copied().collect();
-        let mut walkers = [None; CARRIED];
+        let mut walkers = [None; LED];
         for (walker, state) in walkers.iter_mut().zip(led.1) {
             let Some(state) = state else { continue };
             *walker = Some(db.len());
@@ -141,7 +156,7 @@ impl Crowd {
         Crowd { db, walkers, facts }
     }
 
-    /// Where one `next` line leads one of the carried objects.
+    /// Where one `next` line leads one of the objects that are led about.
     fn walks(&self, m: &Model, led: &Led) -> Vec<Led> {
         let mut all = Vec::new();
         for (c, walker) in self.walkers.iter().enumerate().filter_map(|(c, w)| w.map(|o| (c, o))) {
@@ -158,10 +173,11 @@ impl Crowd {
     /// What is carried after the next stage is met, for each choice of objects; an object that is chosen now is another one of the same state.
     fn meetings(&self, m: &Model, led: &Led) -> Vec<Led> {
         let stage = &m.stages[led.0];
-        let walker = |x: usize| stage.carried.iter().position(|seat| *seat == Some(x)).and_then(|c| self.walkers[c]);
+        let pointed = |x: usize| if x == 0 { self.walkers[POINTED] } else { None };
+        let walker = |x: usize| stage.carried.iter().position(|seat| *seat == Some(x)).and_then(|c| self.walkers[c]).or(pointed(x));
         let fixed: Vec<Option<usize>> = (0..stage.body.variables).map(walker).collect();
         let meeting = |choice: Vec<usize>| {
-            let chosen = |c: usize| stage.carried[c].map(|x| self.db[choice[x]]).or(led.1[c]);
+            let chosen = |c: usize| stage.carried.get(c).and_then(|seat| seat.map(|x| self.db[choice[x]]).or(led.1[c]));
             (led.0 + 1, std::array::from_fn(chosen))
         };
         stage.body.choices(&self.db, &self.facts, &fixed).into_iter().map(meeting).collect()
@@ -171,7 +187,12 @@ impl Crowd {
 /// Whether the stages are met where one object of each reachable state stands by and the carried objects are led about; none after so many tries.
 /// By document 02's count a run needs no more than this.
 pub fn led_about(m: &Model, states: &BTreeSet<u32>, most: usize) -> Option<bool> {
-    let mut found: Vec<Led> = vec![(0, [None; CARRIED])];
+    led_from(m, states, None, most)
+}
+
+/// The same where an object in this state is pointed at, and stands for the first variable of stage 1.
+pub fn led_from(m: &Model, states: &BTreeSet<u32>, pointed: Option<u32>, most: usize) -> Option<bool> {
+    let mut found: Vec<Led> = vec![(0, [None, None, pointed])];
     let mut seen: HashSet<Led> = HashSet::from([found[0]]);
     let mut at = 0;
     while let Some(led) = found.get(at).copied() {

@@ -5,6 +5,7 @@ use crate::damage;
 use crate::guess;
 use crate::guided;
 use crate::meaning::{play, Action, Clause, Model};
+use crate::onward;
 use crate::paired;
 use crate::playing::play_on;
 use crate::random::{model, Random, Shape};
@@ -203,6 +204,7 @@ fn texts(report: &mut Report, r: &mut Random, text: &str) {
             }
         }
         subject.replay(report, &[]);
+        onward::refused(report, r, &subject);
         subject.place(report, &mut fresh(), 256 * r.below(12) as u32);
     }
 }
@@ -262,6 +264,7 @@ fn seeded(report: &mut Report, r: &mut Random, text: &str) {
         features(report, text, m, matches!(a.answer, Answer::Reached(_)));
     }
     compare(report, &subject, m, a.answer, &a.states);
+    onward::ask(report, r, &subject, m, &a.run);
     for _ in 0..3 {
         replay_both_ways(report, &subject, &guess::run(r, m));
     }

@@ -21,6 +21,11 @@ fn longest(m: &Model) -> usize {
     8_128 + 505 * m.carried + m.stages.len()
 }
 
+/// Whether a run that is lent for reading has too many places.
+pub fn too_long(run: &[u32]) -> bool {
+    run.len() > RUN
+}
+
 impl Subject {
     pub fn new(text: &[u8]) -> Subject {
         let read = match reader::read(text) {
@@ -40,7 +45,7 @@ impl Subject {
     }
 
     /// The refusal of a call: row 1, then what the call adds, then the lines.
-    fn refusal(&self, others: &[(u32, bool)]) -> Option<(u32, u32)> {
+    pub fn refusal(&self, others: &[(u32, bool)]) -> Option<(u32, u32)> {
         if self.read.as_ref().is_err_and(|r| r.0 == 1) {
             return Some((1, 0));
         }
@@ -98,7 +103,7 @@ impl Subject {
 
     /// Replays a run with a work area and a table of these sizes, and compares the answer and the whole table with the plain ones.
     pub fn replay_with(&self, report: &mut Report, run: &[u32], work: usize, numbers: usize) -> Answer {
-        let (plain, notes) = match (self.refusal(&[(12, work < WORK || numbers < RUN), (14, run.len() > RUN)]), &self.read) {
+        let (plain, notes) = match (self.refusal(&[(12, work < WORK || numbers < RUN), (14, too_long(run))]), &self.read) {
             (None, Ok(m)) => {
                 let played = play(m, run);
                 (played.broken_at(m, run).map_or(Answer::Kept, Answer::Broken), played.notes)

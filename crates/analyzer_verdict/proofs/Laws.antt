@@ -14,6 +14,7 @@ use Rattle.model.specs.Records.{programOf, questionOf}
 use Rattle.model.specs.WellFormed.{WellFormed}
 use Rattle.model.specs.Places.{numberOf, placed, standsFor, placeOf}
 use Rattle.model.proofs.Accepted.{stages}
+use Rattle.search_levels.specs.Levels.{nothing}
 use Rattle.search.specs.declared.Found.{Found}
 use Rattle.search.specs.Search.{Searched, Finds}
 use Rattle.witness_table.specs.Runs.{numbers}
@@ -25,7 +26,7 @@ use Rattle.analyzer_verdict.specs.declared.Answer.the-variants.{Reached,
 use Rattle.analyzer_verdict.specs.Judging.{Crowded, Shown, Answered, Listed, Beside}
 
 -- the place of a number is the one that its parts stand for
-parts : (k : ℕ) → standsFor (placed k) ≡ placeOf k
+pub parts : (k : ℕ) → standsFor (placed k) ≡ placeOf k
 unfolding placeOf
 parts k = refl
 
@@ -49,6 +50,7 @@ module _ (m : Model) (wf : WellFormed m) where
           mapped = record { whole = h .whole; tabled = h .moves .tabled; moves = h .moves .table; stepped = h .moves .stepped; single = h .moves .steps };
           long = h .moves .closed;
           comes = h .moves .ways;
+          asked = nothing;
           levels = h .levels;
         }
 

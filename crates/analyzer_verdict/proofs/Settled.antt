@@ -60,7 +60,7 @@ module _ (P : Program) (states : List ℕ) (n : ℕ) (h : Listed P states n) (lo
       let k : j < n = (let f = first-long in omega arith) in
       rw (getD-take n states i 0 (omega arith), getD-take n states j 0 k) (h .rising i j a k)
 
-states-settled : (P : Program) (s t : List ℕ) (n k : ℕ) → length s ≡ limit.listed → length t ≡ limit.listed → Listed P s n → Listed P t k → (s ≡ t) × (n ≡ k)
+pub states-settled : (P : Program) (s t : List ℕ) (n k : ℕ) → length s ≡ limit.listed → length t ≡ limit.listed → Listed P s n → Listed P t k → (s ≡ t) × (n ≡ k)
 states-settled P s t n k p q g h = (sym (take-append-drop n s) ∙ ap (λ (l : List ℕ). l ++ drop n s) first ∙ ap (λ (l : List ℕ). take k t ++ l) rest ∙ take-append-drop k t, count)
   where
     first : take n s ≡ take k t

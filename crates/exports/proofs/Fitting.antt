@@ -6,10 +6,11 @@ use mathlib.Core.List.{List, [], _∷_, map}
 use Prim.Native.Nat.{ℕ, suc, _+_, _≤_, _<_}
 use native.Mathlib.Omega.{arith}
 use lib.Dec.{eqb, ltb}
-use lib.ListN.{length, take, length-append, length-map, length-take}
+use lib.ListN.{length, take, getD, length-append, length-map, length-take}
 use borrow.Author.Tests.{eqb-true, eqb-false, ltb-false}
 use Rattle.limits.specs.Limits as limit
-use Rattle.semantics.specs.Models.{Line, rule, new, next, other, line, Program, Question}
+use Rattle.semantics.specs.Models.{Line, rule, new, next, other, line, Program, Question, names}
+use Rattle.semantics.specs.Facts.{Database}
 use Rattle.semantics.specs.Runs as runs
 use Rattle.semantics.specs.Runs.{step, meet, start, after}
 use Rattle.model.specs.Places.{numberOf}
@@ -24,6 +25,8 @@ use Rattle.analyzer_verdict.specs.declared.Answer.the-variants.{Reached, Unreac
 use Rattle.analyzer_verdict.specs.declared.Analysis.{Analysis}
 use Rattle.analyzer_verdict.specs.Judging.{Answered, Beside}
 use Rattle.analyzer.specs.Analyzing.{Leaves}
+use Rattle.from_here_verdict.specs.From as from
+use Rattle.from_here.specs.Asking as asking
 use Rattle.replay_session.specs.declared.Answer as session
 use Rattle.replay_session.specs.declared.Answer.the-variants as reply
 use Rattle.replay_session.specs.declared.PlaceAnswer.{PlaceAnswer}
@@ -62,7 +65,7 @@ module _ (P : Program) (Q : Question) (run run′ : List ℕ) where
   answer-fits : (a : Answer) → Answered P Q run run′ a → ShortRun a × Shown (length run′) a
   answer-fits (Reached n last) h =
       let s = h .2 in
-      (s .fits, (omega (arith, s .count, ap length (s .ends), length-append (s .before) (meet (length Q) (s .objects) ∷ [])), run-places n (s .places) (s .written) (s .count)))
+      (omega (arith, s .fits), (omega (arith, s .count, ap length (s .ends), length-append (s .before) (meet (length Q) (s .objects) ∷ [])), run-places n (s .places) (s .written) (s .count)))
   answer-fits Unreached h = (tt, tt)
   answer-fits (Refused n l) h = (tt, tt)
 
@@ -77,6 +80,33 @@ analysis-fits (refused n l) work run a work′ run′ h = rw (h .0) (tt, tt, ome
 analysis-fits (accepted D P Q) work run a work′ run′ h =
     let f = answer-fits P Q run run′ (a .answer) (h .verdict) in
     (f .0, f .1, count-fits P Q run run′ (a .states) (a .count) (a .answer) (h .states))
+
+-- WHAT CAN STILL BECOME OF AN OBJECT: the same of a refusal, and of a verdict
+abbrev Fit : Analysis → List ℕ → Type 0
+Fit a run′ = ShortRun (a .answer) × Shown (length run′) (a .answer) × (a .count ≤ limit.listed)
+
+module _ (run : List ℕ) (a : Analysis) (run′ : List ℕ) where
+  refusal-fits : (n : ℕ) → from.Refuses run a run′ n → Fit a run′
+  refusal-fits n h = rw (h .0) (tt, tt, omega arith)
+
+  else-fits : (A B : Type 0) (n : ℕ) → (B → Fit a run′) → from.OrElse run a run′ A n B → Fit a run′
+  else-fits A B n rest h = ⊎-elim (λ w. refusal-fits n (w .1)) (λ w. rest (w .1)) h
+
+  module _ (P : Program) (Q : Question) where
+    verdict-fits : (D : Database) (x o : ℕ) (b : Answer) → from.Answered P Q D x o run run′ b → ShortRun b × Shown (length run′) b
+    verdict-fits D x o (Reached n last) h =
+        let s = h .1 in
+        (omega (arith, s .fits), (omega (arith, s .count, ap length (s .ends), length-append (s .before) (meet (length Q) (s .objects) ∷ [])), run-places P Q run run′ n (s .places) (s .written) (s .count)))
+    verdict-fits D x o Unreached h = (tt, tt)
+    verdict-fits D x o (Refused n l) h = absurd h
+
+    asked-fits : (D : Database) (o : ℕ) (xs : List ℕ) → from.Asked run a run′ P Q D o xs → Fit a run′
+    asked-fits D o [] h = refusal-fits 17 h
+    asked-fits D o (x ∷ xs) h = else-fits _ _ 18 (else-fits _ _ 15 (λ w. let f = verdict-fits D x o (a .answer) (w .0) in (f .0, f .1, w .1 .count))) h
+
+pub asking-fits : (c : Outcome) (ns : List ℕ) (o : ℕ) (work run : List ℕ) (a : Analysis) (work′ run′ : List ℕ) → asking.Leaves c ns o work run a work′ run′ → Fit a run′
+asking-fits (refused n l) ns o work run a work′ run′ h = rw (h .0) (tt, tt, omega arith)
+asking-fits (accepted D P Q) ns o work run a work′ run′ h = ⊎-elim (λ w. refusal-fits run a run′ 16 (w .1)) (λ w. asked-fits run a run′ P Q (w .0 .db) o (names (getD Q 0 [])) (w .3)) (h .answer)
 
 -- THE REPLAY
 module _ (P : Program) (Q : Question) where

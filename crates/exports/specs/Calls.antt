@@ -11,6 +11,7 @@ use Rattle.grammar.specs.Texts.{outcome}
 use Rattle.model.specs.Places.{numberOf}
 use Rattle.analyzer_verdict.specs.declared.Analysis.{Analysis}
 use Rattle.analyzer.specs.Analyzing.{Analyzes}
+use Rattle.from_here.specs.Asking.{Asks}
 use Rattle.replay_session.specs.declared.Answer.{Answer}
 use Rattle.replay_session.specs.declared.PlaceAnswer.{PlaceAnswer}
 use Rattle.replay_session.specs.declared.Session.{Session}
@@ -36,6 +37,13 @@ use Rattle.exports.specs.Cells.{lastNumber, stateOf, cellsOf}
 pub record Analyzed (text work run : List ℕ) (n : ℕ) (work′ run′ out′ : List ℕ) : Type 0 where
   pub analysis : Analysis
   pub analyzes : Analyzes text work run analysis work′ run′
+  pub number : n ≡ coded (analysis .answer)
+  pub cells : out′ ≡ cells.table analysis (lastNumber (analysis .answer) run′)
+
+-- WHAT CAN STILL BECOME OF AN OBJECT after the places, with the work area, the run table and the cells after it
+pub record Asked (text places : List ℕ) (object : ℕ) (work run : List ℕ) (n : ℕ) (work′ run′ out′ : List ℕ) : Type 0 where
+  pub analysis : Analysis
+  pub asks : Asks text places object work run analysis work′ run′
   pub number : n ≡ coded (analysis .answer)
   pub cells : out′ ≡ cells.table analysis (lastNumber (analysis .answer) run′)
 

@@ -9,9 +9,9 @@ use Rattle.replay_session.specs.declared.PlaceAnswer as place
 use Rattle.replay_session.specs.declared.PlaceAnswer.the-variants as placeReply
 use Rattle.replay_session.specs.declared.Session.{Session}
 
--- a shown run has at most 9,142 places
+-- a shown run has at most 9,344 places
 abbrev pub ShortRun : Answer → Type 0
-ShortRun (Reached n last) = n ≤ limit.shown
+ShortRun (Reached n last) = n ≤ limit.run
 ShortRun Unreached = Unit {0}
 ShortRun (Refused n l) = Unit {0}
 

@@ -19,7 +19,7 @@ ghost use Rattle.display.specs.Shown.{literalAt, variableAt};
 ghost use Rattle.effects.specs.Effects.{effectAt};
 ghost use Rattle.exports.specs.Codes.{refusal as refusalCode, coded as codeOf, replied as replyCode, put as placeCode};
 ghost use Rattle.exports.specs.Cells.{lastNumber, table as tableOf, stateOf, cellsOf};
-ghost use Rattle.exports.specs.Calls.{Analyzed, Replayed, Placed, written, Handed, Marked, Reasoned, Declared, Spanned};
+ghost use Rattle.exports.specs.Calls.{Analyzed, Asked, Replayed, Placed, written, Handed, Marked, Reasoned, Declared, Spanned};
 ghost use Rattle.exports.specs.Ranges.{ShortRun, LowPlace, LowNumber, Shown, Small};
 
 // The cells beside an answer of the analysis, of which the last has the shown run's last place.
@@ -162,6 +162,26 @@ pub extern "C" fn eon_analyze(
     ensures { λ r. ⌜ Analyzed (now (text .entry)) (now (work .entry)) (now (run .entry)) r (now (work .exit)) (now (run .exit)) (now (out .exit)) ⌝ }
 {
     let analysis = analyzer::analyze(text, work, run);
+    let answer = analysis.answer;
+    let last = last_number(answer, run);
+    let cells = table(analysis, last);
+    *out = cells;
+    coded(answer)
+}
+
+// Asks what can still become of an object after the places.
+#[no_mangle]
+pub extern "C" fn eon_from(
+    text: &[u8],
+    before: &[u32],
+    object: u32,
+    work: &mut [u8],
+    run: &mut [u32],
+    out: &mut [u32; OUT],
+) -> u64
+    ensures { λ r. ⌜ Asked (now (text .entry)) (now (before .entry)) object (now (work .entry)) (now (run .entry)) r (now (work .exit)) (now (run .exit)) (now (out .exit)) ⌝ }
+{
+    let analysis = from_here::from_here(text, before, object, work, run);
     let answer = analysis.answer;
     let last = last_number(answer, run);
     let cells = table(analysis, last);

@@ -77,6 +77,17 @@ walked = atomic + (stages - 1) * (atomic - 1)
 abbrev pub shown : ℕ
 shown = built + carried * walked + stages
 
+-- document 02, R-7: refused "18 if over 126 objects exist": with one object of each state and the carried ones behind them there are 255
+abbrev pub earlier : ℕ
+earlier = objects - atomic - carried
+
+-- document 02, R-7: a run "from that database .. of at most 8,128 + 126 + 2 × 505 steps"; with 4 meetings, 9,268 places
+abbrev pub stepsFrom : ℕ
+stepsFrom = built + (atomic - 1) + carried * walked
+
+abbrev pub shownFrom : ℕ
+shownFrom = stepsFrom + stages
+
 -- document 02: the empty state "counts" too
 abbrev pub listed : ℕ
 listed = atomic + 1

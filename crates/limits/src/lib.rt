@@ -52,6 +52,9 @@ pub const ATOMIC: usize = 127;
 // The reachable atomic states, with the empty one.
 pub const LISTED: usize = ATOMIC + 1;
 
+// The objects that may exist where a question is put anew.
+pub const EARLIER: usize = OBJECTS - ATOMIC - CARRIED;
+
 // The numbers of atomic states.
 pub const SETS: u32 = 1 << STATES;
 

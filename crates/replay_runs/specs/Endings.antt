@@ -31,8 +31,8 @@ pub record Stopped (m : Model) (run : List ℕ) (k : ℕ) (s : Session) : Type 0
   pub cells : length (s .carried) ≡ limit.carried
   pub leads : Leads (programOf m) (questionOf m) (start []) run k (sessionOf m s)
 
--- the state where a run that is broken at place k broke
+-- the state where a run ends, or where one that is broken at place k broke
 abbrev pub Ends : Model → List ℕ → Answer → Session → Type 0
-Ends m run Kept s = Unit {0}
+Ends m run Kept s = Stopped m run (length run) s
 Ends m run (Broken k) s = Stopped m run k s
 Ends m run (Refused n l) s = Unit {0}

@@ -5,6 +5,7 @@ use mathlib.Core.Bool.{Bool, true, false, false≢true}
 use mathlib.Core.List.{List}
 use Prim.Native.Nat.{ℕ, _+_, _*_, _≤_, _<_}
 use native.Mathlib.Omega.{arith}
+use lib.ListN.{length}
 use Rattle.limits.specs.Limits as limit
 use Rattle.semantics.specs.Labels.{relabel}
 use Rattle.semantics.specs.Models.{elem, Body, Line, rule, new, next, other}
@@ -12,13 +13,13 @@ use Rattle.semantics.specs.Facts.{state, In, Derived, Meets}
 use Rattle.semantics.specs.Steps.{Reachable, MoreThan}
 use Rattle.semantics.specs.Questions.{Verdict}
 use Rattle.semantics.specs.Tables.{Shows, From, Empties}
-use Rattle.semantics.specs.Walkers.{Whole, Comes}
+use Rattle.semantics.specs.Walkers.{Whole}
 use Rattle.semantics.proofs.Tools.{same?, clash}
 use Rattle.semantics.proofs.Bodies.{more-facts}
 use Rattle.semantics.proofs.WalkersMoves.{states}
 use Rattle.semantics.proofs.Crowded.{crowded, roomy}
 use Rattle.model.specs.declared.Model.{Model}
-use Rattle.model.specs.Records.{clauseLine, programOf, questionOf, clauseAt}
+use Rattle.model.specs.Records.{clauseLine, programOf, questionOf, clauseAt, stageAt}
 use Rattle.model.specs.WellFormed.{WellFormed}
 use Rattle.model.proofs.Lines.{every-line}
 use Rattle.facts_bits.specs.Bits.{Copied, Next as Following}
@@ -28,13 +29,15 @@ use Rattle.search_states.specs.States.{row, Known, by, from}
 use Rattle.search_states.proofs.Laws.{length-row, row-full}
 use Rattle.search_clauses.specs.Reach.{Lists}
 use Rattle.search_reachable.specs.Reachable.{Reaches}
-use Rattle.search_ways.specs.Moves.{Marks, Exactly}
-use Rattle.search_ways.specs.Steps.{Between}
+use Rattle.search_ways.specs.Moves.{Exactly}
 use Rattle.search_ways.proofs.Laws.{whole}
-use Rattle.search_levels.specs.declared.Levels.{Levels}
-use Rattle.search_levels.specs.Levels.{pairAt, Filled}
+use Rattle.search_levels.specs.declared.Pointing.{Pointing}
+use Rattle.search_levels.specs.Levels.{pairAt, nothing, Aims, Points, Filled}
+use Rattle.search_levels.proofs.Targets.{aims-points}
 use Rattle.search_levels.proofs.Laws as levels
-use Rattle.search.specs.Search.{Entered}
+use Rattle.search.specs.declared.Explored.{Explored}
+use Rattle.search.specs.declared.Found.{Found}
+use Rattle.search.specs.Search.{Surveyed, Explores, Entered, exploredOf, Judged, Searched, Finds, SearchedFrom, FindsFrom}
 
 -- THE ROWS OF A LEVEL one after the other: those below f have no slot
 module _ (rows : List ℕ) (k : ℕ) where
@@ -95,19 +98,83 @@ module _ (m : Model) (wf : WellFormed m) (w : List ℕ) (s : States) (reaches : 
     emptied (ℓ, p, f) = every-line m (λ (L : Line). (p : ℕ) → From (programOf m) (row s) 0 p L → s .empty ≡ true) (λ p f. absurd f)
         (λ i h. noted (clauseLine (m .literals) (clauseAt m i)) (reaches .listed fits i h)) ℓ p f
 
-    -- EXACTLY THE REACHABLE STATES, and the verdict; both speak of runs of every length
+    -- EXACTLY THE REACHABLE STATES, in runs of every length
     pub reachable : (t : ℕ) → Reachable (programOf m) t ↔ Known s t
     reachable t =
         let q = states (programOf m) (wf .safe) (row s) no-more (by s) (from s) (reaches .found) t in
         ((λ r. ⊎-elim (λ e. inl (e .0, emptied (e .1))) (λ e. inr e) (q .0 r)), λ k. q .1 (⊎-elim (λ e. inl (e .0, reaches .empty (e .1))) (λ e. inr e) k))
 
-    pub verdict : (ways : List ℕ) → Marks ways (Between (s .count) (λ e u. Comes (programOf m) (row s) (state (row s) e) (state (row s) u))) → (l : Levels) → Filled m (row s) w ways l
-        → (r : Bool) → (r ≡ true) ↔ Entered (l .rows) (m .stagecount) → Verdict (programOf m) (questionOf m) r
-    verdict ways closed l filled r test = go r test
-      where
-        law : Entered (l .rows) (m .stagecount) ↔ Verdict (programOf m) (questionOf m) true
-        law = levels.verdict m wf w s exactly ways closed l filled no-more (reaches .found)
+-- WHAT IS EXPLORED is what the levels rest on
+pub surveyed-exactly : (m : Model) (w : List ℕ) (e : Explored) → Surveyed m w e → Exactly m w (e .states)
+surveyed-exactly m w e h = record { proper = h .proper; agree = h .agree; shown = h .exact .states; facts = h .exact .facts; marks = h .marks }
 
-        go : (b : Bool) → (b ≡ true) ↔ Entered (l .rows) (m .stagecount) → Verdict (programOf m) (questionOf m) b
+module _ (m : Model) (wf : WellFormed m) (w : List ℕ) where
+  -- THE VERDICT over the explored states, by the levels
+  module _ (r : Found) (surveyed : Surveyed m w (exploredOf r)) (test : (r .reached ≡ true) ↔ Entered (r .levels .rows) (m .stagecount)) where
+    pub searched : Filled m (row (r .states)) w (r .moves .ways) nothing (r .levels) → Searched m w r
+    searched filled = record {
+      proper = surveyed .proper;
+      reachable = surveyed .reachable;
+      listing = surveyed .listing;
+      verdict = go (r .reached) test;
+      entered = test .0;
+      found = surveyed .found;
+      whole = surveyed .whole;
+      agree = surveyed .agree;
+      exact = surveyed .exact;
+      moves = surveyed .moves;
+      levels = filled;
+    }
+      where
+        law : Entered (r .levels .rows) (m .stagecount) ↔ Verdict (programOf m) (questionOf m) true
+        law = levels.verdict m wf w (r .states) (surveyed-exactly m w (exploredOf r) surveyed) (r .moves .ways) (surveyed .moves .ways) nothing (r .levels) filled (surveyed .whole) (surveyed .found) refl
+
+        go : (b : Bool) → (b ≡ true) ↔ Entered (r .levels .rows) (m .stagecount) → Verdict (programOf m) (questionOf m) b
         go true q = law .0 (q .0 refl)
         go false q = λ x. absurd (false≢true (q .1 (law .1 x)))
+
+    -- and from a database, with an object of state s
+    pub searched-from : 0 < stageAt m 0 .variables → (s : ℕ) (p : Pointing) → Aims (r .states) (r .moves .ways) s p → Filled m (row (r .states)) w (r .moves .ways) p (r .levels) → SearchedFrom m s w r
+    searched-from one s p aims filled = record {
+      explored = surveyed;
+      verdict = λ ps t lead o there same. let law = levels.verdict-from m wf w (r .states) exactly (r .moves .ways) (surveyed .moves .ways) p (r .levels) filled (surveyed .whole) (surveyed .found) s points one ps t lead o there same in
+          ((λ q. law .0 (test .0 q)), λ q. test .1 (law .1 q));
+      entered = test .0;
+      asked = p;
+      aims = aims;
+      levels = filled;
+    }
+      where
+        exactly : Exactly m w (r .states)
+        exactly = surveyed-exactly m w (exploredOf r) surveyed
+
+        points : Points (programOf m) (row (r .states)) s p
+        points = aims-points m wf (r .states) (surveyed .proper) (r .moves .ways) (surveyed .moves .ways) s p aims
+
+  -- WHAT IS FOUND, where there are not too many states
+  module _ (e : Explored) (explores : Explores m w e) (fits : e .crowded ≡ false) (p : Pointing) (r : Found) (judged : Judged m w e p r) where
+    judged-surveyed : Surveyed m w (exploredOf r)
+    judged-surveyed = subst (Surveyed m w) (sym (judged .explored)) (explores .surveyed fits)
+
+    judged-fits : r .crowded ≡ false
+    judged-fits = ap (λ (x : Explored). x .crowded) (judged .explored) ∙ fits
+
+    few-enough : (r .crowded ≡ true) ↔ MoreThan limit.atomic (programOf m)
+    few-enough = ((λ q. clash q judged-fits), λ q. clash (explores .crowded .1 q) fits)
+
+    pub finds : p ≡ nothing → Finds m w r
+    finds plain = record { crowded = few-enough; searched = λ q. searched r judged-surveyed (judged .entered) (subst (λ (x : Pointing). Filled m (row (r .states)) w (r .moves .ways) x (r .levels)) plain (judged .levels)) }
+
+    pub finds-from : 0 < stageAt m 0 .variables → (s : ℕ) → Aims (e .states) (e .moves .ways) s p → FindsFrom m s w r
+    finds-from one s aims = record { crowded = few-enough; searched = λ q. searched-from r judged-surveyed (judged .entered) one s p (subst (λ (x : Explored). Aims (x .states) (x .moves .ways) s p) (sym (judged .explored)) aims) (judged .levels) }
+
+  -- and where there are
+  module _ (e : Explored) (explores : Explores m w e) (full : e .crowded ≡ true) (r : Found) (same : r .crowded ≡ e .crowded) where
+    many : (r .crowded ≡ true) ↔ MoreThan limit.atomic (programOf m)
+    many = ((λ q. explores .crowded .0 full), λ q. same ∙ full)
+
+    pub finds-many : Finds m w r
+    finds-many = record { crowded = many; searched = λ q. clash (same ∙ full) q }
+
+    pub finds-many-from : (s : ℕ) → FindsFrom m s w r
+    finds-many-from s = record { crowded = many; searched = λ q. clash (same ∙ full) q }

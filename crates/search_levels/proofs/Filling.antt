@@ -12,6 +12,7 @@ use Rattle.semantics.proofs.Tools.{either, same?, clash}
 use Rattle.model.specs.declared.Model.{Model}
 use Rattle.facts_bits.specs.Bits.{bitAt, withBit, inRow, Joined}
 use Rattle.search_ways.proofs.Marking.{marks-bit}
+use Rattle.search_levels.specs.declared.Pointing.{Pointing}
 use Rattle.search_levels.specs.Levels.{pairAt, Next, Passed}
 use Rattle.search_levels.specs.Passing.{Has, Clear, Written}
 use Rattle.search_levels.proofs.Rows.{no-bit}
@@ -58,17 +59,17 @@ pub begun-clear : (n : ℕ) → 0 < n → Clear (limit.listed * suc 0) (withBit 
 begun-clear n some i e l h = let p = marks-bit (replicate n 0) 0 0 (omega arith) (rw length-replicate (omega arith)) .bits i e (omega arith) in
     ⊎-elim (λ q. absurd (⊎-elim (λ x. clash x (no-bit n i e (omega arith))) (λ x. omega (arith, x .0)) (p .0 q))) (λ q. q) (either (inRow (withBit (replicate n 0) 0) i e))
 
-module _ (m : Model) (S w ways : List ℕ) where
+module _ (m : Model) (S w ways : List ℕ) (p : Pointing) where
   -- the same pairs on both levels
   module _ (A A′ : ℕ → ℕ → Bool) (a : (e f : ℕ) → e < limit.listed → f < limit.listed → A e f ≡ A′ e f) where
-    next-so : (k e f : ℕ) → Next m S w ways k A e f → Next m S w ways k A′ e f
+    next-so : (k e f : ℕ) → Next m S w ways p k A e f → Next m S w ways p k A′ e f
     next-so k e f q = let x = q .0 in ((x .0, x .1, x .2, x .3, sym (a (x .0) (x .1) (x .2) (x .3)) ∙ x .4, x .5, x .6), q .1)
 
-  passed-so : (k : ℕ) (A B A′ B′ : ℕ → ℕ → Bool) → ((e f : ℕ) → e < limit.listed → f < limit.listed → A e f ≡ A′ e f) → ((e f : ℕ) → e < limit.listed → f < limit.listed → B e f ≡ B′ e f) → Passed m S w ways k A B → Passed m S w ways k A′ B′
+  passed-so : (k : ℕ) (A B A′ B′ : ℕ → ℕ → Bool) → ((e f : ℕ) → e < limit.listed → f < limit.listed → A e f ≡ A′ e f) → ((e f : ℕ) → e < limit.listed → f < limit.listed → B e f ≡ B′ e f) → Passed m S w ways p k A B → Passed m S w ways p k A′ B′
   passed-so k A B A′ B′ a b h = record {
-    pairs = λ e f l g. let p = h .pairs e f l g in (
-      (λ q. next-so A A′ a k e f (p .0 (b e f l g ∙ q))),
-      λ q. sym (b e f l g) ∙ p .1 (next-so A′ A (λ u v i j. sym (a u v i j)) k e f q),
+    pairs = λ e f l g. let z = h .pairs e f l g in (
+      (λ q. next-so A A′ a k e f (z .0 (b e f l g ∙ q))),
+      λ q. sym (b e f l g) ∙ z .1 (next-so A′ A (λ u v i j. sym (a u v i j)) k e f q),
     );
   }
 
@@ -77,10 +78,10 @@ module _ (m : Model) (S w ways : List ℕ) where
     level-same : (j : ℕ) → j ≤ k → (e f : ℕ) → e < limit.listed → f < limit.listed → pairAt old j e f ≡ pairAt new j e f
     level-same j h e f l g = sym (kept (limit.listed * j + f) e (omega arith) l)
 
-    pub passed-more : ((j : ℕ) → j < k → Passed m S w ways j (pairAt old j) (pairAt old (suc j))) → Passed m S w ways k (pairAt old k) (pairAt new (suc k))
-        → (j : ℕ) → j < suc k → Passed m S w ways j (pairAt new j) (pairAt new (suc j))
+    pub passed-more : ((j : ℕ) → j < k → Passed m S w ways p j (pairAt old j) (pairAt old (suc j))) → Passed m S w ways p k (pairAt old k) (pairAt new (suc k))
+        → (j : ℕ) → j < suc k → Passed m S w ways p j (pairAt new j) (pairAt new (suc j))
     passed-more before last j l = ⊎-elim
-        (λ (z : j ≡ k). subst (λ (i : ℕ). Passed m S w ways i (pairAt new i) (pairAt new (suc i))) (sym z)
-        (passed-so k (pairAt old k) (pairAt new (suc k)) (pairAt new k) (pairAt new (suc k)) (level-same k (omega arith)) (λ e f p q. refl) last))
+        (λ (z : j ≡ k). subst (λ (i : ℕ). Passed m S w ways p i (pairAt new i) (pairAt new (suc i))) (sym z)
+        (passed-so k (pairAt old k) (pairAt new (suc k)) (pairAt new k) (pairAt new (suc k)) (level-same k (omega arith)) (λ e f x y. refl) last))
         (λ (z : j ≢ k). passed-so j (pairAt old j) (pairAt old (suc j)) (pairAt new j) (pairAt new (suc j)) (level-same j (omega (arith, l))) (level-same (suc j) (omega (arith, l, z))) (before j (omega (arith, l, z))))
         (same? j k)

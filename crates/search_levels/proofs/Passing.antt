@@ -61,10 +61,10 @@ fixed-both c one both a b v e f few l h first second apart free p q σ =
 module _ (w slots : List ℕ) (n : ℕ) (literals : List ℕ) (t : Meeting) (ready : Ready w slots n literals t) (S : Database) (many : length S ≡ n) where
   -- where a variable stands in the stage its slot is one of the n
   pub first-below : t .first .stands ≡ true → (e f : ℕ) → Met S w literals t e f → e < n
-  first-below s e f h = subst (λ (u : ℕ). u < n) (rw s at (h .2)) (subst (λ (k : ℕ). h .0 (t .first .seat) < k) many (h .1 .0 (t .first .seat) (ready .body .body .every (t .first .seat) (ready .first s))))
+  first-below s e f h = subst (λ (u : ℕ). u < n) (rw s at (h .2)) (subst (λ (k : ℕ). h .0 (t .first .seat) < k) many (h .1 .0 (t .first .seat) (ready .asked .body .body .every (t .first .seat) (ready .first s))))
 
   pub second-below : t .second .stands ≡ true → (e f : ℕ) → Met S w literals t e f → f < n
-  second-below s e f h = subst (λ (u : ℕ). u < n) (rw s at (h .3)) (subst (λ (k : ℕ). h .0 (t .second .seat) < k) many (h .1 .0 (t .second .seat) (ready .body .body .every (t .second .seat) (ready .second s))))
+  second-below s e f h = subst (λ (u : ℕ). u < n) (rw s at (h .3)) (subst (λ (k : ℕ). h .0 (t .second .seat) < k) many (h .1 .0 (t .second .seat) (ready .asked .body .body .every (t .second .seat) (ready .second s))))
 
 module _ (S w literals : List ℕ) (t : Meeting) (row : List ℕ) (f : ℕ) where
   abbrev Kept : ℕ → Type 0
@@ -72,7 +72,7 @@ module _ (S w literals : List ℕ) (t : Meeting) (row : List ℕ) (f : ℕ) wher
 
   -- A ROW WHERE THE FIRST VARIABLE DOES NOT STAND in the stage: it is empty, or it stays, or nothing is left
   any-first : t .first .stands ≡ false → (d e : ℕ) → Met S w literals t d f → Met S w literals t e f
-  any-first s d e h = (h .0, h .1, rw s tt, h .3)
+  any-first s d e h = (h .0, h .1, rw s tt, h .3, h .4)
 
   pub met-empty : Empty row true → Has row Kept
   met-empty z = record { bits = λ e l. ((λ q. clash q (z .none refl e)), λ q. q .0) }
@@ -91,7 +91,7 @@ module _ (S w literals ways : List ℕ) (t : Meeting) (A : ℕ → ℕ → Bool)
   hoped : (e : ℕ) → Paired e → Hopeful S w literals ways t A e
   hoped e q = (
     (q .0 .0, q .0 .1, (q .0 .2 .0, q .0 .2 .1, q .0 .2 .2), q .0 .3),
-    (q .1 .0, q .1 .1, q .1 .2, tt),
+    (q .1 .0, q .1 .1, q .1 .2, tt, q .1 .4),
   )
 
   -- ROW f OF THE NEXT LEVEL has hopeful slots,
@@ -103,7 +103,7 @@ module _ (S w literals ways : List ℕ) (t : Meeting) (A : ℕ → ℕ → Bool)
     )
 
     unseated : t .second .stands ≡ false → (e : ℕ) → Met S w literals (alone t) e 0 → Met S w literals t e f
-    unseated s e h = (h .0, h .1, h .2, rw s tt)
+    unseated s e h = (h .0, h .1, h .2, rw s tt, h .4)
 
     -- all of them where the second variable does not stand in the stage,
     pub paired-all : t .second .stands ≡ false → Has row Paired

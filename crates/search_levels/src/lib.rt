@@ -1,5 +1,6 @@
 // The levels of a question: in which states the carried objects can be with so many stages met, pair by pair, by who can come from which state to which.
 use facts_bits::BYTES;
+use facts_bits::SLOTS;
 use facts_bits::WIDTH;
 use facts_candidates::Choice;
 use facts_holds::Part;
@@ -16,14 +17,15 @@ ghost use Prim.Native.Nat.{ℕ, suc, _+_, _*_, _≤_, _<_};
 ghost use lib.Dec.{eqb};
 ghost use lib.ListN.{length};
 ghost use Rattle.limits.specs.Limits as limit;
+ghost use Rattle.model.specs.Records.{stageAt};
 ghost use Rattle.model.specs.WellFormed.{WellFormed};
 ghost use Rattle.facts_bits.specs.Width as width;
 ghost use Rattle.facts_bits.specs.Bits.{bitAt, inRow};
 ghost use Rattle.facts_candidates.specs.Choices.{chosen};
-ghost use Rattle.search_states.specs.States.{row};
+ghost use Rattle.search_states.specs.States.{row, Proper};
 ghost use Rattle.search_ways.specs.Moves.{matrixBytes, Exactly};
-ghost use Rattle.search_levels.specs.Levels.{levelsBytes, pairAt, Filled};
-ghost use Rattle.search_levels.specs.Passing.{Has, Picked, Onward, Led, Met, Hopeful, Over, Ready, walkerOf, meetingOf, Clear, Written};
+ghost use Rattle.search_levels.specs.Levels.{nothing, Aims, levelsBytes, pairAt, Filled};
+ghost use Rattle.search_levels.specs.Passing.{Has, Picked, Onward, Led, besides, Aimed, Holding, Met, Hopeful, Over, Asked, Ready, walkerOf, meetingOf, Clear, Written};
 
 // The bytes of the matrices of all levels.
 pub const LEVELS: usize = (STAGES + 1) * MATRIX;
@@ -34,6 +36,12 @@ pub struct Levels {
     pub rows: [u8; LEVELS],
 }
 
+// What stage 1 asks besides of the object of its first variable: that its slot is in the row, or nothing.
+pub struct Pointing {
+    pub given: bool,
+    pub among: [u8; BYTES],
+}
+
 // A carried variable at a stage: its number in the stage, whether it stands there, and whether it stood in a stage before.
 struct Walker {
     seat: usize,
@@ -41,11 +49,48 @@ struct Walker {
     chosen: bool,
 }
 
-// A stage with the two carried variables.
+// A stage with the two carried variables, and what is asked besides of its first variable.
 struct Meeting {
     part: Part,
     first: Walker,
     second: Walker,
+    pointing: Pointing,
+}
+
+// What is asked where an object of the state stands for the first variable: a slot to which it can come. A state that is not in the row, such as the empty one, comes to none.
+pub fn aim(s: States, ways: &[u8], state: u32) -> Pointing
+    requires { ⌜ Proper s × (length (now ways) ≡ matrixBytes) ⌝ }
+    ensures { λ r. ⌜ Aims s (now (ways .entry)) state r ⌝ }
+{
+    let states = s.states;
+    let e = search_states::seek(&states, s.count, state);
+    if e < s.count {
+        let among = facts_bits::row(ways, e);
+        return Pointing { given: true, among };
+    }
+    let among = [0u8; BYTES];
+    Pointing { given: true, among }
+}
+
+// Nothing is asked besides.
+pub fn unasked() -> Pointing
+    ensures { λ r. ⌜ r ≡ nothing ⌝ }
+{
+    let among = [0u8; BYTES];
+    Pointing {
+        given: false,
+        among,
+    }
+}
+
+// What stage k asks besides.
+fn asked_at(p: Pointing, k: usize) -> Pointing
+    ensures { λ r. ⌜ r ≡ besides p k ⌝ }
+{
+    if k == 0 {
+        return p;
+    }
+    unasked()
 }
 
 // The choice with slot e for the variable, where it stands in the stage.
@@ -57,6 +102,56 @@ fn seated(c: Choice, a: Walker, e: usize) -> Choice
         return facts_candidates::choose(c, a.seat, e);
     }
     c
+}
+
+// Does the body hold for a choice with the fixed slots, and with a slot of the row for its first variable, which is free?
+fn somewhere(
+    work: &[u8],
+    slots: &[u8],
+    n: usize,
+    literals: &[u32],
+    part: Part,
+    row: [u8; BYTES],
+    c: Choice,
+) -> bool
+    requires { ⌜ Asked (now work) (now slots) n (now literals) part × (0 < part .variables) × (chosen c 0 ≡ limit.none) ⌝ }
+    ensures { λ r. ⌜ Over (now (work .entry)) n (λ S. (r ≡ true) ↔ Holding S (now (work .entry)) (now (literals .entry)) part c (λ σ. bitAt row (σ 0) ≡ true)) ⌝ }
+{
+    let mut e = facts_bits::next(row, 0);
+    while e < n {
+        let one = facts_candidates::choose(c, 0, e);
+        if facts_holds::shows(work, slots, n, literals, part, one) {
+            return true;
+        }
+        e = facts_bits::next(row, e + 1);
+    }
+    false
+}
+
+// Does the body hold for a choice with the fixed slots, whose first variable has a slot as asked?
+fn pointed(
+    work: &[u8],
+    slots: &[u8],
+    n: usize,
+    literals: &[u32],
+    part: Part,
+    p: Pointing,
+    c: Choice,
+) -> bool
+    requires { ⌜ Asked (now work) (now slots) n (now literals) part × (p .given ≡ true → 0 < part .variables) × (chosen c 0 ≤ limit.none) ⌝ }
+    ensures { λ r. ⌜ Over (now (work .entry)) n (λ S. (r ≡ true) ↔ Holding S (now (work .entry)) (now (literals .entry)) part c (Aimed p)) ⌝ }
+{
+    if !facts_holds::shows(work, slots, n, literals, part, c) {
+        return false;
+    }
+    if !p.given {
+        return true;
+    }
+    let among = p.among;
+    if c.first < SLOTS {
+        return facts_bits::get(&among, c.first);
+    }
+    somewhere(work, slots, n, literals, part, among, c)
 }
 
 // Does the stage hold with the pair e f?
@@ -75,7 +170,7 @@ fn holds(
     let free = facts_holds::free();
     let one = seated(free, t.first, e);
     let both = seated(one, t.second, f);
-    facts_holds::shows(work, slots, n, literals, t.part, both)
+    pointed(work, slots, n, literals, t.part, t.pointing, both)
 }
 
 // The slots of a row with which the stage holds, together with slot f, where the first variable stands in it.
@@ -222,10 +317,12 @@ fn hopeful(
     };
     let part = t.part;
     let first = t.first;
+    let pointing = t.pointing;
     let alone = Meeting {
         part,
         first,
         second: nobody,
+        pointing,
     };
     met(work, slots, n, literals, alone, 0, row)
 }
@@ -298,10 +395,10 @@ fn standing(stage: Stage, x: u32, chosen: bool) -> Walker
     }
 }
 
-// A stage with the carried variables, where it is known which of them stood in a stage before.
-fn asked(stage: Stage, carried: [u32; 2], first: bool, second: bool) -> Meeting
+// A stage with the carried variables, where it is known which of them stood in a stage before, and what is asked besides.
+fn asked(stage: Stage, carried: [u32; 2], first: bool, second: bool, pointing: Pointing) -> Meeting
     requires { ⌜ stage .variables ≤ length (stage .numbers) ⌝ }
-    ensures { λ r. ⌜ r ≡ meetingOf stage carried first second ⌝ }
+    ensures { λ r. ⌜ r ≡ meetingOf stage carried first second pointing ⌝ }
 {
     let part = Part {
         first: stage.first,
@@ -312,6 +409,7 @@ fn asked(stage: Stage, carried: [u32; 2], first: bool, second: bool) -> Meeting
         part,
         first: standing(stage, carried[0], first),
         second: standing(stage, carried[1], second),
+        pointing,
     }
 }
 
@@ -325,10 +423,10 @@ fn after(w: Walker) -> bool
     w.stands
 }
 
-// The levels of a question over the found states, where `ways` has who can come from which slot to which.
-pub fn fill(work: &[u8], m: Model, s: States, ways: &[u8]) -> Levels
-    requires { ⌜ WellFormed m × Exactly m (now work) s × (length (now ways) ≡ matrixBytes) ⌝ }
-    ensures { λ r. ⌜ Filled m (row s) (now (work .entry)) (now (ways .entry)) r ⌝ }
+// The levels of a question over the found states, where `ways` has who can come from which slot to which, and p is what stage 1 asks besides.
+pub fn fill(work: &[u8], m: Model, s: States, ways: &[u8], p: Pointing) -> Levels
+    requires { ⌜ WellFormed m × Exactly m (now work) s × (length (now ways) ≡ matrixBytes) × (p .given ≡ true → 0 < stageAt m 0 .variables) ⌝ }
+    ensures { λ r. ⌜ Filled m (row s) (now (work .entry)) (now (ways .entry)) p r ⌝ }
 {
     let slots = facts_candidates::slots();
     let n = s.count;
@@ -338,7 +436,7 @@ pub fn fill(work: &[u8], m: Model, s: States, ways: &[u8]) -> Levels
     let mut second = false;
     let mut k: usize = 0;
     while k < m.stagecount {
-        let t = asked(m.stages[k], m.carried, first, second);
+        let t = asked(m.stages[k], m.carried, first, second, asked_at(p, k));
         pass(work, &slots, n, &m.literals, t, ways, &mut rows, k);
         first = after(t.first);
         second = after(t.second);

@@ -2,6 +2,7 @@
 use limits::LISTED;
 use model::Model;
 use search_states::States;
+use witness_meetings::Cast;
 use witness_walk::Pair;
 ghost use mathlib.Core.Path.{_≡_};
 ghost use Prim.Native.Nat.{ℕ, _≤_};
@@ -12,7 +13,7 @@ ghost use Rattle.witness_walk.specs.Walk.{Recorded, Sits};
 ghost use Rattle.witness.specs.Witness.{Shown};
 
 // The pair to which the carried objects walk: the first of level k, in the first row that has one.
-fn goal(rows: &[u8], k: usize) -> Pair
+pub fn goal(rows: &[u8], k: usize) -> Pair
     requires { ⌜ (k ≤ limit.stages) × (length (now rows) ≡ levelsBytes) × ((e f : ℕ) × Sits (now rows) k e f) ⌝ }
     ensures { λ r. ⌜ Sits (now (rows .entry)) k (r .first) (r .second) ⌝ }
 {
@@ -50,8 +51,27 @@ pub fn witness(
 {
     let slots = facts_candidates::slots();
     let pair = goal(rows, m.stagecount);
-    let n = witness_walk::walk(run, work, &slots, m, s, rows, table, steps, ways, pair);
-    let r = witness_lineage::build(run, m, s, n);
+    let n = s.count as u32;
+    let cast = Cast {
+        base: 0,
+        first: n,
+        second: n + 1,
+    };
+    let from = witness_walk::walk(
+        run,
+        work,
+        &slots,
+        m,
+        s,
+        rows,
+        table,
+        steps,
+        ways,
+        cast,
+        0,
+        pair,
+    );
+    let r = witness_lineage::build(run, m, s, 0, from.at);
     witness_table::turn(run, r);
     r
 }

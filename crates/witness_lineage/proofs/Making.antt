@@ -11,7 +11,8 @@ use Rattle.semantics.specs.Models.{Line, rule, new, next, other, line}
 use Rattle.semantics.specs.Steps.{Pair}
 use Rattle.semantics.specs.Runs.{step}
 use Rattle.semantics.specs.Tables.{From}
-use Rattle.semantics.specs.Building.{places, grown, lineage, with, build}
+use Rattle.semantics.specs.Building.{places, grown, lineage, with}
+use Rattle.semantics.specs.Walkers.{raise}
 use Rattle.semantics.proofs.Tools.{either}
 use Rattle.model.specs.declared.Model.{Model}
 use Rattle.model.specs.declared.Place.the-variants.{Step}
@@ -120,50 +121,50 @@ module _ (m : Model) (s : States) (ls ps bs : List ℕ) (a : Ancestry m s ls ps 
         (made-more m (a .model) s (a .proper) (a .found) state o k run₀ run i at h
         (⊎-elim (λ (q : isNew (line (programOf m) (by s i)) ≡ true). absurd (e (a .born .made i (h .inside) .1 q))) (λ (q : isNew (line (programOf m) (by s i)) ≡ false). q) (either (isNew (line (programOf m) (by s i))))))
 
--- from index k on the table has the steps behind those that make the first n states, and index `at` is the next
-pub record Built (m : Model) (s : States) (k : ℕ) (run₀ run : List ℕ) (n at : ℕ) : Type 0 where
+-- from index k on the table has the steps behind those that make the first n states, each behind b objects, and index `at` is the next
+pub record Built (m : Model) (s : States) (b k : ℕ) (run₀ run : List ℕ) (n at : ℕ) : Type 0 where
   pub steps : List Pair
-  pub rest : build (programOf m) (by s) (from s) (s .count) ≡ build (programOf m) (by s) (from s) n ++ steps
+  pub rest : raise (programOf m) (by s) (from s) b (s .count) ≡ raise (programOf m) (by s) (from s) b n ++ steps
   pub written : run ≡ backwards run₀ k (places steps)
   pub index : at ≡ k + length steps
 
-module _ (m : Model) (s : States) (k : ℕ) (run₀ : List ℕ) where
-  pub built-none : Built m s k run₀ run₀ (s .count) k
+module _ (m : Model) (s : States) (b k : ℕ) (run₀ : List ℕ) where
+  pub built-none : Built m s b k run₀ run₀ (s .count) k
   built-none = record { steps = []; rest = sym (append-nil _); written = sym (backwards-none run₀ k); index = omega arith }
 
-  module _ (run : List ℕ) (n at : ℕ) (h : Built m s k run₀ run (suc n) at) where
-    before : build (programOf m) (by s) (from s) (s .count) ≡ build (programOf m) (by s) (from s) n ++ (with n (linesTo m s n) ++ h .steps)
-    before = h .rest ∙ append-assoc (build (programOf m) (by s) (from s) n) (with n (linesTo m s n)) (h .steps)
+  module _ (run : List ℕ) (n at : ℕ) (h : Built m s b k run₀ run (suc n) at) where
+    before : raise (programOf m) (by s) (from s) b (s .count) ≡ raise (programOf m) (by s) (from s) b n ++ (with (b + n) (linesTo m s n) ++ h .steps)
+    before = h .rest ∙ append-assoc (raise (programOf m) (by s) (from s) b n) (with (b + n) (linesTo m s n)) (h .steps)
 
-    pub built-room : k + length (building m s (s .count)) ≤ length run₀ → at + length (linesTo m s n) ≤ length run₀
+    pub built-room : k + length (building m s b (s .count)) ≤ length run₀ → at + length (linesTo m s n) ≤ length run₀
     built-room r = omega (
       arith,
       h .index,
-      length-steps (build (programOf m) (by s) (from s) (s .count)),
+      length-steps (raise (programOf m) (by s) (from s) b (s .count)),
       ap length before,
-      length-append (build (programOf m) (by s) (from s) n) (with n (linesTo m s n) ++ h .steps),
-      length-append (with n (linesTo m s n)) (h .steps),
-      length-with n (linesTo m s n),
+      length-append (raise (programOf m) (by s) (from s) b n) (with (b + n) (linesTo m s n) ++ h .steps),
+      length-append (with (b + n) (linesTo m s n)) (h .steps),
+      length-with (b + n) (linesTo m s n),
     )
 
-    pub built-more : (run′ : List ℕ) (at′ : ℕ) → at′ ≡ at + length (making m s n n) → run′ ≡ backwards run at (making m s n n) → Built m s k run₀ run′ n at′
+    pub built-more : (run′ : List ℕ) (at′ : ℕ) → at′ ≡ at + length (making m s (b + n) n) → run′ ≡ backwards run at (making m s (b + n) n) → Built m s b k run₀ run′ n at′
     built-more run′ at′ e q =
         record {
-          steps = with n (linesTo m s n) ++ h .steps;
+          steps = with (b + n) (linesTo m s n) ++ h .steps;
           rest = before;
-          written = q ∙ ap (λ (l : List ℕ). backwards l at (making m s n n)) (h .written)
-              ∙ (rw (h .index, ← length-steps (h .steps), map-append) (backwards-on run₀ k (places (h .steps)) (making m s n n)));
-          index = omega (arith, h .index, length-append (with n (linesTo m s n)) (h .steps), length-steps (with n (linesTo m s n)));
+          written = q ∙ ap (λ (l : List ℕ). backwards l at (making m s (b + n) n)) (h .written)
+              ∙ (rw (h .index, ← length-steps (h .steps), map-append) (backwards-on run₀ k (places (h .steps)) (making m s (b + n) n)));
+          index = omega (arith, h .index, length-append (with (b + n) (linesTo m s n)) (h .steps), length-steps (with (b + n) (linesTo m s n)));
         }
 
-  pub built-all : (run : List ℕ) (n at : ℕ) → n ≡ 0 → Built m s k run₀ run n at → (at ≡ k + length (building m s (s .count))) × (run ≡ backwards run₀ k (building m s (s .count)))
+  pub built-all : (run : List ℕ) (n at : ℕ) → n ≡ 0 → Built m s b k run₀ run n at → (at ≡ k + length (building m s b (s .count))) × (run ≡ backwards run₀ k (building m s b (s .count)))
   built-all run n at z h = (
-    omega (arith, h .index, ap length whole, length-steps (build (programOf m) (by s) (from s) (s .count))),
+    omega (arith, h .index, ap length whole, length-steps (raise (programOf m) (by s) (from s) b (s .count))),
     h .written ∙ ap (λ (ts : List Pair). backwards run₀ k (places ts)) (sym whole),
   )
     where
-      whole : build (programOf m) (by s) (from s) (s .count) ≡ h .steps
-      whole = h .rest ∙ ap (λ (j : ℕ). build (programOf m) (by s) (from s) j ++ h .steps) z
+      whole : raise (programOf m) (by s) (from s) b (s .count) ≡ h .steps
+      whole = h .rest ∙ ap (λ (j : ℕ). raise (programOf m) (by s) (from s) b j ++ h .steps) z
 
 -- the places that make states have numbers
 module _ (m : Model) (wf : WellFormed m) (s : States) (proper : Proper s) (found : Discovered (programOf m) s) where
@@ -186,7 +187,7 @@ module _ (m : Model) (wf : WellFormed m) (s : States) (proper : Proper s) (found
   pub numerable-making : (i o : ℕ) → o < 255 → i < s .count → AllNumerable (making m s o i)
   numerable-making i o b h = numerable-lineage (suc i) i o b (omega arith) h
 
-  pub numerable-building : (n : ℕ) → n ≤ s .count → AllNumerable (building m s n)
-  numerable-building zero h = tt
-  numerable-building (suc n) h =
-      rw map-append (numerable-append (building m s n) (making m s n n) (numerable-building n (omega arith)) (numerable-making n n (let c = proper .count in omega arith) (omega arith)))
+  pub numerable-building : (b n : ℕ) → n ≤ s .count → b + n ≤ 255 → AllNumerable (building m s b n)
+  numerable-building b zero h l = tt
+  numerable-building b (suc n) h l =
+      rw map-append (numerable-append (building m s b n) (making m s (b + n) n) (numerable-building b n (omega arith) (omega arith)) (numerable-making n (b + n) (omega arith) (omega arith)))

@@ -8,7 +8,8 @@ use lib.ListN.{length, getD}
 use Rattle.limits.specs.Limits as limit
 use Rattle.semantics.specs.Models.{Line, rule, new, next, other, line}
 use Rattle.semantics.specs.Runs.{Place}
-use Rattle.semantics.specs.Building.{places, lineage, with, build}
+use Rattle.semantics.specs.Building.{places, lineage, with}
+use Rattle.semantics.specs.Walkers.{raise}
 use Rattle.model.specs.declared.Model.{Model}
 use Rattle.model.specs.Records.{programOf}
 use Rattle.model.specs.WellFormed.{WellFormed}
@@ -30,9 +31,9 @@ linesTo m s i = lineage (programOf m) (by s) (from s) (suc i) i
 abbrev pub making : Model → States → ℕ → ℕ → List Place
 making m s o i = places (with o (linesTo m s i))
 
--- the places that make one object of each of the first n states, in order
-abbrev pub building : Model → States → ℕ → List Place
-building m s n = places (build (programOf m) (by s) (from s) n)
+-- the places that make one object of each of the first n states, in order, behind b objects that are there
+abbrev pub building : Model → States → ℕ → ℕ → List Place
+building m s b n = places (raise (programOf m) (by s) (from s) b n)
 
 -- born′ has a 1 where born has one, and where the line stands among the first n lines
 pub record Notes (lines : List ℕ) (n ℓ : ℕ) (born born′ : List ℕ) : Type 0 where

@@ -96,17 +96,18 @@ pub fn make(run: &mut [u32], m: Model, s: States, state: usize, object: u32, k: 
     trace(run, &s.lines, &s.origins, &born, state, object, k)
 }
 
-// Writes the places that make one object of each state, the last first, from index k on. Returns the index behind them.
-pub fn build(run: &mut [u32], m: Model, s: States, k: usize) -> usize
-    requires { ⌜ WellFormed m × Proper s × Discovered (programOf m) s × (k + length (building m s (s .count)) ≤ length (now run)) ⌝ }
-    ensures { λ r. ⌜ (r ≡ k + length (building m s (s .count))) × (now (run .exit) ≡ backwards (now (run .entry)) k (building m s (s .count))) ⌝ }
+// Writes the places that make one object of each state behind those that are there, the last first, from index k on. Returns the index behind them.
+pub fn build(run: &mut [u32], m: Model, s: States, base: u32, k: usize) -> usize
+    requires { ⌜ WellFormed m × Proper s × Discovered (programOf m) s × (base + s .count ≤ limit.objects) × (k + length (building m s base (s .count)) ≤ length (now run)) ⌝ }
+    ensures { λ r. ⌜ (r ≡ k + length (building m s base (s .count))) × (now (run .exit) ≡ backwards (now (run .entry)) k (building m s base (s .count))) ⌝ }
 {
     let born = firsts(m, s);
     let mut n = s.count;
     let mut at = k;
     while 0 < n {
         n -= 1;
-        at = trace(run, &s.lines, &s.origins, &born, n, n as u32, at);
+        let object = base + n as u32;
+        at = trace(run, &s.lines, &s.origins, &born, n, object, at);
     }
     at
 }

@@ -9,9 +9,9 @@ use lib.ListN.{length, take, getD, set}
 use lib.Seq.{slice, slice-cons, length-slice, getD-take, length-take-le}
 use Rattle.limits.specs.Limits as limit
 use Rattle.semantics.specs.Facts.{Database, state}
-use Rattle.semantics.specs.Runs.{step}
+use Rattle.semantics.specs.Runs.{Place, step}
 use Rattle.semantics.specs.Building.{places, with}
-use Rattle.semantics.specs.Walkers.{Takes, Way}
+use Rattle.semantics.specs.Walkers.{Takes, Way, Touches}
 use Rattle.semantics.proofs.WalkersBuild.{length-lineage}
 use Rattle.model.specs.declared.Model.{Model}
 use Rattle.model.specs.declared.Place.the-variants.{Step}
@@ -95,6 +95,17 @@ module _ (m : Model) (s : States) (o u e : ℕ) where
     written = q;
     index = i;
   }
+
+-- the steps of an errand are those of its object
+module _ (m : Model) (s : States) (o : ℕ) (R : ℕ → Type 0) (own : R o) where
+  touches-with : (ls : List ℕ) → Touches R (places (with o ls))
+  touches-with [] = tt
+  touches-with (ℓ ∷ ls) = (own, touches-with ls)
+
+  pub touches-errand : (h c : Bool) (u e : ℕ) (ps : List Place) → Errand m s o h c u e ps → Touches R ps
+  touches-errand false c u e ps q = rw q tt
+  touches-errand true false u e ps q = rw q (touches-with (linesTo m s e))
+  touches-errand true true u e ps q = rw (q .2) (touches-with (q .0))
 
 -- whether the variable stands in the stage, and stood in one before, was tested
 module _ (m : Model) (s : States) (u e : ℕ) (h c h′ c′ : Bool) (q : h ≡ h′) (p : c ≡ c′) where

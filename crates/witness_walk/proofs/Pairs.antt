@@ -2,7 +2,7 @@
 use mathlib.Core.Path.{_≡_, refl, sym, ap, _∙_, fun-ext}
 use mathlib.Core.Logic.{⊎-elim, _≢_}
 use mathlib.Core.Bool.{Bool, true, false, _||_}
-use mathlib.Core.Option.{Option, none}
+use mathlib.Core.Option.{Option}
 use Prim.Native.Nat.{ℕ, zero, suc, _+_}
 use native.Mathlib.Omega.{arith}
 use native.Mathlib.Nat.{zero-add}
@@ -55,23 +55,24 @@ module _ (m : Model) (wf : WellFormed m) where
 -- WHAT STANDS FOR THE TWO
 module _ (m : Model) where
   -- a relation of what stands for a variable in two pairs
-  pub pair-each : (R : Option ℕ → Option ℕ → Type 0) (a c a′ c′ : Option ℕ) (x : ℕ) → (x ≡ carriedAt m 0 → R a a′) → (x ≡ carriedAt m 1 → R c c′) → (x ≢ carriedAt m 0 → x ≢ carriedAt m 1 → R none none)
-      → R (pair m a c x) (pair m a′ c′ x)
-  pair-each R a c a′ c′ x first second neither = ⊎-elim
+  pub pair-each : (R : Option ℕ → Option ℕ → Type 0) (w w′ : ℕ → Option ℕ) (a c a′ c′ : Option ℕ) (x : ℕ) → (x ≡ carriedAt m 0 → R a a′) → (x ≡ carriedAt m 1 → R c c′) → (x ≢ carriedAt m 0 → x ≢ carriedAt m 1 → R (w x) (w′ x))
+      → R (pair m w a c x) (pair m w′ a′ c′ x)
+  pair-each R w w′ a c a′ c′ x first second neither = ⊎-elim
       (λ q. rw (eq-eqb x (carriedAt m 1) q) (second q))
       (λ q. rw (ne-eqb x (carriedAt m 1) q) (⊎-elim (λ p. rw (eq-eqb x (carriedAt m 0) p) (first p)) (λ p. rw (ne-eqb x (carriedAt m 0) p) (neither p q)) (same? x (carriedAt m 0)))) (same? x (carriedAt m 1))
 
-  pub pair-first : carriedAt m 0 ≢ carriedAt m 1 → (a c : Option ℕ) → pair m a c (carriedAt m 0) ≡ a
-  pair-first n a c = rw (ne-eqb (carriedAt m 0) (carriedAt m 1) n, eq-eqb (carriedAt m 0) (carriedAt m 0) refl) refl
+  module _ (w : ℕ → Option ℕ) where
+    pub pair-first : carriedAt m 0 ≢ carriedAt m 1 → (a c : Option ℕ) → pair m w a c (carriedAt m 0) ≡ a
+    pair-first n a c = rw (ne-eqb (carriedAt m 0) (carriedAt m 1) n, eq-eqb (carriedAt m 0) (carriedAt m 0) refl) refl
 
-  pub pair-second : (a c : Option ℕ) → pair m a c (carriedAt m 1) ≡ c
-  pair-second a c = rw (eq-eqb (carriedAt m 1) (carriedAt m 1) refl) refl
+    pub pair-second : (a c : Option ℕ) → pair m w a c (carriedAt m 1) ≡ c
+    pair-second a c = rw (eq-eqb (carriedAt m 1) (carriedAt m 1) refl) refl
 
-  -- one of them changes
-  pub but-first : carriedAt m 0 ≢ carriedAt m 1 → (a b c : Option ℕ) → but (pair m a c) (carriedAt m 0) b ≡ pair m b c
-  but-first n a b c = fun-ext (λ x. ⊎-elim
-      (λ q. rw (eq-eqb x (carriedAt m 0) q, ne-eqb x (carriedAt m 1) (λ z. n (sym q ∙ z))) refl)
-      (λ q. rw (ne-eqb x (carriedAt m 0) q) refl) (same? x (carriedAt m 0)))
+    -- one of them changes
+    pub but-first : carriedAt m 0 ≢ carriedAt m 1 → (a b c : Option ℕ) → but (pair m w a c) (carriedAt m 0) b ≡ pair m w b c
+    but-first n a b c = fun-ext (λ x. ⊎-elim
+        (λ q. rw (eq-eqb x (carriedAt m 0) q, ne-eqb x (carriedAt m 1) (λ z. n (sym q ∙ z))) refl)
+        (λ q. rw (ne-eqb x (carriedAt m 0) q) refl) (same? x (carriedAt m 0)))
 
-  pub but-second : (a b c : Option ℕ) → but (pair m a c) (carriedAt m 1) b ≡ pair m a b
-  but-second a b c = fun-ext (λ x. ⊎-elim (λ q. rw (eq-eqb x (carriedAt m 1) q) refl) (λ q. rw (ne-eqb x (carriedAt m 1) q) refl) (same? x (carriedAt m 1)))
+    pub but-second : (a b c : Option ℕ) → but (pair m w a c) (carriedAt m 1) b ≡ pair m w a b
+    but-second a b c = fun-ext (λ x. ⊎-elim (λ q. rw (eq-eqb x (carriedAt m 1) q) refl) (λ q. rw (ne-eqb x (carriedAt m 1) q) refl) (same? x (carriedAt m 1)))

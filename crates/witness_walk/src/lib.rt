@@ -4,6 +4,7 @@ use limits::LISTED;
 use model::Model;
 use model::Place;
 use search_states::States;
+use witness_meetings::Cast;
 ghost use mathlib.Core.Path.{_≡_};
 ghost use mathlib.Core.Bool.{true};
 ghost use mathlib.Core.List.{List};
@@ -20,8 +21,8 @@ ghost use Rattle.search_ways.specs.Moves.{matrixBytes};
 ghost use Rattle.search_ways.specs.Shortest.{Says};
 ghost use Rattle.search_levels.specs.Levels.{levelsBytes, holder, chosen, Moved};
 ghost use Rattle.witness_table.specs.Runs.{AllNumerable, backwards};
-ghost use Rattle.witness_meetings.specs.Meetings.{Written};
-ghost use Rattle.witness_walk.specs.Walk.{Mapped, Recorded, Ready, Errand, effort, Sits, LeadsTo, Source, Behind, Walked};
+ghost use Rattle.witness_meetings.specs.Meetings.{Written, Numbered};
+ghost use Rattle.witness_walk.specs.Walk.{Mapped, Recorded, Ready, Errand, effort, Sits, LeadsTo, Source, Behind};
 
 // The slots of the two carried objects; a slot says nothing as long as its variable stood in no stage.
 pub struct Pair {
@@ -30,11 +31,11 @@ pub struct Pair {
 }
 
 // A level, the slots of the carried objects there, and the index at which the place before is written.
-struct Stand {
-    level: usize,
-    first: usize,
-    second: usize,
-    at: usize,
+pub struct Stand {
+    pub level: usize,
+    pub first: usize,
+    pub second: usize,
+    pub at: usize,
 }
 
 // Does the carried variable of cell v stand in stage k, counted from 0?
@@ -79,7 +80,7 @@ fn tell(run: &mut [u32], lines: &[u32], n: usize, object: u32, k: usize) -> usiz
 }
 
 // Writes a shortest way of the object from one slot to another, the last step first, from index `at` on. Returns the index behind it.
-fn lead(
+pub fn lead(
     run: &mut [u32],
     m: Model,
     s: States,
@@ -99,7 +100,7 @@ fn lead(
 }
 
 // Writes what the object of cell v does before stage k + 1 is met, the last step first, from index `at` on. Returns the index behind it.
-fn errand(
+pub fn errand(
     run: &mut [u32],
     m: Model,
     s: States,
@@ -192,18 +193,19 @@ fn back(
     table: &[u8],
     steps: &[u8],
     ways: &[u8],
+    cast: Cast,
     p: Stand,
 ) -> Stand
-    requires { ⌜ Recorded m (now work) s (now rows) (now table) (now steps) (now ways) × Own width.slots (now slots) × (0 < p .level) × (limit.run ≤ length (now run)) × ((run₀ : List ℕ) × Behind m s (now rows) run₀ (now run) (p .level) (p .first) (p .second) (p .at)) ⌝ }
-    ensures { λ r. ⌜ ((run₀ : List ℕ) → Behind m s (now (rows .entry)) run₀ (now (run .entry)) (p .level) (p .first) (p .second) (p .at) → Behind m s (now (rows .entry)) run₀ (now (run .exit)) (r .level) (r .first) (r .second) (r .at)) × (r .level < p .level) × (length (now (run .exit)) ≡ length (now (run .entry))) ⌝ }
+    requires { ⌜ Recorded m (now work) s (now rows) (now table) (now steps) (now ways) × Own width.slots (now slots) × Numbered s cast × (limit.run ≤ length (now run)) × ((until : ℕ) × (run₀ : List ℕ) × (until < p .level) × Behind m s cast until (now rows) run₀ (now run) (p .level) (p .first) (p .second) (p .at)) ⌝ }
+    ensures { λ r. ⌜ ((until : ℕ) (run₀ : List ℕ) → until < p .level → Behind m s cast until (now (rows .entry)) run₀ (now (run .entry)) (p .level) (p .first) (p .second) (p .at) → Behind m s cast until (now (rows .entry)) run₀ (now (run .exit)) (r .level) (r .first) (r .second) (r .at)) × (r .level < p .level) × (length (now (run .exit)) ≡ length (now (run .entry))) ⌝ }
 {
     let k = p.level - 1;
     let first = p.first;
     let second = p.second;
-    let one = s.count as u32;
-    let two = one + 1;
+    let one = cast.first;
+    let two = cast.second;
     let q = previous(rows, ways, m, k, first, second);
-    let met = witness_meetings::meet(run, work, slots, m, s, k, first, second, p.at);
+    let met = witness_meetings::meet(run, work, slots, m, s, cast, k, first, second, p.at);
     let then = errand(run, m, s, table, steps, 1, k, q.second, second, two, met);
     let at = errand(run, m, s, table, steps, 0, k, q.first, first, one, then);
     Stand {
@@ -214,7 +216,7 @@ fn back(
     }
 }
 
-// Writes the walk to a pair of the last level, the last place first. Returns how many places it has.
+// Writes the walk from level `until` to a pair of the last level, the last place first. Returns the pair of that level, and how many places the walk has.
 pub fn walk(
     run: &mut [u32],
     work: &[u8],
@@ -225,10 +227,12 @@ pub fn walk(
     table: &[u8],
     steps: &[u8],
     ways: &[u8],
+    cast: Cast,
+    until: usize,
     goal: Pair,
-) -> usize
-    requires { ⌜ Recorded m (now work) s (now rows) (now table) (now steps) (now ways) × Own width.slots (now slots) × Sits (now rows) (m .stagecount) (goal .first) (goal .second) × (limit.run ≤ length (now run)) ⌝ }
-    ensures { λ r. ⌜ Walked m s (now (run .entry)) (now (run .exit)) r ⌝ }
+) -> Stand
+    requires { ⌜ Recorded m (now work) s (now rows) (now table) (now steps) (now ways) × Own width.slots (now slots) × Numbered s cast × (until ≤ m .stagecount) × Sits (now rows) (m .stagecount) (goal .first) (goal .second) × (limit.run ≤ length (now run)) ⌝ }
+    ensures { λ r. ⌜ Behind m s cast until (now (rows .entry)) (now (run .entry)) (now (run .exit)) (r .level) (r .first) (r .second) (r .at) × (r .level ≡ until) ⌝ }
 {
     let mut p = Stand {
         level: m.stagecount,
@@ -236,9 +240,9 @@ pub fn walk(
         second: goal.second,
         at: 0,
     };
-    while 0 < p.level {
-        let q = back(run, work, slots, m, s, rows, table, steps, ways, p);
+    while until < p.level {
+        let q = back(run, work, slots, m, s, rows, table, steps, ways, cast, p);
         p = q;
     }
-    p.at
+    p
 }

@@ -7,8 +7,8 @@ use borrow.Author.Needs.{needs}
 use Rattle.search_levels.proofs.asked.Statement.{statement}
 use Rattle.search_levels.proofs.asked.Tie as tie
 
-cast-t7 : tie.Need-cast-t7
-cast-t7 c = search needs
+cast-t8 : tie.Need-cast-t8
+cast-t8 c = search needs
 
 array-read-standing : tie.Need-array-read-standing
 array-read-standing c = search needs
@@ -32,7 +32,7 @@ pub asked-spec : {M : Type 1} → statement M
 asked-spec =
     tie.close
     (tie.spec
-    cast-t7
+    cast-t8
     array-read-standing
     standing-requires
     array-read-standing-2

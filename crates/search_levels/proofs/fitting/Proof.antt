@@ -62,7 +62,7 @@ loop-again c =
     let l = c .before .before .before .before .loop in
     let z : List ℕ = replicate width.bytes 0 in
     let in-n = c .before .before .before .loop-test .taken in
-    let few = l .inv .1 .few in
+    let few = l .inv .1 .asked .few in
     let at : l .e ≡ 0 * width.bits + l .e = omega arith in (
       c .next2 .ensures .most,
       l .inv .1,

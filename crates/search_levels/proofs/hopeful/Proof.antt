@@ -23,13 +23,13 @@ onward-requires : tie.Need-onward-requires
 onward-requires c κs = search needs
 
 met-requires : tie.Need-met-requires
-met-requires c κs = let s = c .before .before .before .before .before .before .before .before .before .before in let r = s .pre .0 in (record { agree = r .agree; own = r .own; few = r .few; body = r .body; first = r .first; second = λ q. absurd (false≢true q); apart = λ p q. absurd (false≢true q) }, omega arith)
+met-requires c κs = let s = c .before .before .before .before .before .before .before .before .before .before .before in let r = s .pre .0 in (record { asked = r .asked; some = r .some; first = r .first; second = λ q. absurd (false≢true q); apart = λ p q. absurd (false≢true q) }, omega arith)
 
 returns : tie.Need-returns
 returns c =
-    let a = c .before .before .before .before .before .before .before .before .before .before .before .args in
-    let any = c .before .before .before .before .union .result in
-    λ S R n. hopeful-has S (a .work .now) (a .literals .now) (a .ways .now) (a .t) (a .rows .now) (a .k) any (subst (λ (all : List ℕ). Has any (Picked (a .rows .now) (limit.listed * a .k) all)) (c .before .before .before .before .before .full .ensures) (c .before .before .before .before .union .ensures)) (c .before .before .before .onward .result) (c .before .before .before .onward .ensures) (c .met .result) (c .met .ensures S R n)
+    let a = c .before .before .before .before .before .before .before .before .before .before .before .before .args in
+    let any = c .before .before .before .before .before .union .result in
+    λ S R n. hopeful-has S (a .work .now) (a .literals .now) (a .ways .now) (a .t) (a .rows .now) (a .k) any (subst (λ (all : List ℕ). Has any (Picked (a .rows .now) (limit.listed * a .k) all)) (c .before .before .before .before .before .before .full .ensures) (c .before .before .before .before .before .union .ensures)) (c .before .before .before .before .onward .result) (c .before .before .before .before .onward .ensures) (c .met .result) (c .met .ensures S R n)
 
 pub hopeful-spec : {M : Type 1} → statement M
 hopeful-spec =

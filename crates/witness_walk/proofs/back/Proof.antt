@@ -11,25 +11,19 @@ use Rattle.witness_walk.proofs.back.Statement.{statement}
 use Rattle.witness_walk.proofs.back.Tie as tie
 
 -- what is behind the pair, with the level before
-behind : (c : tie.Start) → let a = c .args in Behind (a .m) (a .s) (a .rows .now) (c .pre .4 .0) (a .run .now) (suc (a .p .level - 1)) (a .p .first) (a .p .second) (a .p .at)
-behind c = let p = c .pre in let a = c .args in behind-level (a .m) (a .work .now) (a .s) (a .rows .now) (a .table .now) (a .steps .now) (a .ways .now) (p .0) (p .4 .0) (a .run .now) (a .p .level) (a .p .first) (a .p .second) (a .p .at) (p .2) (p .4 .1)
+behind : (c : tie.Start) → let a = c .args in Behind (a .m) (a .s) (a .cast) (c .pre .4 .0) (a .rows .now) (c .pre .4 .1) (a .run .now) (suc (a .p .level - 1)) (a .p .first) (a .p .second) (a .p .at)
+behind c = let p = c .pre in let a = c .args in behind-level (a .m) (a .work .now) (a .s) (a .rows .now) (a .table .now) (a .steps .now) (a .ways .now) (p .0) (a .cast) (p .4 .0) (p .4 .1) (a .run .now) (a .p .level) (a .p .first) (a .p .second) (a .p .at) (p .4 .2) (p .4 .3)
 
 -- there is room for the places
 room : (c : tie.Start) → c .args .p .at ≤ limit.carried * limit.walked + limit.stages
-room c = let p = c .pre in let a = c .args in behind-index (a .m) (a .work .now) (a .s) (a .rows .now) (a .table .now) (a .steps .now) (a .ways .now) (p .0) (p .4 .0) (a .run .now) (a .p .level) (a .p .first) (a .p .second) (a .p .at) (p .4 .1)
+room c = let p = c .pre in let a = c .args in behind-index (a .m) (a .work .now) (a .s) (a .rows .now) (a .table .now) (a .steps .now) (a .ways .now) (p .0) (a .cast) (p .4 .0) (p .4 .1) (a .run .now) (a .p .level) (a .p .first) (a .p .second) (a .p .at) (p .4 .3)
 
 sub-k : tie.Need-sub-k
 sub-k c = search needs
 
-cast-one : tie.Need-cast-one
-cast-one c = let few = c .before .before .before .before .before .before .before .before .before .pre .0 .known .proper .count in search needs
-
-add-two : tie.Need-add-two
-add-two c = let few = c .before .before .before .before .before .before .before .before .before .pre .0 .known .proper .count in record { fits = omega arith }
-
 previous-requires : tie.Need-previous-requires
 previous-requires c κs =
-    let b = c .before .before .before .before .before .before .before .before .before in
+    let b = c .before .before .before .before .before .before .before .before in
     let p = b .pre in
     let a = b .args in
     let h = behind b in
@@ -37,12 +31,13 @@ previous-requires c κs =
 
 meet-requires : tie.Need-meet-requires
 meet-requires c κs =
-    let b = c .before .before .before .before .before .before .before .before .before .before .before in
+    let b = c .before .before .before .before .before .before .before .before .before .before in
     let p = b .pre in
     let a = b .args in
     let h = behind b in (
       p .0 .known,
       p .1,
+      p .2,
       h .level,
       came-met (a .m) (a .work .now) (a .s) (a .rows .now) (a .table .now) (a .steps .now) (a .ways .now) (p .0) (a .p .level - 1) (a .p .first) (a .p .second) (h .level) (h .sits),
       omega (arith, room b, p .3),
@@ -50,7 +45,7 @@ meet-requires c κs =
 
 errand-requires : tie.Need-errand-requires
 errand-requires c κs =
-    let b = c .before .before .before .before .before .before .before .before .before .before .before .before .before .before .before in
+    let b = c .before .before .before .before .before .before .before .before .before .before .before .before .before .before in
     let p = b .pre in
     let a = b .args in
     let h = behind b in
@@ -65,13 +60,13 @@ errand-requires c κs =
       omega arith,
       h .level,
       ready-second (a .m) (a .work .now) (a .s) (a .rows .now) (a .table .now) (a .steps .now) (a .ways .now) (p .0) (a .p .level - 1) (a .p .first) (a .p .second) (h .level) (h .sits) (q .result .first) (q .result .second) (q .ensures),
-      omega arith,
+      p .2 .second,
       omega (arith, room b, p .3, t .index, t .few),
     )
 
 errand-requires-2 : tie.Need-errand-requires-2
 errand-requires-2 c κs =
-    let b = c .before .before .before .before .before .before .before .before .before .before .before .before .before .before .before .before .before .before .before in
+    let b = c .before .before .before .before .before .before .before .before .before .before .before .before .before .before .before .before .before .before in
     let p = b .pre in
     let a = b .args in
     let h = behind b in
@@ -88,12 +83,12 @@ errand-requires-2 c κs =
       omega arith,
       h .level,
       ready-first (a .m) (a .work .now) (a .s) (a .rows .now) (a .table .now) (a .steps .now) (a .ways .now) (p .0) (a .p .level - 1) (a .p .first) (a .p .second) (h .level) (h .sits) (q .result .first) (q .result .second) (q .ensures),
-      omega arith,
+      p .2 .first,
       omega (arith, room b, p .3, t .index, t .few, d .index, d .few, effort-most (a .s .count) (holder (a .m) 1 (a .p .level - 1)) (chosen (a .m) 1 (a .p .level - 1))),
     )
 
 -- the table keeps its length
-long : (c : tie.After-slice-known4) → length (c .before .before .errand2 .last .0) ≡ length (c .before .before .before .before .before .before .before .before .before .before .before .before .before .before .before .before .before .before .before .before .before .before .args .run .now)
+long : (c : tie.After-slice-known4) → length (c .before .before .errand2 .last .0) ≡ length (c .before .before .before .before .before .before .before .before .before .before .before .before .before .before .before .before .before .before .before .before .before .args .run .now)
 long c = written-length _ _ _ _ _ _ (c .before .before .errand2 .ensures) ∙ written-length _ _ _ _ _ _ (c .before .before .before .before .before .before .errand .ensures) ∙ written-length _ _ _ _ _ _ (c .before .before .before .before .before .before .before .before .before .before .meet .ensures)
 
 same-length : tie.Need-same-length
@@ -101,14 +96,14 @@ same-length c = long c
 
 returns : tie.Need-returns
 returns c =
-    let b = c .before .before .before .before .before .before .before .before .before .before .before .before .before .before .before .before .before .before .before .before .before .before in
+    let b = c .before .before .before .before .before .before .before .before .before .before .before .before .before .before .before .before .before .before .before .before .before in
     let p = b .pre in
     let a = b .args in
     let q = c .before .before .before .before .before .before .before .before .before .before .before .before .previous in (
-      λ run₀ h. behind-back (a .m) (a .work .now) (a .s) (a .rows .now) (a .table .now) (a .steps .now) (a .ways .now) (p .0) run₀ (a .run .now) _ _ _ (a .p .level - 1) (a .p .first) (a .p .second) (q .result .first) (q .result .second) (a .p .at) _ _ _
-          (behind-level (a .m) (a .work .now) (a .s) (a .rows .now) (a .table .now) (a .steps .now) (a .ways .now) (p .0) run₀ (a .run .now) (a .p .level) (a .p .first) (a .p .second) (a .p .at) (p .2) h) (q .ensures)
+      λ until run₀ above h. behind-back (a .m) (a .work .now) (a .s) (a .rows .now) (a .table .now) (a .steps .now) (a .ways .now) (p .0) (a .cast) until run₀ (a .run .now) _ _ _ (a .p .level - 1) (a .p .first) (a .p .second) (q .result .first) (q .result .second) (a .p .at) _ _ _ (omega arith)
+          (behind-level (a .m) (a .work .now) (a .s) (a .rows .now) (a .table .now) (a .steps .now) (a .ways .now) (p .0) (a .cast) until run₀ (a .run .now) (a .p .level) (a .p .first) (a .p .second) (a .p .at) above h) (q .ensures)
           (c .before .before .before .before .before .before .before .before .before .before .meet .ensures) (c .before .before .before .before .before .before .errand .ensures) (c .before .before .errand2 .ensures),
-      omega (arith, p .2),
+      omega (arith, p .4 .2),
       long c,
     )
 
@@ -117,8 +112,6 @@ back-spec =
     tie.close
     (tie.spec
     sub-k
-    cast-one
-    add-two
     previous-requires
     meet-requires
     errand-requires
