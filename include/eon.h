@@ -1,12 +1,12 @@
 /* Tumreslo's calls for C: the analysis of an EON text, the replay of a run, the replay one place at a time, the accepted lines, the mark of a hand-in,
- * and what is declared and stands on a line, for display.
+ * which lines to strike and how many choices of them are reached, and what is declared and stands on a line, for display.
  *
  * The library is written by `./library` as target/staticlib/libeon.a.
  *
  * A buffer is passed as a pointer and its number of elements. Buffers must not overlap, and a pointer must not be null,
  * not even where the number of elements is 0.
  *
- * The calls eon_analyze, eon_from, eon_replay, eon_why, eon_place, eon_mark and eon_handin return kind * 2^32 + value:
+ * The calls eon_analyze, eon_from, eon_replay, eon_why, eon_place, eon_mark, eon_handin and eon_cure return kind * 2^32 + value:
  *
  *   kind 0   unreached               value 0
  *   kind 1   reached                 value: the number n of places of the run shown
@@ -21,17 +21,20 @@
  *   kind 9   the hand-in says no     value 0
  *   kind 10  the hand-in says yes    value: places * 65,536 + first: the places of its run, and the hand-in's line of the first; the line behind
  *                                    the last where there are none
+ *   kind 11  lines to strike         value: how many
+ *   kind 12  no choice does          value 0
  *
  * Numbers of refusals: 1 no bytes, or over 16,384; 2 a bad byte, or a last line without byte 10; 3 a line that has no shape;
  * 4 one declaration or clause too many; 5 a name declared again; 6 a name undeclared or of the wrong kind; 7 a wrong number of variables;
  * 8 `not` before a derived relation; 9 a variable only under `not` or only in the head, a fourth variable, one repeated in a rule's head;
  * 10 a line after `ask`, or no `ask`; 11 three or more carried variables; 12 a work area under EON_WORK bytes, or a table lent for writing
  * under EON_RUN places; 14 a run over EON_RUN places, or a state that has kept EON_RUN; 15 more than 127 non-empty atomic states are reachable;
- * 16, 17 and 18 from eon_from, which says when.
- * The first line is 1; the line is 0 for numbers 1, 12 and 14 to 18. 15 comes after all others, from eon_analyze and eon_from, and from eon_mark where
- * the verdict is needed. A replay of such a text works as ever, and the calls for display take it as accepted.
+ * 16, 17 and 18 from eon_from, which says when; 19 a list of lines that is empty or has over EON_STRUCK, names a line twice, or names one that is
+ * neither `new` nor `next`.
+ * The first line is 1; the line is 0 for numbers 1, 12 and 14 to 19. 15 comes after all others, from eon_analyze, eon_from and eon_cure, and from
+ * eon_mark where the verdict is needed. A replay of such a text works as ever, and the calls for display take it as accepted.
  *
- * After a refusal below 15 the lent buffers are as they were, but for `out`, and so they are after an unreadable hand-in. After 15 to 18 and after every
+ * After a refusal below 15 or of 19 the lent buffers are as they were, but for `out`, and so they are after an unreadable hand-in. After 15 to 18 and after every
  * other answer the first EON_WORK bytes of the work area are zero, and the rest is as it was.
  *
  * A call needs under 512 KB of stack, and no memory but the stack and what is lent.
@@ -64,6 +67,9 @@ extern "C" {
 
 /* The bytes that a hand-in has at most. */
 #define EON_HANDIN 524288
+
+/* The lines that a list to strike has at most, for which eon_cure has as many cells. */
+#define EON_STRUCK 10
 
 /* Analyzes a text: kind 0, 1 or 2. It is refused 15 exactly if more than 127 non-empty atomic states are reachable, whatever is asked.
  *
@@ -133,6 +139,15 @@ uint64_t eon_handin(const uint8_t *handin, size_t length, uint32_t *run, size_t 
  * from eon_handin, and stood the numbers of those who stood by, as from eon_replay. Otherwise both are left as they were, and so are all other places
  * of them. */
 uint64_t eon_mark(const uint8_t *text, size_t bytes, const uint8_t *handin, size_t length, uint8_t *work, size_t work_bytes, uint32_t *run, size_t places, uint32_t *stood, size_t numbers);
+
+/* Finds the fewest of the listed lines whose removal makes the question unreached: kind 2, 11 or 12. lines has the numbers of up to EON_STRUCK `new` and
+ * `next` lines, in any order. Among equally small choices it is the one whose rising line numbers come first: 3 and 9 come before 4 and 5. Removing lines
+ * renumbers none. Kind 11 with value 0 says that the question is unreached already, and kind 12 that it is reached with all listed lines struck.
+ * 19 comes after the checks of the text's lines, and before 15, which speaks of the text with nothing struck.
+ *
+ * out has EON_STRUCK cells, and all of them are written: the lines to strike by rising number, with zeros behind them. Beside every other answer all
+ * are 0. */
+uint64_t eon_cure(const uint8_t *text, size_t bytes, const uint32_t *lines, size_t count, uint8_t *work, size_t work_bytes, uint32_t *out);
 
 /* What a line of an accepted text makes of an object in an atomic state: 2 * 2^32 + the state of the object that a `new` line creates, 3 * 2^32 + the
  * state that a `next` line gives to an object in `state`. 0 where the line is neither, or the text is refused. */

@@ -268,3 +268,39 @@ pub fn variable(line: &[u8], stage: usize, j: usize) -> (usize, usize) {
     let code = unsafe { eon_variable(line.as_ptr(), line.len(), stage, j) };
     ((code >> 32) as usize, code as u32 as usize)
 }
+
+/// What striking lines answers.
+#[derive(Debug, PartialEq)]
+pub enum Cure {
+    Strike(Vec<u32>),
+    Nothing,
+    Refused(u32, u32),
+    /// A number that is no answer, or cells that do not fit it.
+    Unknown(u64),
+}
+
+/// The cells beside the answer of `eon_cure`.
+const STRUCK: usize = 10;
+
+/// Whether a work area is right after a code of these calls: wiped unless it is a refusal other than 15.
+fn left_right(area: &Area, code: u64) -> bool {
+    let answer = if code >> 32 == 2 { Answer::decode(code) } else { Answer::Unreached };
+    area.is_right(&answer)
+}
+
+/// Asks for the fewest lines to strike, and whether the work area is right.
+pub fn cure(text: &[u8], lines: &[u32], work: usize) -> (Cure, bool) {
+    let mut area = Area::new(work);
+    let mut out = [0xDEAD_BEEFu32; STRUCK];
+    let code = unsafe { eon_cure(text.as_ptr(), text.len(), lines.as_ptr(), lines.len(), area.pointer(), work, out.as_mut_ptr()) };
+    let value = code as u32;
+    let count = if code >> 32 == 11 { value as usize } else { 0 };
+    let clean = count <= STRUCK && out[count..].iter().all(|n| *n == 0);
+    let answer = match code >> 32 {
+        2 if clean => Cure::Refused(value >> 16, value & 65_535),
+        11 if clean => Cure::Strike(out[..count].to_vec()),
+        12 if clean && value == 0 => Cure::Nothing,
+        _ => Cure::Unknown(code),
+    };
+    (answer, left_right(&area, code))
+}

@@ -23,6 +23,7 @@ mod salad;
 mod search;
 mod seeded;
 mod standing;
+mod strike;
 mod subject;
 mod wide;
 
@@ -71,6 +72,13 @@ fn covered_enough(report: &mut Report) {
     report.met_often("from here: unreached where the plain question is reached", 50);
     report.met_often("from here: the first variable is carried", 200);
     report.met_often("from here: the first variable is in stage 1 alone", 200);
+    for number in [1, 2, 3, 6, 12, 15, 19] {
+        report.met_often(&format!("strike: refused {number:2}"), 1);
+    }
+    report.met_often("strike: unreached already", 100);
+    report.met_often("strike: one line is enough", 100);
+    report.met_often("strike: several lines", 30);
+    report.met_often("strike: no choice does", 100);
     report.met_often("analysis: refused 15", 60);
     report.met_often("models with too many states", 40);
     report.met_often("models with more than 7 labels in use", 60);
@@ -104,6 +112,7 @@ fn main() {
     crowd::all(&mut report);
     buffers::all(&mut report);
     onward::all(&mut report);
+    strike::all(&mut report);
     seeded::models(&mut report);
     covered_enough(&mut report);
     if !report.close() {

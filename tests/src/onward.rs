@@ -170,7 +170,9 @@ pub fn all(report: &mut Report) {
         let right = number.map_or(matches!(answer, Answer::Reached(_)), |number| answer == Answer::Refused(number, 0));
         report.check(right, || format!("{n} objects: {answer:?}"));
     }
-    for (after, reached) in [(vec![], true), (vec![Place::Step(4, 0)], true), (vec![Place::Step(5, 0)], false), (vec![Place::Step(4, 0), Place::Step(5, 0)], false)] {
+    for (after, reached) in
+        [(vec![], true), (vec![Place::Step(4, 0)], true), (vec![Place::Step(5, 0)], false), (vec![Place::Step(4, 0), Place::Step(5, 0)], false)]
+    {
         let before: Vec<u32> = [Place::Step(3, 0)].iter().chain(&after).map(Place::encode).collect();
         let answer = Put { subject: &subject, before: &before, object: 0 }.ask(report, WORK, RUN);
         report.check(matches!(answer, Answer::Reached(_)) == reached, || format!("after {after:?}: {answer:?}"));

@@ -1,6 +1,6 @@
 //! Seeded random models against a plain search, with their runs, damaged runs and damaged texts.
 
-use crate::calls::Answer;
+use crate::calls::{Answer, WORK};
 use crate::damage;
 use crate::guess;
 use crate::guided;
@@ -11,6 +11,7 @@ use crate::playing::play_on;
 use crate::random::{model, Random, Shape};
 use crate::report::Report;
 use crate::search::{led_about, non_empty, search, FOLLOWED};
+use crate::strike;
 use crate::subject::{fresh, Subject};
 use crate::wide;
 use std::collections::BTreeSet;
@@ -205,6 +206,7 @@ fn texts(report: &mut Report, r: &mut Random, text: &str) {
         }
         subject.replay(report, &[]);
         onward::refused(report, r, &subject);
+        strike::put(report, &subject, &[r.below(12) as u32], WORK);
         subject.place(report, &mut fresh(), 256 * r.below(12) as u32);
     }
 }
@@ -265,6 +267,7 @@ fn seeded(report: &mut Report, r: &mut Random, text: &str) {
     }
     compare(report, &subject, m, a.answer, &a.states);
     onward::ask(report, r, &subject, m, &a.run);
+    strike::lists(report, r, &subject, m);
     for _ in 0..3 {
         replay_both_ways(report, &subject, &guess::run(r, m));
     }

@@ -86,7 +86,11 @@ module _ (P : Program) (L : List ℕ) (r : Rising (numbers P)) where
       (either (faulty P L))))
       (either (eqb (length (named P L)) (length L)))
 
--- an empty list and one of more than ten lines are not
+-- a good list has at most ten lines
+pub rising-few : (P : Program) (L : List ℕ) → faulty P L ≡ false → length (rising L) ≤ most
+rising-few P L f = let g = not-faulty P L .0 f in omega (arith, rising-length L (g .2), g .1)
+
+-- an empty list and one of more than ten lines are not good
 pub faulty-empty : (P : Program) (L : List ℕ) → length L ≡ 0 → true ≡ faulty P L
 unfolding faulty
 faulty-empty P L e = rw e

@@ -6,13 +6,13 @@ use Prim.Native.Nat.{ℕ, suc, _+_, _-_, _≤_, _<_}
 use native.Mathlib.Omega.{arith}
 use native.Mathlib.Numerals.{add-one}
 use lib.ListN.{length, drop, getD, set, replicate, length-append, length-drop, drop-of-length-le}
-use lib.Seq.{drop-cons}
+use lib.Seq.{drop-cons, take-append-seam}
 use Rattle.semantics.proofs.Tools.{set-append-add}
 use Rattle.semantics.specs.Labels.{has}
 use Rattle.striking.specs.Striking.{most}
 use Rattle.striking.specs.Numbers.{numbered}
 use Rattle.strike_list.specs.declared.Lines.{Lines}
-use Rattle.strike_list.specs.Lists.{padded, shown}
+use Rattle.strike_list.specs.Lists.{padded, shown, listed}
 
 -- n lines are in the row, and zeros behind them
 pub record Holds (row : List ℕ) (n : ℕ) (C : List ℕ) : Type 0 where
@@ -37,6 +37,13 @@ holds-more row n C x h l = record {
 
 pub holds-shown : (row : List ℕ) (n : ℕ) (C : List ℕ) → Holds row n C → _≡_ {A = Lines} (record { lines = row; count = n }) (shown C)
 holds-shown row n C h = ap₂ {C = Lines} (λ (r : List ℕ) (k : ℕ). record { lines = r; count = k }) (h .same) (h .count)
+
+-- the record has the lines of its list, and room for them
+pub listed-shown : (C : List ℕ) → listed (shown C) ≡ C
+listed-shown C = take-append-seam C (replicate (most - length C) 0)
+
+pub shown-fits : (r : Lines) (C : List ℕ) → r ≡ shown C → r .count ≤ length (r .lines)
+shown-fits r C e = rw e (omega (arith, length-append C (replicate (most - length C) 0)))
 
 -- THE LINES OF A CHOICE, after the first i lines: those that it strikes, and before them in the choice nothing is left out
 pub record Chosen (xs : List ℕ) (number : ℕ) (row : List ℕ) (n i : ℕ) : Type 0 where

@@ -1,0 +1,2 @@
+pub mod Curing
+pub mod Soonest
