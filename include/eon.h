@@ -1,12 +1,12 @@
 /* Tumreslo's calls for C: the analysis of an EON text, the replay of a run, the replay one place at a time, the accepted lines, the mark of a hand-in,
- * which lines to strike and how many choices of them are reached, and what is declared and stands on a line, for display.
+ * which lines to strike and how many choices of them are reached, what is declared and stands on a line, for display; and the text of a desk for Asbestos labels.
  *
  * The library is written by `./library` as target/staticlib/libeon.a.
  *
  * A buffer is passed as a pointer and its number of elements. Buffers must not overlap, and a pointer must not be null,
  * not even where the number of elements is 0.
  *
- * The calls eon_analyze, eon_from, eon_replay, eon_why, eon_place, eon_mark, eon_handin and eon_cure return kind * 2^32 + value:
+ * The calls eon_analyze, eon_from, eon_replay, eon_why, eon_place, eon_mark, eon_handin, eon_cure and eon_asbestos return kind * 2^32 + value:
  *
  *   kind 0   unreached               value 0
  *   kind 1   reached                 value: the number n of places of the run shown
@@ -23,6 +23,7 @@
  *                                    the last where there are none
  *   kind 11  lines to strike         value: how many
  *   kind 12  no choice does          value 0
+ *   kind 14  written                 value: the bytes of the text
  *
  * Numbers of refusals: 1 no bytes, or over 16,384; 2 a bad byte, or a last line without byte 10; 3 a line that has no shape;
  * 4 one declaration or clause too many; 5 a name declared again; 6 a name undeclared or of the wrong kind; 7 a wrong number of variables;
@@ -30,11 +31,11 @@
  * 10 a line after `ask`, or no `ask`; 11 three or more carried variables; 12 a work area under EON_WORK bytes, or a table lent for writing
  * under EON_RUN places; 14 a run over EON_RUN places, or a state that has kept EON_RUN; 15 more than 127 non-empty atomic states are reachable;
  * 16, 17 and 18 from eon_from, which says when; 19 a list of lines that is empty or has over EON_STRUCK, names a line twice, or names one that is
- * neither `new` nor `next`.
- * The first line is 1; the line is 0 for numbers 1, 12 and 14 to 19. 15 comes after all others, from eon_analyze, eon_from and eon_cure, and from
+ * neither `new` nor `next`; 20, from eon_asbestos, no process kinds, over 18, a level outside the five, or an output under EON_TEXT bytes.
+ * The first line is 1; the line is 0 for numbers 1, 12 and 14 to 20. 15 comes after all others, from eon_analyze, eon_from and eon_cure, and from
  * eon_mark where the verdict is needed. A replay of such a text works as ever, and the calls for display take it as accepted.
  *
- * After a refusal below 15 or of 19 the lent buffers are as they were, but for `out`, and so they are after an unreadable hand-in. After 15 to 18 and after every
+ * After a refusal below 15, of 19 or 20 the lent buffers are as they were, but for `out`, and so they are after an unreadable hand-in. After 15 to 18 and after every
  * other answer the first EON_WORK bytes of the work area are zero, and the rest is as it was.
  *
  * A call needs under 512 KB of stack, and no memory but the stack and what is lent.
@@ -64,6 +65,10 @@ extern "C" {
 #define EON_RUN 9344
 #define EON_OUT 130
 #define EON_SESSION 260
+
+/* The bytes that an output of eon_asbestos needs, and the cells of its kinds. */
+#define EON_TEXT 16384
+#define EON_KINDS 54
 
 /* The bytes that a hand-in has at most. */
 #define EON_HANDIN 524288
@@ -164,6 +169,21 @@ uint64_t eon_literal(const uint8_t *line, size_t bytes, size_t stage, size_t k);
 
 /* The name of variable j, from 0, of such a line or stage, in order of first appearance, those of a head first: the same number. */
 uint64_t eon_variable(const uint8_t *line, size_t bytes, size_t stage, size_t j);
+
+/* Writes the text for processes with Asbestos labels of one field: kind 2 or 14.
+ *
+ * Levels are star, 0, 1, 2, 3 in rising order, given as the numbers 0 to 4. kinds has EON_KINDS cells, three for each process kind: its send level, its
+ * receive level, and 0, or any other number if it carries the marked message. The first `count` kinds are taken, and the cells behind them are not
+ * read. port is the port level, level the asked receive level.
+ *
+ * Processes of each kind are created at any time and in any number. A message passes if the sender's send level is at most the receiver's receive level
+ * and the port level. A receiver whose send level is star keeps it; any other takes the larger of the two send levels. All messages of a marked process
+ * are marked, and so is each receiver of one. An analysis of the text, with buffers of the sizes above, is never refused, and is reached exactly if a
+ * process of the asked receive level ever has the mark, from its creation or by a message.
+ *
+ * The text is written to the front of the output, and the bytes behind it are left as they were. It is refused 20 with line 0 if count is 0 or over 18,
+ * if one of the levels taken is over 4, or if the output has under EON_TEXT bytes; all of it is then as it was. */
+uint64_t eon_asbestos(const uint32_t *kinds, size_t count, uint32_t port, uint32_t level, uint8_t *output, size_t output_bytes);
 
 #ifdef __cplusplus
 }

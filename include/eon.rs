@@ -16,4 +16,5 @@ extern "C" {
     fn eon_relation(text: *const u8, bytes: usize, i: usize) -> u64;
     fn eon_literal(line: *const u8, bytes: usize, stage: usize, k: usize) -> u64;
     fn eon_variable(line: *const u8, bytes: usize, stage: usize, j: usize) -> u64;
+    fn eon_asbestos(kinds: *const u32, count: usize, port: u32, level: u32, output: *mut u8, output_bytes: usize) -> u64;
 }

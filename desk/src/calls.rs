@@ -9,6 +9,11 @@ pub const HANDIN: usize = 524_289;
 const WORK: usize = 65_536;
 const RUN: usize = 9_344;
 const OUT: usize = 130;
+const TEXT: usize = 16_384;
+
+/// The most process kinds of a desk for Asbestos labels, and their cells.
+pub const KINDS: usize = 18;
+pub const KIND_CELLS: usize = 3 * KINDS;
 
 /// The number of the refusal that leaves the verdict open and nothing else: too many states are reachable.
 pub const TOO_MANY: u32 = 15;
@@ -234,4 +239,19 @@ pub fn literal(line: &[u8], stage: usize, k: usize) -> Option<&[u8]> {
 /// Variable j of a line, or of a stage of the question, in order of first appearance.
 pub fn variable(line: &[u8], stage: usize, j: usize) -> Option<&[u8]> {
     part(line, unsafe { eon_variable(line.as_ptr(), line.len(), stage, j) })
+}
+
+/// The text for process kinds with Asbestos labels.
+pub fn asbestos(kinds: &[u32; KIND_CELLS], count: usize, port: u32, level: u32) -> Result<Vec<u8>, Refusal> {
+    let mut output = vec![0; TEXT];
+    let code = unsafe { eon_asbestos(kinds.as_ptr(), count, port, level, output.as_mut_ptr(), TEXT) };
+    let value = code as u32;
+    match code >> 32 {
+        2 => Err(refusal(value)),
+        14 => {
+            output.truncate(value as usize);
+            Ok(output)
+        }
+        _ => foreign(code),
+    }
 }

@@ -1,5 +1,6 @@
 //! The front end: it reads files and shows; what it shows was decided by the proved calls.
 
+mod asbestos;
 mod calls;
 mod model;
 mod reasons;
@@ -7,6 +8,7 @@ mod rows;
 mod show;
 mod story;
 
+use asbestos::Fault;
 use calls::{Handin, Mark, Refusal, Replay, TOO_MANY};
 use model::{line_of, readable, Model};
 use std::fs::File;
@@ -36,6 +38,21 @@ stood by, and which stage is met by whom. The run is that of the hand-in, or els
 analysis shows. Steps of objects that only stand by are folded; --all unfolds them.
 
 Exit status: 0 shown, 1 the hand-in's run breaks, 2 the model is refused or the hand-in unreadable, 3 a file or the program failed.";
+
+const ASBESTOS: &str = "usage: eon asbestos [--text] FILE
+
+Writes the text for processes with Asbestos labels of one field, and says its verdict. The lines of FILE are
+
+  port LEVEL                     the port level: one line
+  asked LEVEL                    whether a process of this receive level ever has the mark: one line
+  kind SEND RECEIVE              processes of these levels are created at any time and in any number
+  kind SEND RECEIVE marked       the same, and they carry the marked message; 1 to 18 such lines
+
+A level is star, 0, 1, 2 or 3. A line that is empty or begins with # says nothing. In the text S0 to S4 are
+these send levels, R0 to R4 say that the receive level is this or higher, and M is the mark. --text writes
+the text alone, for `eon` and `eon explain`.
+
+Exit status: 0 written, 2 refused or unreadable, 3 a file or the program failed.";
 
 /// Ends with a message on standard error.
 fn fail(message: &str) -> ! {
@@ -231,6 +248,35 @@ fn explain(all: bool, model_name: &str, handin_name: Option<&str>) -> ! {
     }
 }
 
+/// What a file of kinds does not say.
+fn no_system(name: &str, bytes: &[u8], fault: Fault) -> String {
+    match fault {
+        Fault::Line(line) => format!(
+            "unreadable: line {line} of {name}:\n  {}\nA line is port LEVEL, asked LEVEL (each once) or kind SEND RECEIVE, maybe with marked; a level is star, 0, 1, 2 or 3.\n",
+            readable(line_of(bytes, line))
+        ),
+        Fault::Missing(word) => format!("unreadable: {name} has no line {word} LEVEL.\n"),
+    }
+}
+
+fn write(text_alone: bool, name: &str) -> ! {
+    let bytes = read(name, calls::MODEL);
+    let system = asbestos::read(&bytes).unwrap_or_else(|fault| end(&no_system(name, &bytes, fault), REFUSED));
+    let text = calls::asbestos(&system.kinds, system.count, system.port, system.asked).unwrap_or_else(|r| end(&refused(name, &bytes, r), REFUSED));
+    let analysis = calls::analyze(&text).unwrap_or_else(|_| fail("the library refuses its own text; build it anew"));
+    let text = String::from_utf8_lossy(&text);
+    if text_alone {
+        end(&text, RIGHT)
+    }
+    let level = asbestos::level(system.asked);
+    let said = if analysis.run.is_some() {
+        format!("reached: a process of receive level {level} can come to have the mark")
+    } else {
+        format!("unreached: no process of receive level {level} ever has the mark, whatever is created and sent")
+    };
+    end(&format!("{text}\n{said}.\n"), RIGHT)
+}
+
 fn main() {
     let words: Vec<String> = std::env::args_os()
         .skip(1)
@@ -240,16 +286,23 @@ fn main() {
     match words.as_slice() {
         ["mark", "--help" | "-h"] => end(&format!("{MARK}\n"), RIGHT),
         ["explain", "--help" | "-h"] => end(&format!("{EXPLAIN}\n"), RIGHT),
-        [command @ ("mark" | "explain"), rest @ ..] => {
-            let option = rest.iter().find(|w| w.starts_with('-') && !(*command == "explain" && **w == "--all"));
+        ["asbestos", "--help" | "-h"] => end(&format!("{ASBESTOS}\n"), RIGHT),
+        [command @ ("mark" | "explain" | "asbestos"), rest @ ..] => {
+            let own = match *command {
+                "explain" => "--all",
+                "asbestos" => "--text",
+                _ => "",
+            };
+            let option = rest.iter().find(|w| w.starts_with('-') && **w != own);
             if let Some(option) = option {
                 fail(&format!("no option {option}; eon {command} --help says how to call it"));
             }
-            let names: Vec<&str> = rest.iter().copied().filter(|w| *w != "--all").collect();
+            let names: Vec<&str> = rest.iter().copied().filter(|w| *w != own).collect();
             match (*command, names.as_slice()) {
                 ("mark", [model, handin]) => mark(model, handin),
                 ("explain", [model]) => explain(rest.len() > 1, model, None),
                 ("explain", [model, handin]) => explain(rest.len() > 2, model, Some(handin)),
+                ("asbestos", [file]) => write(rest.len() > 1, file),
                 _ => fail(&format!("eon {command} takes other names; eon {command} --help says how to call it")),
             }
         }

@@ -36,6 +36,10 @@ pub fn row(number: u32) -> (&'static str, &'static str) {
             "more than 127 non-empty label sets are reachable, too many for a verdict",
             "split the model, or leave labels out that the question does not need; a yes whose run is kept is marked right all the same",
         ),
+        20 => (
+            "it has no process kinds or over 18, or a level that is none of star, 0, 1, 2 and 3",
+            "have 1 to 18 lines `kind`, with these levels",
+        ),
         _ => ("the program did not lend what the call needs", "report this"),
     }
 }

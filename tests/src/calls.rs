@@ -304,3 +304,25 @@ pub fn cure(text: &[u8], lines: &[u32], work: usize) -> (Cure, bool) {
     };
     (answer, left_right(&area, code))
 }
+
+/// The bytes that the output of a desk for Asbestos labels needs.
+pub const TEXT: usize = 16_384;
+/// The most process kinds that it takes, and their cells: the send level, the receive level and the mark of each.
+pub const KINDS: usize = 18;
+pub type Kinds = [u32; 3 * KINDS];
+
+/// What a desk left: the text or the refusal, and whether the output is untouched behind it.
+pub struct Desk {
+    pub text: Result<Vec<u8>, Answer>,
+    pub rest: bool,
+}
+
+/// Writes the text for the first kinds, a port level and an asked receive level into an output of this size.
+pub fn asbestos(kinds: &Kinds, count: usize, port: u32, level: u32, room: usize) -> Desk {
+    let mut output: Vec<u8> = (0..room + BEHIND).map(work_pattern).collect();
+    let code = unsafe { eon_asbestos(kinds.as_ptr(), count, port, level, output.as_mut_ptr(), room) };
+    let written = if code >> 32 == 14 { (code as u32 as usize).min(room) } else { 0 };
+    let rest = (written..output.len()).all(|i| output[i] == work_pattern(i));
+    output.truncate(written);
+    Desk { text: if code >> 32 == 14 { Ok(output) } else { Err(Answer::decode(code)) }, rest }
+}

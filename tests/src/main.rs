@@ -1,5 +1,6 @@
 //! Tests of the exported calls against a plain reader and a plain meaning of the bracket text.
 
+mod asbestos;
 mod buffers;
 mod calls;
 mod cases;
@@ -94,6 +95,14 @@ fn covered_enough(report: &mut Report) {
             report.met_often(&format!("closure over {states} states: {given}"), 1);
         }
     }
+    for said in ["reached", "unreached"] {
+        report.met_often(&format!("asbestos: one kind, {said}"), 100);
+        report.met_often(&format!("asbestos: seeded kinds, {said}"), 300);
+        report.met_often(&format!("asbestos: nobody of the level has the mark at first, {said}"), 200);
+    }
+    report.met_often("asbestos: the mark found with a few processes", 300);
+    report.met_often("asbestos: all processes found with a few", 300);
+    report.met_often("asbestos: refused 20", 500);
     for who in ["nobody", "one object", "two objects", "three objects"] {
         report.met_often(&format!("stood by: {who}"), 300);
     }
@@ -113,6 +122,7 @@ fn main() {
     buffers::all(&mut report);
     onward::all(&mut report);
     strike::all(&mut report);
+    asbestos::all(&mut report);
     seeded::models(&mut report);
     covered_enough(&mut report);
     if !report.close() {

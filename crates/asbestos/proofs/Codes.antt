@@ -54,10 +54,10 @@ abbrev mark-right : ℕ → ℕ → ℕ → Bool → Bool
 mark-right s r b m = alike (has (code (proc s r m)) M) m
 
 abbrev marking-right : ℕ → ℕ → ℕ → Bool → Bool
-marking-right s r b m = eqb (relabel (code (proc s r m)) (setOf (M ∷ S (result s b) ∷ [])) (setOf (left s (result s b)))) (code (proc (result s b) r true))
+marking-right s r b m = eqb (relabel (code (proc s r m)) (setOf (M ∷ S (result s b) ∷ [])) (setOf (left s (result s b)))) (code (received (proc b 0 true) (proc s r m)))
 
 abbrev raising-right : ℕ → ℕ → ℕ → Bool → Bool
-raising-right s r b m = cond (eqb (result s b) s) true (eqb (relabel (code (proc s r m)) (setOf (S (result s b) ∷ [])) (setOf (S s ∷ []))) (code (proc (result s b) r m)))
+raising-right s r b m = cond (eqb (result s b) s) true (eqb (relabel (code (proc s r m)) (setOf (S (result s b) ∷ [])) (setOf (S s ∷ []))) (code (received (proc b 0 false) (proc s r m))))
 
 send-tried : tried send-right ≡ true
 unfolding has code setOf union

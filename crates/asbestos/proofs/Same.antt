@@ -53,7 +53,7 @@ proper-set [] i p h k = tt
 proper-set (q ∷ ps) zero p h k = (k, h .1)
 proper-set (q ∷ ps) (suc i) p h k = (h .0, proper-set ps i p (h .1) k)
 
-proper-append : (ps : List Process) (p : Process) → AllProper ps → Proper p → AllProper (ps ++ p ∷ [])
+pub proper-append : (ps : List Process) (p : Process) → AllProper ps → Proper p → AllProper (ps ++ p ∷ [])
 proper-append [] p h k = (k, tt)
 proper-append (q ∷ ps) p h k = (h .0, proper-append ps p (h .1) k)
 

@@ -12,7 +12,7 @@ use Rattle.limits.specs.Limits as limit
 use Rattle.semantics.specs.Labels.{union, setOf}
 use Rattle.semantics.specs.Models.{elem, Line, Distinct}
 use Rattle.semantics.specs.Facts.{Database, state}
-use Rattle.semantics.specs.Steps.{Pair, Steps, Reachable}
+use Rattle.semantics.specs.Steps.{Pair, Steps, Reachable, MoreThan}
 use Rattle.semantics.proofs.Tools.{below, below-use, distinct-length}
 use Rattle.asbestos.specs.Messages.{levels, Process, most, Proper, AllProper, process, result, Event, History}
 use Rattle.asbestos.specs.Desk.{code, born, each, entries, clauses, numbered, program}
@@ -74,8 +74,8 @@ module _ (kinds : List Process) (proper : AllProper kinds) (port : ℕ) (low : p
   few-states ss d h = omega (arith, fifty, distinct-length ss all-codes d (λ s e. reachable-listed s (h s e)))
 
   -- so that there are never more than 127 (refusal 15)
-  pub never-many : (ss : List ℕ) → Distinct ss → ((s : ℕ) → elem s ss ≡ true → Reachable (program kinds port) s) → limit.atomic < length ss → ⊥
-  never-many ss d h l = omega (arith, few-states ss d h)
+  pub never-many : MoreThan limit.atomic (program kinds port) → ⊥
+  never-many m = omega (arith, m .2, few-states (m .0) (m .1) (λ s e. m .3 s e .1))
 
   -- THE REACHABLE STATES are those of the processes of a system
   pub same-states : (s : ℕ) → Reachable (program kinds port) s ↔ ((es : List Event) × (ps : List Process) × History kinds port [] es ps × ((i : ℕ) × (i < length ps) × (code (process ps i) ≡ s)))

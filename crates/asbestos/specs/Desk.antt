@@ -7,6 +7,11 @@ use Rattle.semantics.specs.Labels.{setOf}
 use Rattle.semantics.specs.Models.{is, isnt, Body, Line, new, next, Program, Question}
 use Rattle.asbestos.specs.Messages.{Process, levels, result}
 
+-- the lists for 0 to n - 1, one after the other
+abbrev pub each : {A : Type 0} → ℕ → (ℕ → List A) → List A
+each zero f = []
+each (suc n) f = each n f ++ f n
+
 -- LABELS, on lines 1 to 11: S0 to S4 are the relations 0 to 4, R0 to R4 the relations 5 to 9, and M is the relation 10.
 -- A process of send level a and receive level r has Sa, all of R0 to Rr, and M if it has the mark.
 abbrev pub S : ℕ → ℕ
@@ -19,8 +24,7 @@ abbrev pub M : ℕ
 M = 10
 
 abbrev pub upTo : ℕ → List ℕ
-upTo zero = R 0 ∷ []
-upTo (suc r) = upTo r ++ (R (suc r) ∷ [])
+upTo r = each (suc r) (λ (k : ℕ). R k ∷ [])
 
 abbrev pub labels : Process → List ℕ
 labels p = S (p .send) ∷ (upTo (p .receive) ++ cond (p .mark) (M ∷ []) [])
@@ -51,11 +55,6 @@ raising a b = next 0 (setOf (S (result a b) ∷ [])) (setOf (S a ∷ [])) (passi
 
 abbrev pub entry : ℕ → ℕ → List Line
 entry a b = marking a b ∷ cond (eqb (result a b) a) [] (raising a b ∷ [])
-
--- the lists for 0 to n - 1, one after the other
-abbrev pub each : {A : Type 0} → ℕ → (ℕ → List A) → List A
-each zero f = []
-each (suc n) f = each n f ++ f n
 
 -- row by row, the columns up to the port level
 abbrev pub entries : ℕ → List Line

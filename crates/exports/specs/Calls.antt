@@ -27,6 +27,11 @@ use Rattle.display.specs.declared.Declaration.{Declaration}
 use Rattle.display.specs.Shown.{relationAt, ShowsRelation}
 use Rattle.explain.specs.declared.Explanation.{Explanation}
 use Rattle.explain.specs.Explains.{Explained}
+use Rattle.asbestos.specs.Messages.{Process}
+use Rattle.asbestos_writer.specs.declared.Answer as desk
+use Rattle.asbestos_writer.specs.Writing.{Desks}
+use Rattle.asbestos_desk.specs.Promise.{Keeps}
+use Rattle.asbestos_desk.specs.Codes.{code}
 use Rattle.codes.specs.Codes as codes
 use Rattle.reason_codes.specs.Codes.{explained}
 use Rattle.exports.specs.Codes.{refusal, coded, replied, put}
@@ -95,3 +100,10 @@ pub record Spanned (line : List ℕ) (part : Option (List ℕ)) (n : ℕ) : Type
   pub span : Span
   pub shows : Shows line (cond (ltb limit.text (length line)) none part) span
   pub number : n ≡ codes.spanned span
+
+-- THE TEXT THAT A DESK for Asbestos labels writes, with the output after it
+pub record Desked (kinds : List Process) (port level : ℕ) (out : List ℕ) (n : ℕ) (out′ : List ℕ) : Type 0 where
+  pub answer : desk.Answer
+  pub desks : Desks kinds port level out answer out′
+  pub keeps : Keeps kinds port level answer out′
+  pub number : n ≡ code answer

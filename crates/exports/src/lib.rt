@@ -1,5 +1,6 @@
 // The public calls for C and Rust: answers as numbers, records as rows of cells (include/eon.h).
 use analyzer_verdict::Analysis;
+use asbestos_writer::CELLS;
 use handin::Handin;
 use limits::LISTED;
 use limits::OBJECTS;
@@ -17,9 +18,10 @@ ghost use Rattle.handin.specs.Handins.{reading};
 ghost use Rattle.handin.specs.Answers.{told};
 ghost use Rattle.display.specs.Shown.{literalAt, variableAt};
 ghost use Rattle.effects.specs.Effects.{effectAt};
+ghost use Rattle.asbestos_writer.specs.Writing.{kindsOf};
 ghost use Rattle.exports.specs.Codes.{refusal as refusalCode, coded as codeOf, replied as replyCode, put as placeCode};
 ghost use Rattle.exports.specs.Cells.{lastNumber, table as tableOf, stateOf, cellsOf};
-ghost use Rattle.exports.specs.Calls.{Analyzed, Asked, Replayed, Placed, written, Handed, Marked, Reasoned, Declared, Spanned};
+ghost use Rattle.exports.specs.Calls.{Analyzed, Asked, Replayed, Placed, written, Handed, Marked, Reasoned, Declared, Spanned, Desked};
 ghost use Rattle.exports.specs.Ranges.{ShortRun, LowPlace, LowNumber, Shown, Small};
 
 // The cells beside an answer of the analysis, of which the last has the shown run's last place.
@@ -310,4 +312,18 @@ pub extern "C" fn eon_variable(line: &[u8], stage: usize, j: usize) -> u64
         return 0;
     }
     codes::spanned(display::variable(line, stage, j))
+}
+
+// Writes the text for Asbestos labels: the first kinds, so many, a port level and the asked receive level.
+#[no_mangle]
+pub extern "C" fn eon_asbestos(
+    kinds: &[u32; CELLS],
+    count: usize,
+    port: u32,
+    level: u32,
+    out: &mut [u8],
+) -> u64
+    ensures { λ r. ⌜ Desked (kindsOf (now (kinds .entry)) count) port level (now (out .entry)) r (now (out .exit)) ⌝ }
+{
+    asbestos_desk::coded(asbestos_desk::write(out, kinds, count, port, level))
 }

@@ -1,0 +1,4 @@
+pub mod Printed
+pub mod Sizes
+pub mod Accepted
+pub mod Examples
