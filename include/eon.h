@@ -6,7 +6,7 @@
  * A buffer is passed as a pointer and its number of elements. Buffers must not overlap, and a pointer must not be null,
  * not even where the number of elements is 0.
  *
- * The calls eon_analyze, eon_from, eon_replay, eon_why, eon_place, eon_mark, eon_handin, eon_cure and eon_asbestos return kind * 2^32 + value:
+ * The calls eon_analyze, eon_from, eon_replay, eon_why, eon_place, eon_mark, eon_handin, eon_cure, eon_tally and eon_asbestos return kind * 2^32 + value:
  *
  *   kind 0   unreached               value 0
  *   kind 1   reached                 value: the number n of places of the run shown
@@ -23,6 +23,7 @@
  *                                    the last where there are none
  *   kind 11  lines to strike         value: how many
  *   kind 12  no choice does          value 0
+ *   kind 13  counted                 value 0
  *   kind 14  written                 value: the bytes of the text
  *
  * Numbers of refusals: 1 no bytes, or over 16,384; 2 a bad byte, or a last line without byte 10; 3 a line that has no shape;
@@ -32,7 +33,7 @@
  * under EON_RUN places; 14 a run over EON_RUN places, or a state that has kept EON_RUN; 15 more than 127 non-empty atomic states are reachable;
  * 16, 17 and 18 from eon_from, which says when; 19 a list of lines that is empty or has over EON_STRUCK, names a line twice, or names one that is
  * neither `new` nor `next`; 20, from eon_asbestos, no process kinds, over 18, a level outside the five, or an output under EON_TEXT bytes.
- * The first line is 1; the line is 0 for numbers 1, 12 and 14 to 20. 15 comes after all others, from eon_analyze, eon_from and eon_cure, and from
+ * The first line is 1; the line is 0 for numbers 1, 12 and 14 to 20. 15 comes after all others, from eon_analyze, eon_from, eon_cure and eon_tally, and from
  * eon_mark where the verdict is needed. A replay of such a text works as ever, and the calls for display take it as accepted.
  *
  * After a refusal below 15, of 19 or 20 the lent buffers are as they were, but for `out`, and so they are after an unreadable hand-in. After 15 to 18 and after every
@@ -73,8 +74,9 @@ extern "C" {
 /* The bytes that a hand-in has at most. */
 #define EON_HANDIN 524288
 
-/* The lines that a list to strike has at most, for which eon_cure has as many cells. */
+/* The lines that a list to strike has at most, for which eon_cure has as many cells; and the cells beside the answer of eon_tally. */
 #define EON_STRUCK 10
+#define EON_COUNTS 4
 
 /* Analyzes a text: kind 0, 1 or 2. It is refused 15 exactly if more than 127 non-empty atomic states are reachable, whatever is asked.
  *
@@ -153,6 +155,13 @@ uint64_t eon_mark(const uint8_t *text, size_t bytes, const uint8_t *handin, size
  * out has EON_STRUCK cells, and all of them are written: the lines to strike by rising number, with zeros behind them. Beside every other answer all
  * are 0. */
 uint64_t eon_cure(const uint8_t *text, size_t bytes, const uint32_t *lines, size_t count, uint8_t *work, size_t work_bytes, uint32_t *out);
+
+/* Counts the 2^count ways to keep some of the listed lines and strike the rest, all kept and all struck among them: kind 2 or 13. It is refused as
+ * eon_cure is.
+ *
+ * out has EON_COUNTS cells, and all of them are written: with how many of the ways the question is reached, with how many it is unreached, the reached
+ * share in whole hundredths, and its remainder, which is below 2^count: 100 * out[0] = out[2] * 2^count + out[3]. After a refusal all are 0. */
+uint64_t eon_tally(const uint8_t *text, size_t bytes, const uint32_t *lines, size_t count, uint8_t *work, size_t work_bytes, uint32_t *out);
 
 /* What a line of an accepted text makes of an object in an atomic state: 2 * 2^32 + the state of the object that a `new` line creates, 3 * 2^32 + the
  * state that a `next` line gives to an object in `state`. 0 where the line is neither, or the text is refused. */

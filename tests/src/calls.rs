@@ -279,8 +279,17 @@ pub enum Cure {
     Unknown(u64),
 }
 
-/// The cells beside the answer of `eon_cure`.
+/// What counting the choices answers.
+#[derive(Debug, PartialEq)]
+pub enum Tally {
+    Count { reached: u32, unreached: u32, share: u32, remainder: u32 },
+    Refused(u32, u32),
+    Unknown(u64),
+}
+
+/// The cells beside the answer of `eon_cure`, and beside that of `eon_tally`.
 const STRUCK: usize = 10;
+const COUNTS: usize = 4;
 
 /// Whether a work area is right after a code of these calls: wiped unless it is a refusal other than 15.
 fn left_right(area: &Area, code: u64) -> bool {
@@ -325,4 +334,18 @@ pub fn asbestos(kinds: &Kinds, count: usize, port: u32, level: u32, room: usize)
     let rest = (written..output.len()).all(|i| output[i] == work_pattern(i));
     output.truncate(written);
     Desk { text: if code >> 32 == 14 { Ok(output) } else { Err(Answer::decode(code)) }, rest }
+}
+
+/// Counts the choices of lines, and says whether the work area is right.
+pub fn tally(text: &[u8], lines: &[u32], work: usize) -> (Tally, bool) {
+    let mut area = Area::new(work);
+    let mut out = [0xDEAD_BEEFu32; COUNTS];
+    let code = unsafe { eon_tally(text.as_ptr(), text.len(), lines.as_ptr(), lines.len(), area.pointer(), work, out.as_mut_ptr()) };
+    let value = code as u32;
+    let answer = match code >> 32 {
+        2 if out == [0; COUNTS] => Tally::Refused(value >> 16, value & 65_535),
+        13 if value == 0 => Tally::Count { reached: out[0], unreached: out[1], share: out[2], remainder: out[3] },
+        _ => Tally::Unknown(code),
+    };
+    (answer, left_right(&area, code))
 }

@@ -1,6 +1,6 @@
-//! Which lines to strike (document 02, R-8): every choice of lines is decided by plain means.
+//! Which lines to strike, and how much of the policy matters (document 02, R-8 and R-10): every choice of lines is decided by plain means.
 
-use crate::calls::{self, Cure, WORK};
+use crate::calls::{self, Cure, Tally, WORK};
 use crate::meaning::{Action, Model};
 use crate::random::Random;
 use crate::report::Report;
@@ -43,6 +43,13 @@ fn cheapest(all: &[(Vec<u32>, bool)]) -> Cure {
     cures.min_by(|a, b| (a.len(), a).cmp(&(b.len(), b))).map_or(Cure::Nothing, |lines| Cure::Strike(lines.clone()))
 }
 
+/// How many choices are reached and unreached, and the reached share in whole hundredths with its remainder.
+fn counted(all: &[(Vec<u32>, bool)]) -> Tally {
+    let reached = all.iter().filter(|(_, r)| *r).count() as u32;
+    let ways = all.len() as u32;
+    Tally::Count { reached, unreached: ways - reached, share: 100 * reached / ways, remainder: 100 * reached % ways }
+}
+
 /// Whether a list is refused 19: empty, too long, a line twice, or one that is neither `new` nor `next`.
 fn bad(m: &Model, lines: &[u32]) -> bool {
     let strikable = |l: &u32| m.clauses.iter().any(|c| c.line == *l && !matches!(c.action, Action::Rule(..)));
@@ -50,19 +57,21 @@ fn bad(m: &Model, lines: &[u32]) -> bool {
     lines.is_empty() || lines.len() > LINES || twice || !lines.iter().all(strikable)
 }
 
-/// Puts a list to the call, and compares refusals, answers and the work area with the plain ones.
+/// Puts a list to both calls, and compares refusals, answers and the work area with the plain ones.
 pub fn put(report: &mut Report, subject: &Subject, lines: &[u32], work: usize) {
     let (cure, cure_area) = calls::cure(&subject.text, lines, work);
-    let about = || format!("{cure:?} for {lines:?} with {work} bytes in\n{}", subject.show());
-    report.check(cure_area, || format!("work area: {}", about()));
+    let (tally, tally_area) = calls::tally(&subject.text, lines, work);
+    let about = || format!("{cure:?}, {tally:?} for {lines:?} with {work} bytes in\n{}", subject.show());
+    report.check(cure_area && tally_area, || format!("work area: {}", about()));
     let own = || subject.read.as_ref().ok().and_then(|m| if bad(m, lines) { Some((19, 0)) } else { subject.states().is_none().then_some((15, 0)) });
     if let Some((number, line)) = subject.refusal(&[(12, work < WORK)]).or_else(own) {
-        report.check(cure == Cure::Refused(number, line), || format!("{number} @ {line} expected: {}", about()));
+        report.check(cure == Cure::Refused(number, line) && tally == Tally::Refused(number, line), || format!("{number} @ {line} expected: {}", about()));
         return report.cover(&format!("strike: refused {number:2}"));
     }
     let m = subject.read.as_ref().expect("a text that is not refused has a model");
     let Some(all) = decided(m, lines) else { return report.cover("strike: not decided by plain means") };
     report.check(cure == cheapest(&all), || format!("cure {:?}: {}", cheapest(&all), about()));
+    report.check(tally == counted(&all), || format!("tally {:?}: {}", counted(&all), about()));
     report.cover(match &cure {
         Cure::Strike(lines) if lines.is_empty() => "strike: unreached already",
         Cure::Strike(lines) if lines.len() == 1 => "strike: one line is enough",
