@@ -23,6 +23,7 @@ mod report;
 mod salad;
 mod search;
 mod seeded;
+mod shuffled;
 mod standing;
 mod strike;
 mod subject;
@@ -80,6 +81,11 @@ fn covered_enough(report: &mut Report) {
     report.met_often("strike: one line is enough", 100);
     report.met_often("strike: several lines", 30);
     report.met_often("strike: no choice does", 100);
+    report.met_often("shuffles", 800);
+    report.met_often("shuffles of two runs with objects", 500);
+    report.met_often("shuffles of two runs that meet stages", 300);
+    report.met_often("shuffles that a group heard as a kept run", 300);
+    report.met_often("shuffles beyond 255 objects", 2);
     report.met_often("analysis: refused 15", 60);
     report.met_often("models with too many states", 40);
     report.met_often("models with more than 7 labels in use", 60);
@@ -120,6 +126,7 @@ fn main() {
     lent::all(&mut report);
     crowd::all(&mut report);
     buffers::all(&mut report);
+    shuffled::beyond(&mut report);
     onward::all(&mut report);
     strike::all(&mut report);
     asbestos::all(&mut report);

@@ -11,6 +11,7 @@ use crate::playing::play_on;
 use crate::random::{model, Random, Shape};
 use crate::report::Report;
 use crate::search::{led_about, non_empty, search, FOLLOWED};
+use crate::shuffled::shuffle_runs;
 use crate::strike;
 use crate::subject::{fresh, Subject};
 use crate::wide;
@@ -172,7 +173,7 @@ fn cover_pair(report: &mut Report, m: &Model, run: &[u32]) {
     }
 }
 
-/// Replays a shown run, the run damaged in one place, and plays it on.
+/// Replays a shown run, the run damaged in one place, plays it on, and shuffles it with others.
 fn runs(report: &mut Report, r: &mut Random, subject: &Subject, m: &Model, run: &[u32]) {
     let kept = subject.replay(report, run) == Answer::Kept;
     report.check(kept, || format!("the shown run is not kept: {run:?} in\n{}", subject.show()));
@@ -191,6 +192,7 @@ fn runs(report: &mut Report, r: &mut Random, subject: &Subject, m: &Model, run: 
         }
     }
     play_on(report, r, subject, m, run);
+    shuffle_runs(report, r, subject, m, run);
 }
 
 /// Damaged texts are answered as the plain reader answers them.
