@@ -177,6 +177,9 @@ pub fn all(report: &mut Report) {
         let answer = Put { subject: &subject, before: &before, object: 0 }.ask(report, WORK, RUN);
         report.check(matches!(answer, Answer::Reached(_)) == reached, || format!("after {after:?}: {answer:?}"));
     }
+    for text in [vec![], vec![b'('; 16_385]] {
+        Put { subject: &Subject::new(&text), before: &[], object: 0 }.ask(report, WORK - 1, RUN);
+    }
     let bare = Subject::new(b"(state A)\n(rel N 0)\n(new (A))\n(rule (N) (A x))\n(ask ((N)) ((A x)))\n");
     let answer = Put { subject: &bare, before: &[Place::Step(3, 0).encode()], object: 0 }.ask(report, WORK, RUN);
     report.check(answer == Answer::Refused(17, 0), || format!("a stage without variables: {answer:?}"));

@@ -123,6 +123,9 @@ pub fn all(report: &mut Report) {
     for lines in [vec![14], vec![14, 3], vec![13, 14, 3], vec![3, 3], vec![1], vec![15], vec![16], vec![0], vec![u32::MAX], vec![]] {
         put(report, &subject, &lines, WORK);
     }
+    for text in [vec![], vec![b'('; 16_385]] {
+        put(report, &Subject::new(&text), &[], WORK - 1);
+    }
     let two = Subject::new(b"(state A)\n(new (A))\n(new (A))\n(next x () (A) (A x))\n(ask ((A x)))\n");
     for lines in [vec![2, 3], vec![3, 2], vec![4], vec![2], vec![4, 3, 2]] {
         put(report, &two, &lines, WORK);
