@@ -39,7 +39,7 @@
  * After a refusal below 15, of 19 or 20 the lent buffers are as they were, but for `out`, and so they are after an unreadable hand-in. After 15 to 18 and after every
  * other answer the first EON_WORK bytes of the work area are zero, and the rest is as it was.
  *
- * A call needs under 512 KB of stack, and no memory but the stack and what is lent.
+ * A call needs under 640 KB of stack, and no memory but the stack and what is lent.
  *
  * A place of a run is a number of 32 bits. A step is line * 256 + object. A meeting is
  * 2,147,483,648 + stage * 16,777,216 + o1 * 65,536 + o2 * 256 + o3, with 255 where there is no object.
