@@ -1,6 +1,5 @@
 -- What the search and the written run give of the answer.
 use mathlib.Core.Path.{_≡_, refl, sym, ap, _∙_}
-use mathlib.Core.Bool.{true, false, false≢true}
 use mathlib.Core.List.{List, [], _∷_, _++_}
 use mathlib.Core.Option.{some}
 use Prim.Native.Nat.{ℕ, _-_}
@@ -16,14 +15,16 @@ use Rattle.model.specs.Places.{numberOf, placed, standsFor, placeOf}
 use Rattle.model.proofs.Accepted.{stages}
 use Rattle.search_levels.specs.Levels.{nothing}
 use Rattle.search.specs.declared.Found.{Found}
-use Rattle.search.specs.Search.{Searched, Finds}
+use Rattle.search.specs.Search.{Searched}
 use Rattle.witness_table.specs.Runs.{numbers}
 use Rattle.witness_walk.specs.Walk.{Recorded}
 use Rattle.witness.specs.Witness as witness
 use Rattle.witness.proofs.Laws.{last-place, played-on}
 use Rattle.analyzer_verdict.specs.declared.Answer.{Answer}
 use Rattle.analyzer_verdict.specs.declared.Answer.the-variants.{Reached, Unreached, Refused}
-use Rattle.analyzer_verdict.specs.Judging.{Crowded, Shown, Answered, Listed, Beside}
+use Rattle.calls.specs.Crowding.{Crowded}
+use Rattle.search_states.specs.Listed.{Listed}
+use Rattle.analyzer_verdict.specs.Judging.{Shown, Answered, Beside}
 
 -- the place of a number is the one that its parts stand for
 pub parts : (k : ℕ) → standsFor (placed k) ≡ placeOf k
@@ -35,10 +36,6 @@ pub beside : (P : Program) (Q : Question) (run run′ states : List ℕ) (n : �
 beside P Q run run′ states n few l (Reached places last) h = l
 beside P Q run run′ states n few l Unreached h = l
 beside P Q run run′ states n few l (Refused number line) h = absurd (few (h .0))
-
--- what is found of the number of states
-pub not-crowded : (m : Model) (w : List ℕ) (r : Found) → Finds m w r → r .crowded ≡ false → Crowded (programOf m) → ⊥
-not-crowded m w r h e c = false≢true (sym e ∙ h .crowded .1 c)
 
 module _ (m : Model) (wf : WellFormed m) where
   module _ (w : List ℕ) (r : Found) (h : Searched m w r) where

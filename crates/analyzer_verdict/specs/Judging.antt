@@ -1,22 +1,20 @@
 -- WHAT THE ANALYSIS OF A PROGRAM AND A QUESTION ANSWERS, and what it leaves in the work area and the run table.
 use mathlib.Core.Path.{_≡_}
-use mathlib.Core.Logic.{_↔_}
-use mathlib.Core.Bool.{true}
 use mathlib.Core.List.{List, [], _∷_, _++_, map}
 use mathlib.Core.Option.{some}
 use Prim.Native.Nat.{ℕ, _-_, _≤_}
 use lib.ListN.{length, take, drop, getD, replicate}
 use Rattle.limits.specs.Limits as limit
-use Rattle.semantics.specs.Models.{elem, Program, Question}
-use Rattle.semantics.specs.Steps.{Reachable, MoreThan}
+use Rattle.semantics.specs.Models.{Program, Question}
 use Rattle.semantics.specs.Questions as questions
 use Rattle.semantics.specs.Runs as runs
 use Rattle.semantics.specs.Runs.{meet, Kept}
 use Rattle.semantics.specs.PlayingOn.{PlayingOn}
 use Rattle.model.specs.declared.Place.{Place}
 use Rattle.model.specs.Places.{numberOf, placed, standsFor, placeOf}
-use Rattle.search_states.specs.Rising.{Rising}
+use Rattle.search_states.specs.Listed.{Listed}
 use Rattle.calls.specs.Wiping.{wiped}
+use Rattle.calls.specs.Crowding.{Crowded, tooMany}
 use Rattle.analyzer_verdict.specs.declared.Answer.{Answer}
 use Rattle.analyzer_verdict.specs.declared.Answer.the-variants.{Reached, Unreached, Refused}
 use Rattle.analyzer_verdict.specs.declared.Analysis.{Analysis}
@@ -42,28 +40,13 @@ pub record Shown (P : Program) (Q : Question) (run run′ : List ℕ) (n : ℕ) 
   -- demand 3
   pub playing : PlayingOn P Q limit.run places
 
--- TOO MANY STATES, document 02, R-6: "more than 127 non-empty states are reachable"
-abbrev pub Crowded : Program → Type 0
-Crowded P = MoreThan limit.atomic P
-
--- "15 with line 0 from an analysis"
-abbrev pub tooMany : ℕ
-tooMany = 15
-
 -- THE ANSWER: 15 "exactly if" there are too many states, the run table untouched, and else a verdict that is right; the run table "is written only for reached"
 abbrev pub Answered : Program → Question → List ℕ → List ℕ → Answer → Type 0
 Answered P Q run run′ (Reached n last) = (Crowded P → ⊥) × questions.Reached P Q × Shown P Q run run′ n last
 Answered P Q run run′ Unreached = (Crowded P → ⊥) × (questions.Reached P Q → ⊥) × (run′ ≡ run)
 Answered P Q run run′ (Refused n l) = Crowded P × (n ≡ tooMany) × (l ≡ 0) × (run′ ≡ run)
 
--- THE STATES beside a verdict: "the reachable atomic states and their number, in the listing's order"; the empty one, number 0, "comes first"; the numbers behind them are zero
-pub record Listed (P : Program) (states : List ℕ) (n : ℕ) : Type 0 where
-  pub count : n ≤ limit.listed
-  pub rising : Rising states n
-  pub reachable : (s : ℕ) → Reachable P s ↔ (elem s (take n states) ≡ true)
-  pub rest : drop n states ≡ replicate (limit.listed - n) 0
-
--- they stand beside a verdict; "beside a refusal" they are "none and 0"
+-- THE STATES stand beside a verdict; "beside a refusal" they are "none and 0"
 abbrev pub Beside : Program → List ℕ → ℕ → Answer → Type 0
 Beside P states n (Reached places last) = Listed P states n
 Beside P states n Unreached = Listed P states n

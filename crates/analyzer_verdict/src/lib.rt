@@ -1,4 +1,5 @@
 // The analysis of an accepted model: the verdict with the run of a reached question, and the reachable states; or that too many are reachable.
+use calls::TOO_MANY;
 use facts_heads::ROOM;
 use limits::LISTED;
 use model::Model;
@@ -11,10 +12,8 @@ ghost use Rattle.limits.specs.Limits as limit;
 ghost use Rattle.model.specs.Records.{programOf, questionOf};
 ghost use Rattle.model.specs.WellFormed.{WellFormed};
 ghost use Rattle.search.specs.Search.{Searched, Finds};
-ghost use Rattle.analyzer_verdict.specs.Judging.{Crowded, Answered, Beside, refusal, Judges};
-
-// The number of the refusal where more than 127 non-empty states are reachable.
-const TOO_MANY: u32 = 15;
+ghost use Rattle.calls.specs.Crowding.{Crowded};
+ghost use Rattle.analyzer_verdict.specs.Judging.{Answered, Beside, refusal, Judges};
 
 // Reached with the number of places of the shown run and its last place, unreached, or a refusal with its number and line.
 pub enum Answer {

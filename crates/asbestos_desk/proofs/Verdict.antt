@@ -15,7 +15,8 @@ use Rattle.grammar.specs.Texts.{Outcome, accepted}
 use Rattle.calls.specs.Calls.{early, short, called}
 use Rattle.analyzer_verdict.specs.declared.Answer as verdict
 use Rattle.analyzer_verdict.specs.declared.Answer.the-variants.{Reached, Unreached, Refused}
-use Rattle.analyzer_verdict.specs.Judging.{Crowded, Answered}
+use Rattle.calls.specs.Crowding.{Crowded}
+use Rattle.analyzer_verdict.specs.Judging.{Answered}
 use Rattle.analyzer.specs.Analyzing.{Leaves as Judged}
 use Rattle.asbestos.specs.Messages.{Process}
 use Rattle.asbestos.specs.Desk.{program, question}

@@ -1,4 +1,4 @@
--- THE WORK AREA after an answer that is no refusal.
+-- THE WORK AREA after every answer for which it is used: all but the refusals that the lines and lists alone decide.
 use mathlib.Core.List.{List, _++_}
 use Prim.Native.Nat.{ℕ}
 use lib.ListN.{drop, replicate}

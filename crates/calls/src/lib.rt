@@ -9,6 +9,9 @@ use limits::RUN;
 use limits::TEXT;
 use limits::WORK;
 
+// The number of the refusal where more than 127 non-empty states are reachable.
+pub const TOO_MANY: u32 = 15;
+
 // The row that refuses a call before its lines are read, or 0: the text's bytes, a lent buffer that is too short, a run that is too long.
 pub fn early(bytes: usize, short: bool, long: bool) -> u32
     ensures { λ r. ⌜ r ≡ earlyRow bytes short long ⌝ }

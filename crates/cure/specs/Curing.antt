@@ -10,7 +10,8 @@ use Rattle.grammar.specs.Texts.{Outcome, accepted, refused}
 use Rattle.calls.specs.Wiping.{wiped}
 use Rattle.striking.specs.Striking.{Cured}
 use Rattle.strike_list.specs.Lists.{padded}
-use Rattle.strike_calls.specs.Calls.{Crowded, asked}
+use Rattle.calls.specs.Crowding.{Crowded, tooMany}
+use Rattle.strike_calls.specs.Calls.{asked}
 use Rattle.cure.specs.declared.Answer.the-variants.{Strike, NoChoice, Refused}
 use Rattle.cure.specs.declared.Advice.{Advice}
 
@@ -25,7 +26,7 @@ told (some C) = record { answer = Strike (length C); lines = padded C }
 
 -- THE RIGHT ANSWER to a list that is not refused: 15 exactly if there are too many states, and else the choice that cures, or that none does
 abbrev pub Answers : Program → Question → List ℕ → Advice → Type 0
-Answers P Q L r = (Crowded P × (r ≡ refusal 15 0)) ⊎ ((Crowded P → ⊥) × ((a : Option (List ℕ)) × Cured P Q L a × (r ≡ told a)))
+Answers P Q L r = (Crowded P × (r ≡ refusal tooMany 0)) ⊎ ((Crowded P → ⊥) × ((a : Option (List ℕ)) × Cured P Q L a × (r ≡ told a)))
 
 -- WHAT THE CALL LEAVES, by the table's answer to it: 1 to 12 and 19 leave the work area as it is; 15 and every other answer leave "the first 65,536 work bytes zero", the rest untouched
 abbrev pub Leaves : Outcome → List ℕ → List ℕ → Advice → List ℕ → Type 0

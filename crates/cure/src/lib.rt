@@ -1,4 +1,5 @@
 // Which lines to strike: the cheapest cure of a text.
+use calls::TOO_MANY;
 use limits::WORK;
 use model::Model;
 use strike_list::Lines;
@@ -22,10 +23,8 @@ ghost use Rattle.strike_table.specs.Tables.{Fills};
 ghost use Rattle.cure.specs.Curing.{refusal, Answers, Cures};
 ghost use Rattle.cure.specs.Soonest.{sizeOf, sizeAt, Soonest};
 
-// The number of the refusal of the list, and of the refusal where more than 127 non-empty states are reachable.
+// The number of the refusal of the list.
 const LIST: u32 = 19;
-
-const TOO_MANY: u32 = 15;
 
 // How many lines to strike, that no choice does, or a refusal with its number and line.
 pub enum Answer {

@@ -26,7 +26,8 @@ use Rattle.calls.specs.Calls.{early, short, called}
 use Rattle.analyzer_verdict.specs.declared.Answer.{Answer}
 use Rattle.analyzer_verdict.specs.declared.Answer.the-variants.{Reached, Unreached, Refused}
 use Rattle.analyzer_verdict.specs.declared.Analysis.{Analysis}
-use Rattle.analyzer_verdict.specs.Judging.{tooMany, Answered}
+use Rattle.calls.specs.Crowding.{tooMany}
+use Rattle.analyzer_verdict.specs.Judging.{Answered}
 use Rattle.analyzer.specs.Analyzing.{Leaves, Analyzes}
 use Rattle.exports.specs.Codes.{code}
 

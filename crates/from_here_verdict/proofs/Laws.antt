@@ -34,7 +34,7 @@ use Rattle.search_states.proofs.Seats.{seat-in}
 use Rattle.search_levels.specs.Levels.{firstVariable}
 use Rattle.search_levels.proofs.Targets.{first-stands}
 use Rattle.search.specs.declared.Found.{Found}
-use Rattle.search.specs.Search.{SearchedFrom, FindsFrom}
+use Rattle.search.specs.Search.{SearchedFrom}
 use Rattle.witness_table.specs.Runs.{numbers}
 use Rattle.witness_meetings.specs.Meetings.{Seating}
 use Rattle.witness_walk.specs.Walk.{Recorded, Sits}
@@ -43,7 +43,7 @@ use Rattle.witness.proofs.Laws.{last-number}
 use Rattle.witness_from.specs.From as witness
 use Rattle.witness_from.specs.From.{Openable}
 use Rattle.analyzer_verdict.specs.declared.Analysis.{Analysis}
-use Rattle.analyzer_verdict.specs.Judging.{Crowded, Listed}
+use Rattle.search_states.specs.Listed.{Listed}
 use Rattle.analyzer_verdict.proofs.Laws.{parts}
 use Rattle.from_here_verdict.specs.From.{ShownFrom, Refuses, Asked, Put}
 use Rattle.from_here_verdict.specs.Standing.{Ready, there, Told}
@@ -84,11 +84,7 @@ module _ (m : Model) (ns : List ℕ) (s : Session) (h : Stopped m ns (length ns)
   there-state : (o : ℕ) → o < s .objects → state (there m s) o ≡ stateIn s o
   there-state o l = getD-take (s .objects) (s .states) o 0 l
 
--- WHAT THE SEARCH SAYS of the number of states
-pub not-crowded : (m : Model) (t : ℕ) (w : List ℕ) (r : Found) → FindsFrom m t w r → r .crowded ≡ false → Crowded (programOf m) → ⊥
-not-crowded m t w r h e c = false≢true (sym e ∙ h .crowded .1 c)
-
--- and of the object
+-- WHAT THE SEARCH SAYS of the object
 module _ (m : Model) (s : Session) (o : ℕ) (h : Ready m s o) (w : List ℕ) (r : Found) (f : SearchedFrom m (stateIn s o) w r) where
   verdict : (r .reached ≡ true) ↔ ReachedFrom (programOf m) (questionOf m) (there m s) (firstVariable m) o
   verdict =

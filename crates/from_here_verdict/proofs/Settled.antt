@@ -11,8 +11,9 @@ use Rattle.semantics.specs.Runs.{Session, start}
 use Rattle.analyzer_verdict.specs.declared.Answer.{Answer}
 use Rattle.analyzer_verdict.specs.declared.Answer.the-variants.{Reached, Unreached, Refused}
 use Rattle.analyzer_verdict.specs.declared.Analysis.{Analysis}
-use Rattle.analyzer_verdict.specs.Judging.{Crowded, tooMany}
-use Rattle.analyzer_verdict.proofs.Settled.{states-settled, Agree, Same}
+use Rattle.calls.specs.Crowding.{Crowded, tooMany}
+use Rattle.search_states.proofs.Listed.{states-settled}
+use Rattle.analyzer_verdict.proofs.Settled.{Agree, Same}
 use Rattle.from_here_verdict.specs.From.{Answered, Refuses, OrElse, Asked, Put, Judges}
 use Rattle.from_here_verdict.proofs.Laws.{leads-once}
 

@@ -18,7 +18,9 @@ use Rattle.replay_runs.specs.Endings.{Leads}
 use Rattle.analyzer_verdict.specs.declared.Answer.{Answer}
 use Rattle.analyzer_verdict.specs.declared.Answer.the-variants.{Reached, Unreached, Refused}
 use Rattle.analyzer_verdict.specs.declared.Analysis.{Analysis}
-use Rattle.analyzer_verdict.specs.Judging.{Crowded, tooMany, Listed, refusal}
+use Rattle.calls.specs.Crowding.{Crowded, tooMany}
+use Rattle.search_states.specs.Listed.{Listed}
+use Rattle.analyzer_verdict.specs.Judging.{refusal}
 
 -- "THE PLACES KEPT SO FAR": from the empty database on each of them is allowed, and they leave the run at t, wherever that is
 abbrev pub Leave : Program → Question → List ℕ → Session → Type 0

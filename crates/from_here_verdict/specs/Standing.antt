@@ -13,7 +13,8 @@ use Rattle.replay_runs.specs.Endings.{Stopped}
 use Rattle.search_levels.specs.Levels.{firstVariable}
 use Rattle.analyzer_verdict.specs.declared.Answer.{Answer}
 use Rattle.analyzer_verdict.specs.declared.Analysis.{Analysis}
-use Rattle.analyzer_verdict.specs.Judging.{Crowded, tooMany, Listed}
+use Rattle.calls.specs.Crowding.{Crowded, tooMany}
+use Rattle.search_states.specs.Listed.{Listed}
 use Rattle.from_here_verdict.specs.From.{Answered, OrElse}
 
 -- some places lead to the state, which has the object and not too many others; and stage 1 has a variable

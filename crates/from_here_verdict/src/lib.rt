@@ -1,6 +1,7 @@
 // What can still become of an object, over an accepted model: the question put anew from where places lead, with that object for the first variable of stage 1.
 use analyzer_verdict::Analysis;
 use analyzer_verdict::Answer;
+use calls::TOO_MANY;
 use facts_heads::ROOM;
 use limits::EARLIER;
 use model::Model;
@@ -19,14 +20,12 @@ ghost use Rattle.witness_from.specs.From.{ShownFrom};
 ghost use Rattle.from_here_verdict.specs.From.{Put, Judges};
 ghost use Rattle.from_here_verdict.specs.Standing.{Ready, there, Concluded, Told};
 
-// The numbers of the refusals: a place is broken or the object was not created; stage 1 has no variable; too many objects exist; too many states are reachable.
+// The numbers of the refusals: a place is broken or the object was not created; stage 1 has no variable; too many objects exist.
 const NOT_THERE: u32 = 16;
 
 const NO_VARIABLE: u32 = 17;
 
 const MANY_OBJECTS: u32 = 18;
-
-const TOO_MANY: u32 = 15;
 
 // Writes the run of a reached question. Returns how many places it has.
 fn show(m: Model, s: Session, object: u32, facts: &[u8], run: &mut [u32], found: Found) -> usize

@@ -5,7 +5,7 @@ use Rattle.semantics.specs.Models.{Program, Question}
 use Rattle.semantics.specs.Questions.{Reached}
 use Rattle.marker_worth.specs.declared.Mark.{Mark}
 use Rattle.marker_worth.specs.declared.Mark.the-variants.{Refused}
-use Rattle.marker_worth.specs.Worth.{Crowded, tooMany}
+use Rattle.calls.specs.Crowding.{Crowded, tooMany}
 
 -- r is the refusal where there are too many states for a verdict; else the first mark where the question is reached, and the second where it is not
 abbrev pub Judged : Program → Question → Mark → Mark → Mark → Type 0

@@ -5,23 +5,14 @@ use mathlib.Core.Bool.{true, false}
 use mathlib.Core.List.{List, [], _∷_}
 use Prim.Native.Nat.{ℕ, _+_, _≤_}
 use lib.ListN.{length, take, drop}
-use Rattle.limits.specs.Limits as limit
 use Rattle.semantics.specs.Models.{Program, Question}
-use Rattle.semantics.specs.Steps.{MoreThan}
 use Rattle.semantics.specs.Questions.{Reached}
 use Rattle.semantics.specs.Runs.{Place, Session, start, Allowed, Kept}
 use Rattle.semantics.specs.Building.{Leads}
+use Rattle.calls.specs.Crowding.{Crowded, tooMany}
 use Rattle.handin.specs.Handins.{Handin, says-no, says-yes, unreadable}
 use Rattle.marker_worth.specs.declared.Mark.{Mark}
 use Rattle.marker_worth.specs.declared.Mark.the-variants.{Refused, Unreadable, Right, Other, Breaks}
-
--- TOO MANY STATES for a verdict, document 02, R-6: "more than 127 non-empty states are reachable"
-abbrev pub Crowded : Program → Type 0
-Crowded P = MoreThan limit.atomic P
-
--- the refusal "exactly if" there are too many, "with line 0"
-abbrev pub tooMany : ℕ
-tooMany = 15
 
 module _ (P : Program) (Q : Question) where
   -- the next place is not allowed, or there is none though a stage is left

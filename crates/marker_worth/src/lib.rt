@@ -1,4 +1,5 @@
 // What a hand-in is worth over an accepted model.
+use calls::TOO_MANY;
 use facts_heads::ROOM;
 use model::Model;
 use replay_session::Answer;
@@ -16,9 +17,6 @@ ghost use Rattle.replay_session.specs.Replays.{Decodes};
 ghost use Rattle.replay_session.specs.Notes.{Notes};
 ghost use Rattle.marker_worth.specs.Worth.{BreaksAt, Worth};
 ghost use Rattle.marker_worth.specs.Judging.{Judged};
-
-// The number of the refusal where more than 127 non-empty states are reachable.
-const TOO_MANY: u32 = 15;
 
 // The text is refused, or too many states are reachable for a verdict; the hand-in is unreadable at a line; it is right; the verdict is the other one; its run breaks at a place, which stands on a line of the hand-in.
 pub enum Mark {

@@ -1,3 +1,4 @@
 pub mod Seats
 pub mod Laws
 pub mod Sorting
+pub mod Listed

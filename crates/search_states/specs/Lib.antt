@@ -1,2 +1,3 @@
 pub mod States
 pub mod Rising
+pub mod Listed

@@ -5,8 +5,6 @@ use Prim.Native.Nat.{ℕ}
 use lib.Dec.{ltb}
 use lib.ListN.{length}
 use Rattle.limits.specs.Limits as limit
-use Rattle.semantics.specs.Models.{Program}
-use Rattle.semantics.specs.Steps.{MoreThan}
 use Rattle.grammar.specs.Texts.{Outcome, accepted, refused}
 use Rattle.calls.specs.Calls.{called}
 use Rattle.striking.specs.Striking.{faulty}
@@ -19,7 +17,3 @@ withList list (accepted D P Q) = cond (faulty P list) (refused 19 0) (accepted D
 -- THE ANSWER TO A CALL: 1; 12, for the work area alone; the lines; 19
 abbrev pub asked : List ℕ → List ℕ → List ℕ → Outcome
 asked text list work = withList list (called text (ltb (length work) limit.work) false)
-
--- "15 with line 0 .. exactly if more than 127 non-empty states are reachable": in the whole text, with nothing struck
-abbrev pub Crowded : Program → Type 0
-Crowded P = MoreThan limit.atomic P

@@ -1,4 +1,5 @@
 // How much of the policy matters: how many choices of lines to strike are reached.
+use calls::TOO_MANY;
 use limits::WORK;
 use model::Model;
 use strike_table::REACHED;
@@ -19,10 +20,8 @@ ghost use Rattle.strike_table.specs.Tables.{Fills};
 ghost use Rattle.tally.specs.Ones.{ones};
 ghost use Rattle.tally.specs.Tallying.{Answers, Tallies};
 
-// The number of the refusal of the list, and of the refusal where more than 127 non-empty states are reachable.
+// The number of the refusal of the list.
 const LIST: u32 = 19;
-
-const TOO_MANY: u32 = 15;
 
 // How many choices are reached and how many unreached, and the reached share in whole hundredths with its remainder; or a refusal with its number and line.
 pub enum Count {

@@ -3,8 +3,9 @@ use borrow.Author.Needs.{needs}
 use denote.Ref.{now}
 use Rattle.model.specs.Records.{programOf, questionOf}
 use Rattle.search.specs.Search.{Searched}
-use Rattle.analyzer_verdict.specs.Judging.{Crowded}
-use Rattle.analyzer_verdict.proofs.Laws.{not-crowded, listed, beside}
+use Rattle.calls.specs.Crowding.{Crowded}
+use Rattle.calls.proofs.Crowding.{not-crowded}
+use Rattle.analyzer_verdict.proofs.Laws.{listed, beside}
 use Rattle.analyzer_verdict.proofs.judge.Statement.{statement}
 use Rattle.analyzer_verdict.proofs.judge.Tie as tie
 
@@ -21,7 +22,7 @@ searched : (c : tie.Else1) → let a = c .before .before .before .args in Search
 searched c = let s = c .before .before .before in s .pre .1 .searched (c .if1 .left)
 
 few : (c : tie.Else1) → Crowded (programOf (c .before .before .before .args .m)) → ⊥
-few c = let s = c .before .before .before in not-crowded (s .args .m) (now (s .args .facts)) (s .args .found) (s .pre .1) (c .if1 .left)
+few c = let s = c .before .before .before in not-crowded (programOf (s .args .m)) (s .args .found .crowded) (s .pre .1 .crowded) (c .if1 .left)
 
 conclude-requires : tie.Need-conclude-requires
 conclude-requires c κs = let s = c .before .before .before .before in (s .pre .0, searched (c .before), s .pre .2, few (c .before))

@@ -3,8 +3,10 @@ use mathlib.Core.Logic.{inl, inr}
 use Prim.Native.Nat.{ℕ}
 use native.Mathlib.Omega.{arith}
 use lib.ListN.{length-replicate}
+use Rattle.model.specs.Records.{programOf}
 use Rattle.facts_heads.specs.Heads.{room}
-use Rattle.from_here_verdict.proofs.Laws.{not-crowded, listed}
+use Rattle.calls.proofs.Crowding.{not-crowded}
+use Rattle.from_here_verdict.proofs.Laws.{listed}
 use borrow.Author.Needs.{needs}
 use Rattle.from_here_verdict.proofs.ask.Statement.{statement}
 use Rattle.from_here_verdict.proofs.ask.Tie as tie
@@ -47,7 +49,7 @@ returns-2 c =
     let a = b .args in
     let f = c .before .before .before .before .before .before .before .before .before .search-from in
     let left = c .before .before .before .before .before .before .before .if1 .left in
-    inr (not-crowded (a .m) _ _ (f .result) (f .ensures .0) left, (c .before .before .before .before .conclude .ensures, listed (a .m) (a .t2) (a .object) (b .pre .0) _ (f .result) (f .ensures .0 .searched left)))
+    inr (not-crowded (programOf (a .m)) (f .result .crowded) (f .ensures .0 .crowded) left, (c .before .before .before .before .conclude .ensures, listed (a .m) (a .t2) (a .object) (b .pre .0) _ (f .result) (f .ensures .0 .searched left)))
 
 pub ask-spec : {M : Type 1} → statement M
 ask-spec =
