@@ -241,7 +241,7 @@ fn before(links: &[u8], layers: &[u8], n: usize, j: usize, t: usize) -> usize
 }
 
 // Does the clause make one state of the other?
-fn turns(c: Clause, from: u32, to: u32) -> bool
+pub fn turns(c: Clause, from: u32, to: u32) -> bool
     ensures { λ r. ⌜ Says r (Turns (c .action) from to) ⌝ }
 {
     let action = c.action;
