@@ -1,12 +1,14 @@
 /* Tumreslo's calls for C: the analysis of an EON text, the replay of a run, the replay one place at a time, the accepted lines, the mark of a hand-in,
- * which lines to strike and how many choices of them are reached, what is declared and stands on a line, for display; and the text of a desk for Asbestos labels.
+ * which lines to strike and how many choices of them are reached, the game of attacker and guardian, what is declared and stands on a line, for display;
+ * and the text of a desk for Asbestos labels.
  *
  * The library is written by `./library` as target/staticlib/libeon.a.
  *
  * A buffer is passed as a pointer and its number of elements. Buffers must not overlap, and a pointer must not be null,
  * not even where the number of elements is 0.
  *
- * The calls eon_analyze, eon_from, eon_replay, eon_why, eon_place, eon_mark, eon_handin, eon_cure, eon_tally and eon_asbestos return kind * 2^32 + value:
+ * The calls eon_analyze, eon_from, eon_replay, eon_why, eon_place, eon_mark, eon_handin, eon_cure, eon_tally, eon_game and eon_asbestos return
+ * kind * 2^32 + value:
  *
  *   kind 0   unreached               value 0
  *   kind 1   reached                 value: the number n of places of the run shown
@@ -25,6 +27,7 @@
  *   kind 12  no choice does          value 0
  *   kind 13  counted                 value 0
  *   kind 14  written                 value: the bytes of the text
+ *   kind 15  told                    value: the number of reachable atomic states
  *
  * Numbers of refusals: 1 no bytes, or over 16,384; 2 a bad byte, or a last line without byte 10; 3 a line that has no shape;
  * 4 one declaration or clause too many; 5 a name declared again; 6 a name undeclared or of the wrong kind; 7 a wrong number of variables;
@@ -32,12 +35,13 @@
  * 10 a line after `ask`, or no `ask`; 11 three or more carried variables; 12 a work area under EON_WORK bytes, or a table lent for writing
  * under EON_RUN places; 14 a run over EON_RUN places, or a state that has kept EON_RUN; 15 more than 127 non-empty atomic states are reachable;
  * 16, 17 and 18 from eon_from, which says when; 19 a list of lines that is empty or has over EON_STRUCK, names a line twice, or names one that is
- * neither `new` nor `next`; 20, from eon_asbestos, no process kinds, over 18, a level outside the five, or an output under EON_TEXT bytes.
- * The first line is 1; the line is 0 for numbers 1, 12 and 14 to 20. 15 comes after all others, from eon_analyze, eon_from, eon_cure and eon_tally, and from
- * eon_mark where the verdict is needed. A replay of such a text works as ever, and the calls for display take it as accepted.
+ * neither `new` nor `next`; 20, from eon_asbestos, no process kinds, over 18, a level outside the five, or an output under EON_TEXT bytes; 21 and 22 from
+ * eon_game, which says when.
+ * The first line is 1; the line is 0 for numbers 1, 12 and 14 to 22. 15 comes after all others, from eon_analyze, eon_from, eon_cure, eon_tally and eon_game,
+ * and from eon_mark where the verdict is needed. A replay of such a text works as ever, and the calls for display take it as accepted.
  *
- * After a refusal below 15, of 19 or 20 the lent buffers are as they were, but for `out`, and so they are after an unreadable hand-in. After 15 to 18 and after every
- * other answer the first EON_WORK bytes of the work area are zero, and the rest is as it was.
+ * After a refusal below 15, or of 19 to 22, the lent buffers are as they were, but for the cells that a call always writes, and so they are after an
+ * unreadable hand-in. After 15 to 18 and after every other answer the first EON_WORK bytes of the work area are zero, and the rest is as it was.
  *
  * A call needs under 640 KB of stack, and no memory but the stack and what is lent.
  *
@@ -77,6 +81,11 @@ extern "C" {
 /* The lines that a list to strike has at most, for which eon_cure has as many cells; and the cells beside the answer of eon_tally. */
 #define EON_STRUCK 10
 #define EON_COUNTS 4
+
+/* The lines that a side of eon_game has at most, the cells of its states and of their moves, and the number that says that a state is the guardian's. */
+#define EON_SIDE 10
+#define EON_STATES 128
+#define EON_GUARDIAN 255
 
 /* Analyzes a text: kind 0, 1 or 2. It is refused 15 exactly if more than 127 non-empty atomic states are reachable, whatever is asked.
  *
@@ -162,6 +171,21 @@ uint64_t eon_cure(const uint8_t *text, size_t bytes, const uint32_t *lines, size
  * out has EON_COUNTS cells, and all of them are written: with how many of the ways the question is reached, with how many it is unreached, the reached
  * share in whole hundredths, and its remainder, which is below 2^count: 100 * out[0] = out[2] * 2^count + out[3]. After a refusal all are 0. */
 uint64_t eon_tally(const uint8_t *text, size_t bytes, const uint32_t *lines, size_t count, uint8_t *work, size_t work_bytes, uint32_t *out);
+
+/* Sets two sides on one object, and tells for each reachable atomic state who can force the outcome from there: kind 2 or 15.
+ *
+ * attacker and guardian have the numbers of up to EON_SIDE `next` lines each; a line may belong to both, and a list may be empty. The sides move in turn,
+ * the attacker first. A move uses one own line that holds for the object, with one further object of every reachable atomic state standing by and never
+ * changed. A side with no such line passes, and a side that has one must move. The attacker wins as soon as the object meets the question, before the
+ * first move included and by either side's move; a play without end is the guardian's.
+ *
+ * states and moves have EON_STATES cells each, and all of them are written: the reachable states as from eon_analyze, value of them, and for each at the
+ * same place the fewest moves, both sides' moves and passes counted, within which the attacker can force it, however the guardian plays; EON_GUARDIAN
+ * where the guardian can hold out for ever. It is always one of the two. There are zeros behind them, and everywhere after a refusal.
+ *
+ * Refused besides, after the lines and before 15, in this order: 21 if a list is over EON_SIDE long or names a line that is no `next` line; 22 if the
+ * question has not one stage with one variable. */
+uint64_t eon_game(const uint8_t *text, size_t bytes, const uint32_t *attacker, size_t attacker_lines, const uint32_t *guardian, size_t guardian_lines, uint8_t *work, size_t work_bytes, uint32_t *states, uint32_t *moves);
 
 /* What a line of an accepted text makes of an object in an atomic state: 2 * 2^32 + the state of the object that a `new` line creates, 3 * 2^32 + the
  * state that a `next` line gives to an object in `state`. 0 where the line is neither, or the text is refused. */

@@ -74,8 +74,8 @@ impl Area {
         self.bytes.as_mut_ptr()
     }
 
-    /// Whether the area is as documents 01 and 02 have it after the answer: untouched after a refusal below 15, else 65,536 zeros and the rest
-    /// untouched.
+    /// Whether the area is as documents 01 and 02 have it after the answer: untouched after a refusal that needs the lines alone, else 65,536 zeros and
+    /// the rest untouched.
     fn is_right(&self, answer: &Answer) -> bool {
         let wiped = if answer.wipes() { WORK.min(self.size) } else { 0 };
         self.bytes[..wiped].iter().all(|b| *b == 0) && (wiped..self.bytes.len()).all(|i| self.bytes[i] == work_pattern(i))
@@ -291,7 +291,7 @@ pub enum Tally {
 const STRUCK: usize = 10;
 const COUNTS: usize = 4;
 
-/// Whether a work area is right after a code of these calls: wiped unless it is a refusal other than 15.
+/// Whether a work area is right after a code of these calls: wiped unless it is a refusal that leaves it.
 fn left_right(area: &Area, code: u64) -> bool {
     let answer = if code >> 32 == 2 { Answer::decode(code) } else { Answer::Unreached };
     area.is_right(&answer)
@@ -346,6 +346,42 @@ pub fn tally(text: &[u8], lines: &[u32], work: usize) -> (Tally, bool) {
         2 if out == [0; COUNTS] => Tally::Refused(value >> 16, value & 65_535),
         13 if value == 0 => Tally::Count { reached: out[0], unreached: out[1], share: out[2], remainder: out[3] },
         _ => Tally::Unknown(code),
+    };
+    (answer, left_right(&area, code))
+}
+
+/// What a game answers: each reachable state with the moves within which the attacker can force it, and none where the guardian can hold out.
+#[derive(Debug, PartialEq)]
+pub enum Game {
+    Told(Vec<(u32, Option<u32>)>),
+    Refused(u32, u32),
+    /// A number that is no answer, or cells that do not fit it.
+    Unknown(u64),
+}
+
+/// What stands for the moves where the guardian can hold out.
+const HELD: u32 = 255;
+
+/// Whether a table of states has nothing behind so many cells, and is untouched behind its last one.
+fn ends(cells: &[u32; LISTED + BEHIND], count: usize) -> bool {
+    count <= LISTED && cells[count..LISTED].iter().all(|n| *n == 0) && cells[LISTED..].iter().all(|n| *n == 0xDEAD_BEEF)
+}
+
+/// Asks who can force the outcome where the attacker and the guardian have these lines, and whether the work area is right.
+pub fn game(text: &[u8], attacker: &[u32], guardian: &[u32], work: usize) -> (Game, bool) {
+    let mut area = Area::new(work);
+    let [mut states, mut moves] = [[0xDEAD_BEEFu32; LISTED + BEHIND]; 2];
+    let (bytes, size) = (text.as_ptr(), text.len());
+    let (first, second) = (attacker.as_ptr(), guardian.as_ptr());
+    let code = unsafe { eon_game(bytes, size, first, attacker.len(), second, guardian.len(), area.pointer(), work, states.as_mut_ptr(), moves.as_mut_ptr()) };
+    let value = code as u32;
+    let count = if code >> 32 == 15 { value as usize } else { 0 };
+    let clean = ends(&states, count) && ends(&moves, count);
+    let told = || (0..count).map(|i| (states[i], (moves[i] != HELD).then_some(moves[i]))).collect();
+    let answer = match code >> 32 {
+        2 if clean => Game::Refused(value >> 16, value & 65_535),
+        15 if clean => Game::Told(told()),
+        _ => Game::Unknown(code),
     };
     (answer, left_right(&area, code))
 }

@@ -144,6 +144,21 @@ impl<'a> Walk<'a> {
         }
         (!body.is_empty() && body.len() <= 8).then(|| format!("({})", body.join(" ")))
     }
+
+    /// A stage that says something of what is true now of one object that is not wiped, and has no other variable.
+    fn stage_of_one(&self, r: &mut Random) -> Option<String> {
+        let objects: Vec<usize> = (0..self.db.len()).filter(|o| self.db[*o] != 0).collect();
+        let named = [("x".to_string(), *objects.get(r.below(objects.len().max(1)))?)];
+        let (mut plain, mut negated) = self.state_literals(&named);
+        let mut others = self.fact_literals(&self.m.facts(&self.db), &named);
+        for literals in [&mut plain, &mut negated, &mut others] {
+            r.shuffle(literals);
+        }
+        plain.truncate(1 + r.below(3));
+        negated.truncate(r.below(4));
+        others.truncate(r.below(3));
+        Some(format!("({})", [plain, negated, others].concat().join(" ")))
+    }
 }
 
 fn has_variable(literal: &str, variable: &str) -> bool {
@@ -223,6 +238,16 @@ fn stages(r: &mut Random, text: &Text, m: &Model) -> Vec<String> {
 pub fn asking(r: &mut Random, text: &str) -> String {
     let Outcome::Accepted(read) = reader::read(text.as_bytes()) else { return text.into() };
     let met = stages(r, &read, &Model::new(&read));
+    asked(r, text, met)
+}
+
+/// An accepted text with a question of one stage and one variable in its place, which a run meets or nearly meets.
+pub fn asking_of_one(r: &mut Random, text: &str) -> String {
+    let Outcome::Accepted(read) = reader::read(text.as_bytes()) else { return text.into() };
+    let m = Model::new(&read);
+    let mut walk = Walk::new(&read, &m);
+    walk.go_on(r, 14);
+    let met = walk.stage_of_one(r).into_iter().collect();
     asked(r, text, met)
 }
 

@@ -91,7 +91,7 @@ fn limit(report: &mut Report) {
 }
 
 /// The literals on x that say of some labels whether the number has their bits.
-fn is(labels: std::ops::Range<usize>, number: u32) -> String {
+pub fn is(labels: std::ops::Range<usize>, number: u32) -> String {
     labels.map(|i| if number >> i & 1 == 1 { format!(" (L{i} x)") } else { format!(" (not (L{i} x))") }).collect()
 }
 

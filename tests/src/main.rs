@@ -1,11 +1,14 @@
 //! Tests of the exported calls against a plain reader and a plain meaning of the bracket text.
 
 mod asbestos;
+mod beside;
 mod buffers;
 mod calls;
 mod cases;
+mod counter;
 mod crowd;
 mod damage;
+mod games;
 mod guess;
 mod guided;
 mod handins;
@@ -20,6 +23,7 @@ mod playing;
 mod random;
 mod reader;
 mod report;
+mod roaming;
 mod salad;
 mod search;
 mod seeded;
@@ -81,6 +85,13 @@ fn covered_enough(report: &mut Report) {
     report.met_often("strike: one line is enough", 100);
     report.met_often("strike: several lines", 30);
     report.met_often("strike: no choice does", 100);
+    for number in [1, 2, 3, 6, 12, 15, 21, 22] {
+        report.met_often(&format!("game: refused {number:2}"), 5);
+    }
+    report.met_often("game: the attacker at once", 4_000);
+    report.met_often("game: the attacker within 1 to 3 moves", 1_500);
+    report.met_often("game: the attacker within more than 3 moves", 500);
+    report.met_often("game: the guardian", 10_000);
     report.met_often("shuffles", 800);
     report.met_often("shuffles of two runs with objects", 500);
     report.met_often("shuffles of two runs that meet stages", 300);
@@ -129,6 +140,7 @@ fn main() {
     shuffled::beyond(&mut report);
     onward::all(&mut report);
     strike::all(&mut report);
+    games::all(&mut report);
     asbestos::all(&mut report);
     seeded::models(&mut report);
     covered_enough(&mut report);

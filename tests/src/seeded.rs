@@ -1,7 +1,9 @@
 //! Seeded random models against a plain search, with their runs, damaged runs and damaged texts.
 
 use crate::calls::{Answer, WORK};
+use crate::counter;
 use crate::damage;
+use crate::games;
 use crate::guess;
 use crate::guided;
 use crate::meaning::{play, Action, Clause, Model};
@@ -10,6 +12,7 @@ use crate::paired;
 use crate::playing::play_on;
 use crate::random::{model, Random, Shape};
 use crate::report::Report;
+use crate::roaming;
 use crate::search::{led_about, non_empty, search, FOLLOWED};
 use crate::shuffled::shuffle_runs;
 use crate::strike;
@@ -28,6 +31,12 @@ const LONG: usize = 40;
 /// How many models of many labels are tried whose number of states is chosen, and how many where it is left to chance.
 const WIDE_MODELS: u64 = 160;
 const LOOSE_MODELS: u64 = 60;
+/// How many of the former in a hundred are asked about one object besides; with more rules than these and a long run the plain meaning is too slow for it.
+const LED_ABOUT: usize = 25;
+const RULES: usize = 2;
+/// How many models are tried in which one object can be led about in many ways, and how many counters.
+const ROAMING_MODELS: u64 = 150;
+const COUNTERS: u64 = 100;
 /// The most tries to lead the carried objects about, by the number of states.
 const TRIES: usize = 6_000;
 /// The most objects that the plain search takes.
@@ -209,6 +218,7 @@ fn texts(report: &mut Report, r: &mut Random, text: &str) {
         subject.replay(report, &[]);
         onward::refused(report, r, &subject);
         strike::put(report, &subject, &[r.below(12) as u32], WORK);
+        games::put(report, &subject, &[5 + i], &[6 + i], WORK);
         subject.place(report, &mut fresh(), 256 * r.below(12) as u32);
     }
 }
@@ -280,6 +290,16 @@ fn seeded(report: &mut Report, r: &mut Random, text: &str) {
     }
 }
 
+/// One object of a seeded model, between two sides.
+fn one_object(report: &mut Report, r: &mut Random, text: &str) {
+    let subject = Subject::new(guided::asking_of_one(r, text).as_bytes());
+    if subject.states().is_some_and(|all| all.len() > LONG) && text.matches("(rule ").count() > RULES {
+        return;
+    }
+    games::lists(report, r, &Subject::new(text.as_bytes()));
+    games::lists(report, r, &subject);
+}
+
 /// A model of many labels, with as many states as it aims at.
 fn wide_model(report: &mut Report, r: &mut Random) {
     let (text, states) = wide::model(r);
@@ -287,6 +307,9 @@ fn wide_model(report: &mut Report, r: &mut Random) {
     let right = subject.states().map_or(states > FOLLOWED, |all| non_empty(all) == states);
     report.check(right, || format!("a model that aims at {states} states:\n{text}"));
     seeded(report, r, &text);
+    if r.chance(LED_ABOUT) {
+        one_object(report, r, &text);
+    }
 }
 
 /// A random model with a question of its own or one that a run meets or nearly meets.
@@ -305,16 +328,19 @@ pub fn models(report: &mut Report) {
         let text = any_model(&mut r, false);
         seeded(report, &mut r, &text);
         texts(report, &mut r, &text);
+        one_object(report, &mut r, &text);
     }
     for seed in 1..=LARGE_MODELS {
         let mut r = Random::new(seed + 1_000);
         let text = any_model(&mut r, true);
         seeded(report, &mut r, &text);
+        one_object(report, &mut r, &text);
     }
     for seed in 1..=PAIRED_MODELS {
         let mut r = Random::new(seed + 4_000_000);
         let text = paired::model(&mut r);
         seeded(report, &mut r, &text);
+        one_object(report, &mut r, &text);
     }
     for seed in 1..=WIDE_MODELS {
         wide_model(report, &mut Random::new(seed + 6_000_000));
@@ -324,5 +350,18 @@ pub fn models(report: &mut Report) {
         let shape = Shape { states: 8 + r.below(17), relations: 4, clauses: 10 + r.below(40), stages: 4 };
         let text = if r.chance(60) { guided::model(&mut r, shape) } else { model(&mut r, shape) };
         seeded(report, &mut r, &text);
+        one_object(report, &mut r, &text);
+    }
+    for seed in 1..=ROAMING_MODELS {
+        let mut r = Random::new(seed + 8_000_000);
+        let subject = Subject::new(roaming::model(&mut r).as_bytes());
+        games::lists(report, &mut r, &subject);
+        games::lists(report, &mut r, &subject);
+    }
+    for seed in 1..=COUNTERS {
+        let mut r = Random::new(seed + 9_000_000);
+        let (text, lines) = counter::any(&mut r);
+        let subject = Subject::new(text.as_bytes());
+        games::counted(report, &mut r, &subject, &lines);
     }
 }

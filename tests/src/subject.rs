@@ -1,5 +1,6 @@
 //! A text under test: each call on it is compared with the plain reader and the plain meaning.
 
+use crate::beside::{self, Stands};
 use crate::calls::{self, Analysis, Answer, Lent, CARRIED_OBJECTS, KEPT, MET, OBJECTS, RUN, WORK};
 use crate::meaning::{broken_at, play, Action, Clause, Model, Place, Session};
 use crate::reader::{self, Outcome};
@@ -14,6 +15,8 @@ pub struct Subject {
     pub read: Result<Model, (u32, u32)>,
     /// What `states` gives, once it was asked for.
     states: OnceCell<Option<BTreeSet<u32>>>,
+    /// What `stands` gives, once it was asked for.
+    stands: OnceCell<Option<Stands>>,
 }
 
 /// The most places that a shown run has: by document 02's count 8,128 steps and 505 for each carried object, and the meetings.
@@ -32,12 +35,18 @@ impl Subject {
             Outcome::Accepted(t) => Ok(Model::new(&t)),
             Outcome::Refused(number, line) => Err((number, line)),
         };
-        Subject { text: text.to_vec(), read, states: OnceCell::new() }
+        Subject { text: text.to_vec(), read, states: OnceCell::new(), stands: OnceCell::new() }
     }
 
     /// The reachable states of an accepted text; none if the text is refused, or if more than 127 of them are not empty.
     pub fn states(&self) -> Option<&BTreeSet<u32>> {
         self.states.get_or_init(|| self.read.as_ref().ok().and_then(reachable)).as_ref()
+    }
+
+    /// What one object can do in each reachable state, where one object of each of these stands by; none where `states` gives none.
+    pub fn stands(&self) -> Option<&Stands> {
+        let all = || self.read.as_ref().ok().zip(self.states()).map(|(m, states)| beside::stands(m, states));
+        self.stands.get_or_init(all).as_ref()
     }
 
     pub fn show(&self) -> String {

@@ -1,0 +1,4 @@
+pub mod States
+pub mod Ordering
+pub mod Laws
+pub mod Settled

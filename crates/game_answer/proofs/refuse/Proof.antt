@@ -1,0 +1,12 @@
+use mathlib.Core.Path.{refl}
+use Rattle.game_answer.proofs.refuse.Statement.{statement}
+use Rattle.game_answer.proofs.refuse.Tie as tie
+
+returns : tie.Need-returns
+returns c = refl
+
+pub refuse-spec : {M : Type 1} → statement M
+refuse-spec =
+    tie.close
+    (tie.spec
+    returns)
