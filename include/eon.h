@@ -1,14 +1,14 @@
 /* Tumreslo's calls for C: the analysis of an EON text, the replay of a run, the replay one place at a time, the accepted lines, the mark of a hand-in,
- * which lines to strike and how many choices of them are reached, the game of attacker and guardian, what is declared and stands on a line, for display;
- * and the text of a desk for Asbestos labels.
+ * which lines to strike and how many choices of them are reached, the game of attacker and guardian, the shortest way between two sets
+ * of labels, what is declared and stands on a line, for display; and the text of a desk for Asbestos labels.
  *
  * The library is written by `./library` as target/staticlib/libeon.a.
  *
  * A buffer is passed as a pointer and its number of elements. Buffers must not overlap, and a pointer must not be null,
  * not even where the number of elements is 0.
  *
- * The calls eon_analyze, eon_from, eon_replay, eon_why, eon_place, eon_mark, eon_handin, eon_cure, eon_tally, eon_game and eon_asbestos return
- * kind * 2^32 + value:
+ * The calls eon_analyze, eon_from, eon_replay, eon_why, eon_place, eon_mark, eon_handin, eon_cure, eon_tally, eon_game, eon_way and eon_asbestos
+ * return kind * 2^32 + value:
  *
  *   kind 0   unreached               value 0
  *   kind 1   reached                 value: the number n of places of the run shown
@@ -28,6 +28,8 @@
  *   kind 13  counted                 value 0
  *   kind 14  written                 value: the bytes of the text
  *   kind 15  told                    value: the number of reachable atomic states
+ *   kind 16  a way                   value: its steps
+ *   kind 17  no way                  value 0
  *
  * Numbers of refusals: 1 no bytes, or over 16,384; 2 a bad byte, or a last line without byte 10; 3 a line that has no shape;
  * 4 one declaration or clause too many; 5 a name declared again; 6 a name undeclared or of the wrong kind; 7 a wrong number of variables;
@@ -36,12 +38,12 @@
  * under EON_RUN places; 14 a run over EON_RUN places, or a state that has kept EON_RUN; 15 more than 127 non-empty atomic states are reachable;
  * 16, 17 and 18 from eon_from, which says when; 19 a list of lines that is empty or has over EON_STRUCK, names a line twice, or names one that is
  * neither `new` nor `next`; 20, from eon_asbestos, no process kinds, over 18, a level outside the five, or an output under EON_TEXT bytes; 21 and 22 from
- * eon_game, which says when.
- * The first line is 1; the line is 0 for numbers 1, 12 and 14 to 22. 15 comes after all others, from eon_analyze, eon_from, eon_cure, eon_tally and eon_game,
- * and from eon_mark where the verdict is needed. A replay of such a text works as ever, and the calls for display take it as accepted.
+ * eon_game, which says when; 23, from eon_way, one of the two states is not reachable.
+ * The first line is 1; the line is 0 for numbers 1, 12 and 14 to 23. 15 comes after all others but 23, from eon_analyze, eon_from, eon_cure, eon_tally,
+ * eon_game and eon_way, and from eon_mark where the verdict is needed. A replay of such a text works as ever, and the calls for display take it as accepted.
  *
  * After a refusal below 15, or of 19 to 22, the lent buffers are as they were, but for the cells that a call always writes, and so they are after an
- * unreadable hand-in. After 15 to 18 and after every other answer the first EON_WORK bytes of the work area are zero, and the rest is as it was.
+ * unreadable hand-in. After 15 to 18, 23 and every other answer the first EON_WORK bytes of the work area are zero, and the rest is as it was.
  *
  * A call needs under 640 KB of stack, and no memory but the stack and what is lent.
  *
@@ -186,6 +188,13 @@ uint64_t eon_tally(const uint8_t *text, size_t bytes, const uint32_t *lines, siz
  * Refused besides, after the lines and before 15, in this order: 21 if a list is over EON_SIDE long or names a line that is no `next` line; 22 if the
  * question has not one stage with one variable. */
 uint64_t eon_game(const uint8_t *text, size_t bytes, const uint32_t *attacker, size_t attacker_lines, const uint32_t *guardian, size_t guardian_lines, uint8_t *work, size_t work_bytes, uint32_t *states, uint32_t *moves);
+
+/* Finds the fewest `next` steps by which one object gets from one atomic state to the other, with one further object of every reachable atomic state standing
+ * by and never changed: kind 2, 16 or 17. From a state to itself it is 0 steps; a way has at most 127. Refused 23, after 15 and with the buffers as after
+ * 15, if either state is not reachable; the empty state, 0, may be either end where it is.
+ *
+ * run is written only for kind 16, and only its first places: the line numbers of one such row of steps, one a place; which one is free. */
+uint64_t eon_way(const uint8_t *text, size_t bytes, uint32_t from, uint32_t to, uint8_t *work, size_t work_bytes, uint32_t *run, size_t places);
 
 /* What a line of an accepted text makes of an object in an atomic state: 2 * 2^32 + the state of the object that a `new` line creates, 3 * 2^32 + the
  * state that a `next` line gives to an object in `state`. 0 where the line is neither, or the text is refused. */

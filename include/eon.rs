@@ -13,7 +13,8 @@ extern "C" {
     fn eon_cure(text: *const u8, bytes: usize, lines: *const u32, count: usize, work: *mut u8, work_bytes: usize, out: *mut u32) -> u64;
     fn eon_tally(text: *const u8, bytes: usize, lines: *const u32, count: usize, work: *mut u8, work_bytes: usize, out: *mut u32) -> u64;
     #[rustfmt::skip]
-    fn eon_game(text: *const u8, bytes: usize, attacker: *const u32, attackers: usize, guardian: *const u32, guardians: usize, work: *mut u8, work_bytes: usize, states: *mut u32, moves: *mut u32) -> u64;
+    fn eon_game(text: *const u8, bytes: usize, attacker: *const u32, attacker_lines: usize, guardian: *const u32, guardian_lines: usize, work: *mut u8, work_bytes: usize, states: *mut u32, moves: *mut u32) -> u64;
+    fn eon_way(text: *const u8, bytes: usize, from: u32, to: u32, work: *mut u8, work_bytes: usize, run: *mut u32, places: usize) -> u64;
     fn eon_line(text: *const u8, bytes: usize, i: usize) -> u64;
     fn eon_effect(text: *const u8, bytes: usize, line: u32, state: u32) -> u64;
     fn eon_relation(text: *const u8, bytes: usize, i: usize) -> u64;

@@ -49,9 +49,9 @@ impl Answer {
         matches!(self, Answer::Refused(..))
     }
 
-    /// Whether the work area is used before the answer is known: after every answer but a refusal, and after 15 to 18.
+    /// Whether the work area is used before the answer is known: after every answer but a refusal, and after 15 to 18 and 23.
     fn wipes(&self) -> bool {
-        !self.is_refusal() || matches!(self, Answer::Refused(15..=18, _))
+        !self.is_refusal() || matches!(self, Answer::Refused(15..=18 | 23, _))
     }
 }
 
@@ -384,4 +384,41 @@ pub fn game(text: &[u8], attacker: &[u32], guardian: &[u32], work: usize) -> (Ga
         _ => Game::Unknown(code),
     };
     (answer, left_right(&area, code))
+}
+
+/// What the question for the shortest way answers: the lines of its steps, or that there is no way.
+#[derive(Debug, PartialEq)]
+pub enum Way {
+    Lines(Vec<u32>),
+    Nowhere,
+    Refused(u32, u32),
+    Unknown(u64),
+}
+
+/// The most steps of a way.
+const STEPS: usize = 127;
+
+/// What the question for the shortest way left.
+pub struct Walked {
+    pub answer: Way,
+    /// Whether the work area is as it should be.
+    pub area: bool,
+    /// Whether the run table is untouched behind the lines written.
+    pub table: bool,
+}
+
+/// Asks for the shortest way from a state to a state with buffers of these sizes.
+pub fn way(text: &[u8], from: u32, to: u32, work: usize, places: usize) -> Walked {
+    let mut area = Area::new(work);
+    let mut table: Vec<u32> = (0..places + BEHIND).map(run_pattern).collect();
+    let code = unsafe { eon_way(text.as_ptr(), text.len(), from, to, area.pointer(), work, table.as_mut_ptr(), places) };
+    let value = code as u32;
+    let steps = if code >> 32 == 16 { (value as usize).min(places) } else { 0 };
+    let answer = match code >> 32 {
+        2 => Way::Refused(value >> 16, value & 65_535),
+        16 if value as usize <= STEPS => Way::Lines(table[..steps].to_vec()),
+        17 if value == 0 => Way::Nowhere,
+        _ => Way::Unknown(code),
+    };
+    Walked { answer, area: left_right(&area, code), table: (steps..table.len()).all(|i| table[i] == run_pattern(i)) }
 }

@@ -31,6 +31,7 @@ mod shuffled;
 mod standing;
 mod strike;
 mod subject;
+mod ways;
 mod wide;
 
 use report::Report;
@@ -92,6 +93,16 @@ fn covered_enough(report: &mut Report) {
     report.met_often("game: the attacker within 1 to 3 moves", 1_500);
     report.met_often("game: the attacker within more than 3 moves", 500);
     report.met_often("game: the guardian", 10_000);
+    for number in [1, 2, 3, 6, 12, 15, 23] {
+        report.met_often(&format!("way: refused {number:2}"), 5);
+    }
+    report.met_often("way: 0 steps", 2_000);
+    report.met_often("way: 1 step", 2_000);
+    report.met_often("way: 2 or 3 steps", 1_000);
+    report.met_often("way: more than 3 steps", 200);
+    report.met_often("way: none", 4_000);
+    report.met_often("way: to the empty state", 500);
+    report.met_often("way: none to the empty state", 300);
     report.met_often("shuffles", 800);
     report.met_often("shuffles of two runs with objects", 500);
     report.met_often("shuffles of two runs that meet stages", 300);
@@ -141,6 +152,7 @@ fn main() {
     onward::all(&mut report);
     strike::all(&mut report);
     games::all(&mut report);
+    ways::all(&mut report);
     asbestos::all(&mut report);
     seeded::models(&mut report);
     covered_enough(&mut report);

@@ -1,6 +1,6 @@
 //! Seeded random models against a plain search, with their runs, damaged runs and damaged texts.
 
-use crate::calls::{Answer, WORK};
+use crate::calls::{Answer, RUN, WORK};
 use crate::counter;
 use crate::damage;
 use crate::games;
@@ -17,6 +17,7 @@ use crate::search::{led_about, non_empty, search, FOLLOWED};
 use crate::shuffled::shuffle_runs;
 use crate::strike;
 use crate::subject::{fresh, Subject};
+use crate::ways;
 use crate::wide;
 use std::collections::BTreeSet;
 
@@ -32,7 +33,7 @@ const LONG: usize = 40;
 const WIDE_MODELS: u64 = 160;
 const LOOSE_MODELS: u64 = 60;
 /// How many of the former in a hundred are asked about one object besides; with more rules than these and a long run the plain meaning is too slow for it.
-const LED_ABOUT: usize = 25;
+const LED_ABOUT: usize = 50;
 const RULES: usize = 2;
 /// How many models are tried in which one object can be led about in many ways, and how many counters.
 const ROAMING_MODELS: u64 = 150;
@@ -219,6 +220,7 @@ fn texts(report: &mut Report, r: &mut Random, text: &str) {
         onward::refused(report, r, &subject);
         strike::put(report, &subject, &[r.below(12) as u32], WORK);
         games::put(report, &subject, &[5 + i], &[6 + i], WORK);
+        ways::put(report, &subject, 1, 2, WORK, RUN);
         subject.place(report, &mut fresh(), 256 * r.below(12) as u32);
     }
 }
@@ -290,7 +292,7 @@ fn seeded(report: &mut Report, r: &mut Random, text: &str) {
     }
 }
 
-/// One object of a seeded model, between two sides.
+/// One object of a seeded model, between two sides and on its shortest ways.
 fn one_object(report: &mut Report, r: &mut Random, text: &str) {
     let subject = Subject::new(guided::asking_of_one(r, text).as_bytes());
     if subject.states().is_some_and(|all| all.len() > LONG) && text.matches("(rule ").count() > RULES {
@@ -298,6 +300,7 @@ fn one_object(report: &mut Report, r: &mut Random, text: &str) {
     }
     games::lists(report, r, &Subject::new(text.as_bytes()));
     games::lists(report, r, &subject);
+    ways::pairs(report, r, &subject);
 }
 
 /// A model of many labels, with as many states as it aims at.
@@ -357,11 +360,13 @@ pub fn models(report: &mut Report) {
         let subject = Subject::new(roaming::model(&mut r).as_bytes());
         games::lists(report, &mut r, &subject);
         games::lists(report, &mut r, &subject);
+        ways::pairs(report, &mut r, &subject);
     }
     for seed in 1..=COUNTERS {
         let mut r = Random::new(seed + 9_000_000);
         let (text, lines) = counter::any(&mut r);
         let subject = Subject::new(text.as_bytes());
         games::counted(report, &mut r, &subject, &lines);
+        ways::pairs(report, &mut r, &subject);
     }
 }
