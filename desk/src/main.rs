@@ -17,7 +17,7 @@ mod words;
 
 use answer::{answer, end, failure, Answered, GOOD};
 use arguments::{Call, Options};
-use commands::{asbestos, explain, mark};
+use commands::{asbestos, explain, from, mark, strike};
 use words::{calling, help};
 
 /// A command: its name, the options that it has, what it does and its help.
@@ -37,9 +37,12 @@ const fn command(name: &'static str, alone: &'static [&'static str], run: fn(&Ca
     }
 }
 
-const COMMANDS: [Command; 3] = [
+const COMMANDS: [Command; 6] = [
     command("mark", &[], mark::run, help::mark),
     command("explain", &[explain::ALL], explain::run, help::explain),
+    command("from", &[explain::ALL], from::run, help::from),
+    command("strike", &[], strike::strike, help::strike),
+    command("share", &[], strike::share, help::share),
     command("asbestos", &[asbestos::TEXT], asbestos::run, help::asbestos),
 ];
 

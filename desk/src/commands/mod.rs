@@ -2,4 +2,6 @@
 
 pub mod asbestos;
 pub mod explain;
+pub mod from;
 pub mod mark;
+pub mod strike;
