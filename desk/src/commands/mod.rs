@@ -3,5 +3,7 @@
 pub mod asbestos;
 pub mod explain;
 pub mod from;
+pub mod game;
 pub mod mark;
 pub mod strike;
+pub mod way;
