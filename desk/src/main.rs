@@ -17,7 +17,7 @@ mod words;
 
 use answer::{answer, end, failure, Answered, GOOD};
 use arguments::{Call, Options};
-use commands::{asbestos, explain, from, game, mark, strike, way};
+use commands::{asbestos, compare, explain, from, game, mark, strike, way};
 use words::{calling, help};
 
 /// A command: its name, the options that it has, what it does and its help.
@@ -37,9 +37,10 @@ const fn command(name: &'static str, alone: &'static [&'static str], run: fn(&Ca
     }
 }
 
-const COMMANDS: [Command; 8] = [
+const COMMANDS: [Command; 9] = [
     command("mark", &[], mark::run, help::mark),
     command("explain", &[explain::ALL], explain::run, help::explain),
+    command("compare", &[], compare::run, help::compare),
     command("from", &[explain::ALL], from::run, help::from),
     command("strike", &[], strike::strike, help::strike),
     command("share", &[], strike::share, help::share),
