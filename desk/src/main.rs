@@ -4,7 +4,10 @@ mod answer;
 mod arguments;
 mod calls;
 mod commands;
+mod csv;
 mod files;
+mod folder;
+mod grade;
 mod kinds;
 mod model;
 mod parts;
@@ -17,7 +20,7 @@ mod words;
 
 use answer::{answer, end, failure, Answered, GOOD};
 use arguments::{Call, Options};
-use commands::{asbestos, compare, explain, from, game, mark, strike, way};
+use commands::{asbestos, class, compare, explain, from, game, mark, strike, way};
 use words::{calling, help};
 
 /// A command: its name, the options that it has, what it does and its help.
@@ -37,9 +40,10 @@ const fn command(name: &'static str, alone: &'static [&'static str], run: fn(&Ca
     }
 }
 
-const COMMANDS: [Command; 9] = [
+const COMMANDS: [Command; 10] = [
     command("mark", &[], mark::run, help::mark),
     command("explain", &[explain::ALL], explain::run, help::explain),
+    command("class", &[class::CSV], class::run, help::class),
     command("compare", &[], compare::run, help::compare),
     command("from", &[explain::ALL], from::run, help::from),
     command("strike", &[], strike::strike, help::strike),

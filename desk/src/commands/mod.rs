@@ -1,6 +1,7 @@
 //! The commands, each with its help.
 
 pub mod asbestos;
+pub mod class;
 pub mod compare;
 pub mod explain;
 pub mod from;

@@ -25,6 +25,7 @@ macro_rules! messages {
 }
 
 pub mod calling;
+pub mod class;
 pub mod help;
 pub mod marks;
 pub mod questions;
