@@ -8,6 +8,7 @@ mod csv;
 mod files;
 mod folder;
 mod grade;
+mod html;
 mod kinds;
 mod model;
 mod parts;
@@ -20,7 +21,7 @@ mod words;
 
 use answer::{answer, end, failure, Answered, GOOD};
 use arguments::{Call, Options};
-use commands::{asbestos, class, compare, explain, from, game, mark, strike, way};
+use commands::{asbestos, class, compare, explain, from, game, mark, page, strike, way};
 use words::{calling, help};
 
 /// A command: its name, the options that it has, what it does and its help.
@@ -40,9 +41,10 @@ const fn command(name: &'static str, alone: &'static [&'static str], run: fn(&Ca
     }
 }
 
-const COMMANDS: [Command; 10] = [
+const COMMANDS: [Command; 11] = [
     command("mark", &[], mark::run, help::mark),
     command("explain", &[explain::ALL], explain::run, help::explain),
+    command("page", &[explain::ALL], page::run, help::page),
     command("class", &[class::CSV], class::run, help::class),
     command("compare", &[], compare::run, help::compare),
     command("from", &[explain::ALL], from::run, help::from),

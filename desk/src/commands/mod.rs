@@ -7,5 +7,6 @@ pub mod explain;
 pub mod from;
 pub mod game;
 pub mod mark;
+pub mod page;
 pub mod strike;
 pub mod way;

@@ -28,6 +28,7 @@ pub mod calling;
 pub mod class;
 pub mod help;
 pub mod marks;
+pub mod page;
 pub mod questions;
 pub mod refusals;
 pub mod runs;
