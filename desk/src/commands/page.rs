@@ -54,8 +54,8 @@ fn handed(text: &Source, handed: &Handed, analysis: &Result<Analysis, Refusal>, 
         }
     };
     let states = analysis.as_ref().map_or(String::new(), |a| states(&model, a));
-    let body = format!("{}{}{broken}{states}", marked(text, handed.handin), steps(&heading, &model, &run, all));
-    (body, status)
+    let result = asked(&model, marked(text, handed.handin));
+    (format!("{result}{}{broken}{states}", steps(&heading, &model, &run, all)), status)
 }
 
 /// The run that the analysis shows, or that there is none; and what a hand-in that says no is worth.
@@ -66,16 +66,23 @@ fn shown(text: &Source, handin: Option<&Source>, analysis: &Result<Analysis, Ref
     };
     let model = Model::new(text.bytes.clone());
     let verdict = if analysis.run.is_some() { marks::reached() } else { marks::unreached() };
-    let result = handin.map_or_else(|| result(&[Part::Says(verdict)]), |h| marked(text, h));
+    let said = handin.map_or_else(|| vec![Part::Says(verdict)], |h| marked(text, h));
     let run = analysis.run.as_ref().map(|run| Run::analyzed(&model, run));
     let steps = run.map_or(String::new(), |run| steps(&marks::shown_run(), &model, &run, all));
-    (format!("{result}{steps}{}", states(&model, analysis)), GOOD)
+    (format!("{}{steps}{}", asked(&model, said), states(&model, analysis)), GOOD)
 }
 
 /// What a hand-in is worth.
-fn marked(text: &Source, handin: &Source) -> String {
+fn marked(text: &Source, handin: &Source) -> Vec<Part> {
     let mark = calls::mark(&text.bytes, &handin.bytes);
-    result(&said(text, handin, &mark).0)
+    said(text, handin, &mark).0
+}
+
+/// The verdict or the mark, and the question.
+fn asked(model: &Model, mut said: Vec<Part>) -> String {
+    let line = model.question();
+    said.extend([Part::Says(page::question()), Part::Line(line, readable(model.line(line)))]);
+    result(&said)
 }
 
 /// The verdict, the mark or a refusal.
@@ -86,8 +93,7 @@ fn result(parts: &[Part]) -> String {
 /// What an object can be.
 fn states(model: &Model, analysis: &Analysis) -> String {
     let items: Vec<String> = analysis.states.iter().map(|&s| model.state(s)).collect();
-    let said = html::parts(&[Part::Says(marks::can_be()), Part::List(items)]);
-    html::section(&page::states(), &said)
+    html::section(&page::states(), &html::list(&items))
 }
 
 /// The lines of the model.
@@ -99,36 +105,45 @@ fn lines(text: &Source) -> String {
 
 /// The steps of a run as a table.
 fn steps(heading: &str, model: &Model, run: &Run, all: bool) -> String {
-    let rows: String = run.rows(all).iter().map(|r| row(model, r)).collect();
+    let rows: String = run.rows(all).iter().map(|r| row(model, &run.heading, r)).collect();
     let said = html::parts(&[Part::Says(heading.to_string())]);
     let table = html::table("run", &page::run_caption(), &heads(&run.heading), &rows);
     html::section(&page::run(), &format!("{said}{table}"))
 }
 
 /// A row of a run; a step links to its line, and a meeting to the question.
-fn row(model: &Model, row: &Row) -> String {
+fn row(model: &Model, heading: &str, row: &Row) -> String {
     match row {
-        Row::Step(place, done) => format!("<tr>{}{}</tr>\n", head(place), step(done)),
+        Row::Step(place, done) => format!("<tr>{}{}</tr>\n", head(heading, place), step(done)),
         Row::Meeting(place, words) => {
             let question = html::link(model.question(), &runs::line(model.question()));
-            format!("<tr>{}<td>{question}</td><td colspan=\"5\">{}</td></tr>\n", head(place), escaped(words))
+            format!("<tr>{}<td>{question}</td><td colspan=\"5\">{}</td></tr>\n", head(heading, place), escaped(words))
         }
-        Row::Folded(place, words) => format!("<tr>{}<td colspan=\"6\">{}</td></tr>\n", head(place), escaped(words)),
+        Row::Folded(place, words) => format!("<tr>{}<td colspan=\"6\">{}</td></tr>\n", head(heading, place), escaped(words)),
     }
 }
 
-/// The cell that names a row.
-fn head(place: &str) -> String {
-    format!("<th scope=\"row\">{}</th>", escaped(place))
+/// The cell that names a row; on a narrow screen the column's head stands in it.
+fn head(heading: &str, place: &str) -> String {
+    format!("<th scope=\"row\" data-head=\"{}\">{}</th>", escaped(heading), escaped(place))
 }
 
-/// The cells of a step.
+/// The cells of a step, each under its head.
 fn step(done: &Done) -> String {
-    let line = html::link(done.line, &runs::line(done.line));
-    let sets = labels(&done.sets, "set", SETS, &page::set());
-    let clears = labels(&done.clears, "cleared", CLEARS, &page::cleared());
-    let [who, then, stood] = [&done.who, &done.then, &done.stood].map(|text| escaped(text));
-    format!("<td>{line}</td><td>{who}</td><td>{sets}</td><td>{clears}</td><td>{then}</td><td>{stood}</td>")
+    let cells = [
+        (runs::head_model(), html::link(done.line, &runs::line(done.line))),
+        (runs::head_who(), escaped(&done.who)),
+        (runs::head_sets(), labels(&done.sets, "set", SETS, &page::set())),
+        (runs::head_clears(), labels(&done.clears, "cleared", CLEARS, &page::cleared())),
+        (runs::head_then(), escaped(&done.then)),
+        (runs::head_stood(), escaped(&done.stood)),
+    ];
+    cells.iter().map(|(head, inner)| cell(head, inner)).collect()
+}
+
+/// A cell; on a narrow screen its head stands in it.
+fn cell(head: &str, inner: &str) -> String {
+    format!("<td data-head=\"{}\">{inner}</td>", escaped(head))
 }
 
 /// Labels that are set or cleared, each with its sign and its word.
