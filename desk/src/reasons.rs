@@ -127,8 +127,9 @@ pub fn why(model: &Model, number: u32, reason: Reason, states: &[u32], met: &[&M
 /// Why a place is not allowed, in one short sentence.
 pub fn brief(model: &Model, number: u32, reason: Reason, states: &[u32], met: &[&Meeting]) -> String {
     let place = story::place(number);
-    match reason {
-        Reason::Literal(k) => runs::literal_fails(&literal(model, &place, k)),
+    match (reason, &place) {
+        (Reason::Literal(k), Place::Meeting { .. }) => runs::literal_of_stage_fails(&literal(model, &place, k)),
+        (Reason::Literal(k), Place::Step { .. }) => runs::literal_of_step_fails(&literal(model, &place, k)),
         _ => because(model, &place, reason, states, met),
     }
 }

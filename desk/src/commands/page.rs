@@ -117,7 +117,11 @@ fn row(model: &Model, heading: &str, row: &Row) -> String {
         Row::Step(place, done) => format!("<tr>{}{}</tr>\n", head(heading, place), step(done)),
         Row::Meeting(place, words) => {
             let question = html::link(model.question(), &runs::line(model.question()));
-            format!("<tr>{}<td>{question}</td><td colspan=\"5\">{}</td></tr>\n", head(heading, place), escaped(words))
+            format!(
+                "<tr>{}<td>{question}</td><td colspan=\"5\">{}</td></tr>\n",
+                head(heading, place),
+                escaped(words)
+            )
         }
         Row::Folded(place, words) => format!("<tr>{}<td colspan=\"6\">{}</td></tr>\n", head(heading, place), escaped(words)),
     }

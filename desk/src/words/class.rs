@@ -52,8 +52,8 @@ messages! {
 
 messages! {
     counts(all: usize, right: usize, wrong: usize, refused: usize, unreadable: usize, incomplete: usize, no_file: usize) {
-        en: "{all} in all: {right} right, {wrong} wrong, {refused} refused, {unreadable} unreadable, {incomplete} incomplete, {no_file} no file.",
-        de: "{all} insgesamt: {right} richtig, {wrong} falsch, {refused} abgelehnt, {unreadable} unlesbar, {incomplete} unvollständig, {no_file} keine Datei.",
+        en: "{all} in all: {right} right, {wrong} wrong, {refused} refused, {unreadable} unreadable, {incomplete} incomplete, {no_file} without a readable file.",
+        de: "{all} insgesamt: {right} richtig, {wrong} falsch, {refused} abgelehnt, {unreadable} unlesbar, {incomplete} unvollständig, {no_file} ohne lesbare Datei.",
     }
     others(count: usize) {
         en: "Other files, which end neither with .answer nor with .eon and are left alone: {count}.",

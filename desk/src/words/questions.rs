@@ -66,8 +66,12 @@ messages! {
 
 messages! {
     game_rules(question: &str) {
-        en: "Attacker and guardian relabel one object in turn, the attacker first. The attacker wins as soon as the object meets {question}; the guardian wins if it never does, however long they play. Whoever has a line that holds must move, and whoever has none passes. One further object of every label set stands by.",
-        de: "Angreifer und Wächter ändern abwechselnd die Labels eines Objekts, der Angreifer zuerst. Der Angreifer gewinnt, sobald das Objekt {question} erfüllt; der Wächter gewinnt, wenn es das nie tut, wie lange auch gespielt wird. Wer eine Zeile hat, die gilt, muss ziehen, und wer keine hat, setzt aus. Je ein weiteres Objekt jeder Labelmenge steht bereit.",
+        en: "Attacker and guardian relabel one object in turn, the attacker first.
+The attacker wins as soon as the object meets {question}; the guardian wins if it never does, however long they play.
+Whoever has a line that holds must move, and whoever has none passes. One further object of every label set stands by.",
+        de: "Angreifer und Wächter ändern abwechselnd die Labels eines Objekts, der Angreifer zuerst.
+Der Angreifer gewinnt, sobald das Objekt {question} erfüllt; der Wächter gewinnt, wenn es das nie tut, wie lange auch gespielt wird.
+Wer eine Zeile hat, die gilt, muss ziehen, und wer keine hat, setzt aus. Je ein weiteres Objekt jeder Labelmenge steht bereit.",
     }
     attacker_lines() { en: "The attacker's lines:", de: "Die Zeilen des Angreifers:" }
     guardian_lines() { en: "The guardian's lines:", de: "Die Zeilen des Wächters:" }

@@ -160,7 +160,11 @@ messages! {
         de: "Ihre Literale müssen für irgendwelche Objekte gelten, und mit Objekt {object} für {name} machen keine {literal} zusammen mit allen Literalen ohne `not` und denen mit `not` davor wahr.",
     }
     /// The same in short.
-    literal_fails(literal: &str) {
+    literal_of_stage_fails(literal: &str) {
+        en: "{literal} does not hold of these objects",
+        de: "{literal} gilt nicht für diese Objekte",
+    }
+    literal_of_step_fails(literal: &str) {
         en: "no objects make {literal} true there",
         de: "keine Objekte machen dort {literal} wahr",
     }
