@@ -130,6 +130,6 @@ pub fn brief(model: &Model, number: u32, reason: Reason, states: &[u32], met: &[
     match (reason, &place) {
         (Reason::Literal(k), Place::Meeting { .. }) => runs::literal_of_stage_fails(&literal(model, &place, k)),
         (Reason::Literal(k), Place::Step { .. }) => runs::literal_of_step_fails(&literal(model, &place, k)),
-        _ => because(model, &place, reason, states, met),
+        _ => because(model, &place, reason, states, met).trim_end_matches('.').to_string(),
     }
 }
