@@ -55,7 +55,8 @@ pub fn run(call: &Call) -> Answered {
         eprint!("{counts}");
         return Ok(answer(spreadsheet(&rows), status(&rows)));
     }
-    Ok(answer(format!("{}\n{counts}", shown(&rows, given.is_some())), status(&rows)))
+    let table = shown(&rows, given.is_some());
+    Ok(answer(format!("{table}\n{counts}{}\n", class::more()), status(&rows)))
 }
 
 /// The rows of all entries, found by as many threads as there are cores; what no thread found, since none could be started, is found at the end.

@@ -59,6 +59,10 @@ messages! {
         en: "Other files, which end neither with .answer nor with .eon and are left alone: {count}.",
         de: "Andere Dateien, die weder auf .answer noch auf .eon enden und nicht beachtet werden: {count}.",
     }
+    more() {
+        en: "eon mark and eon page say more about one hand-in.",
+        de: "eon mark und eon page sagen mehr über eine Abgabe.",
+    }
     no_handins(name: &str) {
         en: "{name} has no hand-ins; a hand-in is NAME.answer, with its model NAME.eon beside it",
         de: "{name} enthält keine Abgaben; eine Abgabe ist NAME.answer, mit ihrem Modell NAME.eon daneben",
