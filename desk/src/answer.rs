@@ -31,9 +31,14 @@ pub fn failure(message: String) -> Answer {
     }
 }
 
-/// Says on standard error that a file or the program failed.
+/// Says on standard error; where that cannot be written, nobody is there to hear it.
+pub fn note(text: &str) {
+    std::io::stderr().write_all(text.as_bytes()).unwrap_or(());
+}
+
+/// Says on standard error that a file or the program failed, and ends.
 fn complain(failure: &Answer) -> ! {
-    eprint!("{}", failure.text);
+    note(&failure.text);
     exit(failure.status)
 }
 

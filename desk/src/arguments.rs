@@ -1,7 +1,7 @@
 //! The words of a call: names and options.
 
 use crate::answer::{failure, Answer};
-use crate::words::{self, calling};
+use crate::words::{self, calling, Lang};
 
 /// What a call gives to a command.
 pub struct Call {
@@ -19,9 +19,10 @@ pub struct Options {
 
 const LANG: &str = "--lang";
 
-/// Takes the language out of the words, wherever it stands, and chooses it.
+/// Takes the language out of the words, wherever it stands, and chooses it; the last one where it stands twice.
 pub fn choose_language(command: &str, words: Vec<String>) -> Result<Vec<String>, Answer> {
     let mut rest = Vec::new();
+    let mut lang = Lang::English;
     let mut words = words.into_iter();
     while let Some(word) = words.next() {
         if word != LANG {
@@ -29,8 +30,9 @@ pub fn choose_language(command: &str, words: Vec<String>) -> Result<Vec<String>,
             continue;
         }
         let name = words.next().ok_or_else(|| failure(calling::no_word(LANG, command)))?;
-        words::speak(words::language(&name).ok_or_else(|| failure(calling::no_language(&name)))?);
+        lang = words::language(&name).ok_or_else(|| failure(calling::no_language(&name)))?;
     }
+    words::speak(lang);
     Ok(rest)
 }
 

@@ -58,11 +58,16 @@ pub fn unreadable(handin: &Source, line: usize) -> Vec<Part> {
     if line == 0 {
         return vec![Part::Says(refusals::too_long(&handin.name))];
     }
-    vec![
+    let text = line_of(&handin.bytes, line);
+    let mut parts = vec![
         Part::Says(refusals::unreadable(line, &handin.name)),
-        Part::Quote(or(readable(line_of(&handin.bytes, line)), refusals::no_line_of_file())),
+        Part::Quote(or(readable(text), refusals::no_line_of_file())),
         Part::Says(if line == 1 { refusals::first_line() } else { refusals::further_lines() }),
-    ]
+    ];
+    if text.ends_with(b"\r") {
+        parts.push(Part::Says(refusals::carriage_return()));
+    }
+    parts
 }
 
 /// The objects at a moment, one a line.

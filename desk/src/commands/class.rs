@@ -1,6 +1,6 @@
 //! Every hand-in of a folder.
 
-use crate::answer::{answer, failure, Answered, BAD, GOOD, REFUSED};
+use crate::answer::{answer, failure, note, Answered, BAD, GOOD, REFUSED};
 use crate::arguments::Call;
 use crate::calls;
 use crate::csv;
@@ -52,7 +52,7 @@ pub fn run(call: &Call) -> Answered {
     let rows = rows(&found.entries, given.as_ref());
     let counts = counts(&rows, found.others);
     if call.has(CSV) {
-        eprint!("{counts}");
+        note(&counts);
         return Ok(answer(spreadsheet(&rows), status(&rows)));
     }
     let table = shown(&rows, given.is_some());
@@ -95,12 +95,12 @@ fn received(all: usize, receiver: &Receiver<(usize, Row)>) -> Vec<Option<Row>> {
     for (done, (i, row)) in receiver.iter().enumerate() {
         rows[i] = Some(row);
         if seen && said.elapsed() >= OFTEN {
-            eprint!("\r{}", class::progress(done + 1, all));
+            note(&format!("\r{}", class::progress(done + 1, all)));
             said = Instant::now();
         }
     }
     if seen {
-        eprint!("\r\x1b[K");
+        note("\r\x1b[K");
     }
     rows
 }

@@ -27,8 +27,8 @@ folgen die Stellen eines Laufs, eine je Zeile, wie eine Auflistung sie schreibt:
 Ein Modell hat höchstens 24 Labels. Wo mehr als 127 nicht leere Labelmengen erreichbar sind, gibt es kein
 Urteil: Ein Lauf, der hält, ist trotzdem richtig, und jede andere Abgabe wird abgelehnt (15).
 
-Rückgabewert: 0 richtig, 1 falsch, 2 das Modell ist abgelehnt oder die Abgabe unlesbar, 3 eine Datei oder das
-Programm ist gescheitert.",
+Rückgabewert: 0 richtig, 1 falsch, 2 das Modell ist abgelehnt oder die Abgabe unlesbar, 3 eine Datei ist
+nicht lesbar oder das Programm gescheitert.",
     }
     explain() {
         en: "usage: eon explain [--all] MODEL [HANDIN]
@@ -37,7 +37,8 @@ Shows a run step by step: what each step sets (+) and clears (\u{2212}), what th
 stood by, and which stage is met by whom. The run is that of the hand-in, or else the one that the
 analysis shows. Steps of objects that only stand by are folded; --all unfolds them.
 
-Exit status: 0 shown, 1 the hand-in's run breaks, 2 the model is refused or the hand-in unreadable, 3 a file or the program failed.",
+Exit status: 0 shown, 1 the hand-in's run breaks, 2 the model is refused or the hand-in unreadable, 3 a file
+or the program failed.",
         de: "Aufruf: eon explain [--all] MODELL [ABGABE]
 
 Zeigt einen Lauf Schritt für Schritt: was jeder Schritt setzt (+) und löscht (\u{2212}), was das Objekt dann
@@ -45,7 +46,7 @@ ist, wer bereitstand, und welche Stufe durch wen erfüllt ist. Es ist der Lauf d
 Analyse zeigt. Schritte von Objekten, die nur bereitstehen, sind zusammengefasst; --all zeigt jeden.
 
 Rückgabewert: 0 gezeigt, 1 der Lauf der Abgabe bricht, 2 das Modell ist abgelehnt oder die Abgabe unlesbar,
-3 eine Datei oder das Programm ist gescheitert.",
+3 eine Datei ist nicht lesbar oder das Programm gescheitert.",
     }
     page() {
         en: "usage: eon page [--all] MODEL [HANDIN]
@@ -87,8 +88,8 @@ dann ist, und ein Lauf von dort an, in dem Schritte von Objekten, die nur bereit
 
 Die Zeile mit yes ist keine Stelle: Beginnt der Lauf in Zeile 2, so reichen 3 Stellen bis Zeile 4 der Abgabe.
 
-Rückgabewert: 0 es kann, 1 es kann nicht, 2 abgelehnt oder unlesbar, 3 eine Datei oder das Programm ist
-gescheitert.",
+Rückgabewert: 0 es kann, 1 es kann nicht, 2 abgelehnt oder unlesbar, 3 eine Datei ist nicht lesbar oder das
+Programm gescheitert.",
     }
     strike() {
         en: "usage: eon strike MODEL LINE..
@@ -104,8 +105,8 @@ Findet die wenigsten der genannten Zeilen, ohne die die Frage unerreicht ist. Di
 einer bis zehn `new`- und `next`-Zeilen, auf die sich verzichten ließe, mit Leerzeichen oder Kommas dazwischen.
 Durch das Streichen ändert sich keine Zeilennummer.
 
-Rückgabewert: 0 Zeilen zu streichen, oder keine nötig; 1 keine Auswahl genügt; 2 abgelehnt, 3 eine Datei oder
-das Programm ist gescheitert.",
+Rückgabewert: 0 Zeilen zu streichen, oder keine nötig; 1 keine Auswahl genügt; 2 abgelehnt, 3 eine Datei ist
+nicht lesbar oder das Programm gescheitert.",
     }
     share() {
         en: "usage: eon share MODEL LINE..
@@ -120,16 +121,16 @@ Zählt die Arten, einige der genannten Zeilen zu behalten und die übrigen zu st
 erreicht ist, in wie vielen unerreicht, und den erreichten Anteil in Hundertsteln. Die Liste ist wie bei eon
 strike.
 
-Rückgabewert: 0 gezählt, 2 abgelehnt, 3 eine Datei oder das Programm ist gescheitert.",
+Rückgabewert: 0 gezählt, 2 abgelehnt, 3 eine Datei ist nicht lesbar oder das Programm gescheitert.",
     }
     game() {
         en: "usage: eon game MODEL [--attacker LINE,..] [--guardian LINE,..]
 
 Sets two sides on one object. Each has up to ten `next` lines, by their numbers with commas between them; a
-line may belong to both, and a side that is left out has none. They move in turn, the attacker first, each by a line of
-its own that holds for the object; a side with no such line passes, and a side that has one must move. One
-further object of every reachable label set stands by. The attacker wins as soon as the object meets the
-question, which has one stage with one variable; the guardian wins if that never happens.
+line may belong to both, and a side that is left out has none. They move in turn, the attacker first, each
+by a line of its own that holds for the object; a side with no such line passes, and a side that has one
+must move. One further object of every reachable label set stands by. The attacker wins as soon as the
+object meets the question, which has one stage with one variable; the guardian wins if that never happens.
 
 Tells for each label set that an object can have who can force his outcome, and for the attacker the fewest
 moves within which he can force it, both sides' moves and passes counted.
@@ -137,17 +138,17 @@ moves within which he can force it, both sides' moves and passes counted.
 Exit status: 0 told, 2 refused, 3 a file or the program failed.",
         de: "Aufruf: eon game MODELL [--attacker ZEILE,..] [--guardian ZEILE,..]
 
-Setzt zwei Seiten auf ein Objekt an: den Angreifer (attacker) und den Wächter (guardian). Jede hat bis zu zehn
-`next`-Zeilen, nach Nummern mit Kommas dazwischen; eine Zeile darf beiden gehören, und eine weggelassene Seite hat keine. Sie
-ziehen abwechselnd, der Angreifer zuerst, jede mit einer eigenen Zeile, die für das Objekt gilt; eine Seite ohne
-solche Zeile setzt aus, und eine mit einer solchen muss ziehen. Je ein weiteres Objekt jeder erreichbaren
-Labelmenge steht bereit. Der Angreifer gewinnt, sobald das Objekt die Frage erfüllt, die eine Stufe mit einer
-Variablen hat; der Wächter gewinnt, wenn das nie geschieht.
+Setzt zwei Seiten auf ein Objekt an: den Angreifer (attacker) und den Wächter (guardian). Jede hat bis zu
+zehn `next`-Zeilen, nach Nummern mit Kommas dazwischen; eine Zeile darf beiden gehören, und eine
+weggelassene Seite hat keine. Sie ziehen abwechselnd, der Angreifer zuerst, jede mit einer eigenen Zeile,
+die für das Objekt gilt; eine Seite ohne solche Zeile setzt aus, und eine mit einer solchen muss ziehen. Je
+ein weiteres Objekt jeder erreichbaren Labelmenge steht bereit. Der Angreifer gewinnt, sobald das Objekt die
+Frage erfüllt, die eine Stufe mit einer Variablen hat; der Wächter gewinnt, wenn das nie geschieht.
 
 Sagt für jede Labelmenge, die ein Objekt haben kann, wer seinen Ausgang erzwingen kann, und für den Angreifer
 die wenigsten Züge, binnen derer er es kann, die Züge und Aussetzer beider Seiten gezählt.
 
-Rückgabewert: 0 gesagt, 2 abgelehnt, 3 eine Datei oder das Programm ist gescheitert.",
+Rückgabewert: 0 gesagt, 2 abgelehnt, 3 eine Datei ist nicht lesbar oder das Programm gescheitert.",
     }
     way() {
         en: "usage: eon way MODEL FROM TO
@@ -159,12 +160,12 @@ Pay+Open, 'Open Pay'. The empty one is '()'.
 Exit status: 0 a way, 1 there is none, 2 refused or unreadable, 3 a file or the program failed.",
         de: "Aufruf: eon way MODELL VON NACH
 
-Zeigt die wenigsten Schritte, durch die ein Objekt von einer Labelmenge zu einer anderen kommt, wobei die Objekte
-bereitstehen, die die Zeilen verlangen. Eine Labelmenge ist ein Wort mit Leerzeichen, Kommas oder + zwischen den
-Namen, in beliebiger Reihenfolge: Pay+Open, 'Open Pay'. Die leere ist '()'.
+Zeigt die wenigsten Schritte, durch die ein Objekt von einer Labelmenge zu einer anderen kommt, wobei die
+Objekte bereitstehen, die die Zeilen verlangen. Eine Labelmenge ist ein Wort mit Leerzeichen, Kommas oder +
+zwischen den Namen, in beliebiger Reihenfolge: Pay+Open, 'Open Pay'. Die leere ist '()'.
 
-Rückgabewert: 0 ein Weg, 1 es gibt keinen, 2 abgelehnt oder unlesbar, 3 eine Datei oder das Programm ist
-gescheitert.",
+Rückgabewert: 0 ein Weg, 1 es gibt keinen, 2 abgelehnt oder unlesbar, 3 eine Datei ist nicht lesbar oder das
+Programm gescheitert.",
     }
     class() {
         en: "usage: eon class FOLDER [MODEL] [--csv]
@@ -177,11 +178,11 @@ The marks are right and wrong; refused, where the model is not accepted or there
 unreadable, where the hand-in is no verdict and no run; incomplete, where NAME.answer or the only model is
 missing; and no file, where a file cannot be read. At the end they are counted.
 
---csv writes a table for spreadsheets, in UTF-8 with commas and every field in quotes, and the counts on standard
-error. A field that would be a formula there begins with '.
+--csv writes a table for spreadsheets, in UTF-8 with commas and every field in quotes, and the counts on
+standard error. A field that would be a formula there begins with '.
 
-Exit status: 0 all are right, 1 all could be marked and some are wrong, 2 some could not be marked, 3 the folder, MODEL or the
-program failed.",
+Exit status: 0 all are right, 1 all could be marked and some are wrong, 2 some could not be marked, 3 the
+folder, MODEL or the program failed.",
         de: "Aufruf: eon class ORDNER [MODELL] [--csv]
 
 Bewertet jede Abgabe eines Ordners: NAME.answer, nach dem eigenen Modell NAME.eon daneben. Mit MODELL wird jede
@@ -189,15 +190,15 @@ auch nach diesem Modell bewertet, und eine Abgabe braucht kein eigenes; richtig 
 beiden richtig ist. Andere Dateien, und was in Ordnern des Ordners liegt, werden nicht beachtet. Eine schlechte
 Datei hält die anderen nie auf.
 
-Die Bewertungen sind richtig und falsch; abgelehnt, wo das Modell nicht angenommen wird oder es kein Urteil gibt
-(15); unlesbar, wo die Abgabe kein Urteil und kein Lauf ist; unvollständig, wo NAME.answer oder das einzige Modell
-fehlt; und keine Datei, wo sich eine Datei nicht lesen lässt. Am Ende werden sie gezählt.
+Die Bewertungen sind richtig und falsch; abgelehnt, wo das Modell nicht angenommen wird oder es kein Urteil
+gibt (15); unlesbar, wo die Abgabe kein Urteil und kein Lauf ist; unvollständig, wo NAME.answer oder das
+einzige Modell fehlt; und keine Datei, wo sich eine Datei nicht lesen lässt. Am Ende werden sie gezählt.
 
 --csv schreibt eine Tabelle für Tabellenprogramme, in UTF-8 mit Kommas und jedem Feld in Anführungszeichen, und
 die Zahlen auf die Standardfehlerausgabe. Ein Feld, das dort eine Formel wäre, beginnt mit '.
 
-Rückgabewert: 0 alle sind richtig, 1 alle ließen sich bewerten und einige sind falsch, 2 einige ließen sich nicht
-bewerten, 3 der Ordner, MODELL oder das Programm ist gescheitert.",
+Rückgabewert: 0 alle sind richtig, 1 alle ließen sich bewerten und einige sind falsch, 2 einige ließen sich
+nicht bewerten, 3 der Ordner oder MODELL ist nicht lesbar oder das Programm gescheitert.",
     }
     compare() {
         en: "usage: eon compare MODEL MODEL
@@ -210,13 +211,13 @@ Exit status: 0 verdict and label sets are the same, 1 they differ, 2 a model is 
 program failed.",
         de: "Aufruf: eon compare MODELL MODELL
 
-Zeigt die Urteile zweier Modelle nebeneinander, und was sich unterscheidet: die Labelmengen, die ein Objekt in
-einem haben kann und im anderen nicht, die Labels, die nur eines deklariert, und die Zeilen, die nur eines hat,
-mit dem, was sie setzen und löschen. Labels werden nach ihren Namen verglichen, gleich in welcher Reihenfolge sie
-deklariert sind.
+Zeigt die Urteile zweier Modelle nebeneinander, und was sich unterscheidet: die Labelmengen, die ein Objekt
+in einem haben kann und im anderen nicht, die Labels, die nur eines deklariert, und die Zeilen, die nur
+eines hat, mit dem, was sie setzen und löschen. Labels werden nach ihren Namen verglichen, gleich in welcher
+Reihenfolge sie deklariert sind.
 
-Rückgabewert: 0 Urteil und Labelmengen sind gleich, 1 sie unterscheiden sich, 2 ein Modell ist abgelehnt, 3 eine
-Datei oder das Programm ist gescheitert.",
+Rückgabewert: 0 Urteil und Labelmengen sind gleich, 1 sie unterscheiden sich, 2 ein Modell ist abgelehnt, 3
+eine Datei ist nicht lesbar oder das Programm gescheitert.",
     }
     asbestos() {
         en: "usage: eon asbestos [--text] FILE
@@ -242,10 +243,11 @@ Schreibt den Text für Prozesse mit Asbestos-Labels eines Feldes und sagt sein U
   kind SENDEN EMPFANGEN          Prozesse dieser Ebenen entstehen jederzeit und in beliebiger Zahl
   kind SENDEN EMPFANGEN marked   ebenso, und sie tragen die markierte Nachricht; 1 bis 18 solche Zeilen
 
-Eine Ebene ist star, 0, 1, 2 oder 3. Eine Zeile, die leer ist oder mit # beginnt, sagt nichts. Im Text sind S0
-bis S4 diese Sendeebenen, R0 bis R4 sagen, dass die Empfangsebene diese oder eine höhere ist, und M ist die Marke.
---text schreibt den Text allein, für `eon` und `eon explain`.
+Eine Ebene ist star, 0, 1, 2 oder 3. Eine Zeile, die leer ist oder mit # beginnt, sagt nichts. Im Text sind
+S0 bis S4 diese Sendeebenen, R0 bis R4 sagen, dass die Empfangsebene diese oder eine höhere ist, und M ist
+die Marke. --text schreibt den Text allein, für `eon` und `eon explain`.
 
-Rückgabewert: 0 geschrieben, 2 abgelehnt oder unlesbar, 3 eine Datei oder das Programm ist gescheitert.",
+Rückgabewert: 0 geschrieben, 2 abgelehnt oder unlesbar, 3 eine Datei ist nicht lesbar oder das Programm
+gescheitert.",
     }
 }

@@ -37,6 +37,10 @@ messages! {
         en: "After a yes come the places of a run, one a line: (step line object) and (meet stage object ..), with one space between items, numbers without leading zeros, objects up to 254, at most 9,344 places. After a no comes nothing.",
         de: "Auf ein yes folgen die Stellen eines Laufs, eine je Zeile: (step Zeile Objekt) und (meet Stufe Objekt ..), mit einem Leerzeichen zwischen den Angaben, Zahlen ohne führende Nullen, Objekten bis 254, höchstens 9.344 Stellen. Auf ein no folgt nichts.",
     }
+    carriage_return() {
+        en: "The line ends with a carriage return (\\x0d): save the file with newlines alone, as on Unix.",
+        de: "Die Zeile endet mit einem Wagenrücklauf (\\x0d): Die Datei mit bloßen Zeilenumbrüchen speichern, wie unter Unix.",
+    }
     says_no(name: &str) {
         en: "unreadable: {name} says no, so it has no run.",
         de: "unlesbar: {name} sagt no und hat darum keinen Lauf.",

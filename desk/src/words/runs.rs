@@ -145,19 +145,19 @@ messages! {
     /// Literals are tried from left to right, those with `not` last.
     literal_of_new(literal: &str) {
         en: "Its literals have to hold of some objects, and none make {literal} true together with the literals without `not` before it.",
-        de: "Ihre Literale müssen für irgendwelche Objekte gelten, und keine machen {literal} zusammen mit den Literalen ohne `not` davor wahr.",
+        de: "Ihre Literale müssen für irgendwelche Objekte gelten, und es gibt keine Objekte, die {literal} zusammen mit den Literalen ohne `not` davor wahr machen.",
     }
     not_literal_of_new(literal: &str) {
         en: "Its literals have to hold of some objects, and none make {literal} true together with all literals without `not` and those with it before this one.",
-        de: "Ihre Literale müssen für irgendwelche Objekte gelten, und keine machen {literal} zusammen mit allen Literalen ohne `not` und denen mit `not` davor wahr.",
+        de: "Ihre Literale müssen für irgendwelche Objekte gelten, und es gibt keine Objekte, die {literal} zusammen mit allen Literalen ohne `not` und denen mit `not` davor wahr machen.",
     }
     literal_of_next(literal: &str, object: usize, name: &str) {
         en: "Its literals have to hold of some objects, and with object {object} for {name}, none make {literal} true together with the literals without `not` before it.",
-        de: "Ihre Literale müssen für irgendwelche Objekte gelten, und mit Objekt {object} für {name} machen keine {literal} zusammen mit den Literalen ohne `not` davor wahr.",
+        de: "Ihre Literale müssen für irgendwelche Objekte gelten, und mit Objekt {object} für {name} gibt es keine Objekte, die {literal} zusammen mit den Literalen ohne `not` davor wahr machen.",
     }
     not_literal_of_next(literal: &str, object: usize, name: &str) {
         en: "Its literals have to hold of some objects, and with object {object} for {name}, none make {literal} true together with all literals without `not` and those with it before this one.",
-        de: "Ihre Literale müssen für irgendwelche Objekte gelten, und mit Objekt {object} für {name} machen keine {literal} zusammen mit allen Literalen ohne `not` und denen mit `not` davor wahr.",
+        de: "Ihre Literale müssen für irgendwelche Objekte gelten, und mit Objekt {object} für {name} gibt es keine Objekte, die {literal} zusammen mit allen Literalen ohne `not` und denen mit `not` davor wahr machen.",
     }
     /// The same in short.
     literal_of_stage_fails(literal: &str) {
