@@ -44,6 +44,18 @@ pub enum Mark {
     Breaks,
 }
 
+impl Mark {
+    /// Whether the run of the hand-in, if it has one, breaks.
+    pub fn breaks(&self) -> bool {
+        match self {
+            Mark::Refused(r) => r.number == TOO_MANY,
+            Mark::Other { reached } => !reached,
+            Mark::Breaks => true,
+            Mark::Unreadable { .. } | Mark::Right => false,
+        }
+    }
+}
+
 /// What a hand-in says.
 pub enum Handin {
     Unreadable {

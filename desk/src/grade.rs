@@ -1,7 +1,6 @@
 //! What a hand-in is worth, in one line.
 
 use crate::calls::{self, Handin, Mark, Refusal, Replay};
-use crate::commands::mark::shows_break;
 use crate::files::Source;
 use crate::model::{line_of, readable, Model};
 use crate::reasons;
@@ -58,7 +57,7 @@ pub fn grade(text: &Source, handin: &Source) -> Graded {
         Mark::Other { reached: false } => (Grade::Wrong, class::says_yes()),
         Mark::Breaks => (Grade::Wrong, String::new()),
     };
-    let broken = if shows_break(&mark) { break_of(text, handin) } else { String::new() };
+    let broken = if mark.breaks() { break_of(text, handin) } else { String::new() };
     let why: Vec<String> = [said, broken].into_iter().filter(|w| !w.is_empty()).collect();
     graded(grade, why.join("; "))
 }

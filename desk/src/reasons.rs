@@ -86,30 +86,43 @@ fn heading(model: &Model, place: &Place) -> (String, usize) {
     }
 }
 
-/// The literal of a place's line or stage.
+/// The line of the model that a place is about, and the stage in it; 0 where it is no question.
+fn stands<'a>(model: &'a Model, place: &Place) -> (&'a [u8], usize) {
+    match place {
+        Place::Step { line, .. } => (model.line(*line), 0),
+        Place::Meeting { stage, .. } => (model.line(model.question()), *stage),
+    }
+}
+
+/// Literal k of a place's line or stage.
 fn literal(model: &Model, place: &Place, k: usize) -> String {
-    let (line, stage) = match place {
-        Place::Step { line, .. } => (*line, 0),
-        Place::Meeting { stage, .. } => (model.question(), *stage),
-    };
-    calls::literal(model.line(line), stage, k).map(readable).unwrap_or_default()
+    let (line, stage) = stands(model, place);
+    calls::literal(line, stage, k).map(readable).unwrap_or_default()
+}
+
+/// The objects that a place names.
+fn named(place: &Place) -> &[usize] {
+    match place {
+        Place::Step { object, .. } => std::slice::from_ref(object),
+        Place::Meeting { objects, .. } => objects,
+    }
 }
 
 /// Why a place is not allowed, after the meetings before it.
 fn because(model: &Model, place: &Place, reason: Reason, states: &[u32], met: &[&Meeting]) -> String {
-    let question = model.line(model.question());
-    match (reason, place) {
-        (Reason::Done, _) => runs::all_met(),
-        (Reason::NoLine, _) => runs::no_step_line(),
-        (Reason::NotNext, _) => runs::other_number(states.len()),
-        (Reason::NoObject, _) => numbers(states),
-        (Reason::OtherStage, _) => runs::other_stage(met.len() + 1),
-        (Reason::Variables, Place::Meeting { stage, .. }) => arity(&variables(question, *stage)),
-        (Reason::Variables, Place::Step { .. }) => arity(&[]),
-        (Reason::Carried, Place::Meeting { stage, objects }) => carried(question, *stage, objects, met),
-        (Reason::Carried, Place::Step { .. }) => runs::carried(""),
-        (Reason::Literal(k), Place::Meeting { .. }) => runs::literal_of_stage(&literal(model, place, k)),
-        (Reason::Literal(k), Place::Step { line, object }) => blamed(model.line(*line), *object, &literal(model, place, k)),
+    let (line, stage) = stands(model, place);
+    match reason {
+        Reason::Done => runs::all_met(),
+        Reason::NoLine => runs::no_step_line(),
+        Reason::NotNext => runs::other_number(states.len()),
+        Reason::NoObject => numbers(states),
+        Reason::OtherStage => runs::other_stage(met.len() + 1),
+        Reason::Variables => arity(&variables(line, stage)),
+        Reason::Carried => carried(line, stage, named(place), met),
+        Reason::Literal(k) => match place {
+            Place::Meeting { .. } => runs::literal_of_stage(&literal(model, place, k)),
+            Place::Step { object, .. } => blamed(line, *object, &literal(model, place, k)),
+        },
     }
 }
 

@@ -56,7 +56,10 @@ pub fn accepted(text: &Source) -> Result<Result<Analysis, Refusal>, Answer> {
 /// An unreadable hand-in.
 pub fn unreadable(handin: &Source, line: usize) -> Vec<Part> {
     if line == 0 {
-        return vec![Part::Says(refusals::too_long(&handin.name))];
+        return vec![
+            Part::Says(refusals::too_long(&handin.name)),
+            Part::Says(refusals::cure(&refusals::too_long_cure())),
+        ];
     }
     let text = line_of(&handin.bytes, line);
     let mut parts = vec![

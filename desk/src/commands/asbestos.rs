@@ -42,7 +42,7 @@ fn no_system(file: &Source, fault: Fault) -> Answer {
             Part::Quote(readable(line_of(&file.bytes, line))),
             Part::Says(refusals::kinds_line()),
         ],
-        Fault::Missing(word) => vec![Part::Says(refusals::kinds_missing(&file.name, word))],
+        Fault::Missing(word) => vec![Part::Says(refusals::kinds_missing(&file.name, word)), Part::Says(refusals::kinds_line())],
     };
     answer(plain(&parts), REFUSED)
 }

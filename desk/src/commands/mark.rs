@@ -2,7 +2,7 @@
 
 use crate::answer::{answer, Answered, BAD, GOOD, REFUSED};
 use crate::arguments::Call;
-use crate::calls::{self, Handin, Mark, TOO_MANY};
+use crate::calls::{self, Handin, Mark};
 use crate::files::{read, Source};
 use crate::parts::{plain, Part};
 use crate::say;
@@ -16,7 +16,7 @@ pub fn run(call: &Call) -> Answered {
     let handin = read(handin, calls::HANDIN)?;
     let mark = calls::mark(&text.bytes, &handin.bytes);
     let (mut parts, status) = said(&text, &handin, &mark);
-    if shows_break(&mark) {
+    if mark.breaks() {
         parts.extend(say::break_of(&text, &handin));
     }
     Ok(answer(plain(&parts), status))
@@ -40,15 +40,5 @@ fn right(handin: &Source) -> String {
     match calls::handin(&handin.bytes) {
         Handin::Yes { run, .. } => marks::right_yes(run.len()),
         _ => marks::right_no(),
-    }
-}
-
-/// Whether the run of the hand-in, if it has one, breaks.
-pub fn shows_break(mark: &Mark) -> bool {
-    match mark {
-        Mark::Refused(r) => r.number == TOO_MANY,
-        Mark::Other { reached } => !reached,
-        Mark::Breaks => true,
-        Mark::Unreadable { .. } | Mark::Right => false,
     }
 }

@@ -29,6 +29,10 @@ messages! {
         en: "unreadable: {name} has over 524,288 bytes.",
         de: "unlesbar: {name} hat über 524.288 Bytes.",
     }
+    too_long_cure() {
+        en: "hand in a shorter text; a run has at most 9,344 places",
+        de: "einen kürzeren Text abgeben; ein Lauf hat höchstens 9.344 Stellen",
+    }
     first_line() {
         en: "The first line of a hand-in is yes or no.",
         de: "Die erste Zeile einer Abgabe ist yes oder no.",
