@@ -1,5 +1,6 @@
 //! How a command ends: with what it says and its status.
 
+use crate::text::shown;
 use crate::words::calling;
 use std::io::Write;
 use std::process::exit;
@@ -26,7 +27,7 @@ pub fn answer(text: String, status: i32) -> Answer {
 /// A file or the program failed, or the call is none.
 pub fn failure(message: String) -> Answer {
     Answer {
-        text: format!("eon: {message}\n"),
+        text: format!("eon: {}\n", shown(&message)),
         status: FAILED,
     }
 }

@@ -1,12 +1,12 @@
 //! The hand-ins of a folder.
 
-use crate::files::{shown, take, Source};
+use crate::files::{take, Source};
+use crate::text::shown;
 use crate::words::{calling, class};
 use std::collections::BTreeMap;
-use std::ffi::OsString;
 use std::fs;
 use std::io;
-use std::os::unix::ffi::{OsStrExt, OsStringExt};
+use std::os::unix::ffi::OsStrExt;
 use std::path::{Path, PathBuf};
 
 /// The ends of the names of models and of hand-ins.
@@ -56,7 +56,7 @@ fn stem<'a>(name: &'a [u8], end: &str) -> Option<&'a [u8]> {
 /// The entry of a name.
 fn entry<'a>(entries: &'a mut BTreeMap<Vec<u8>, Entry>, name: &[u8]) -> &'a mut Entry {
     entries.entry(name.to_vec()).or_insert_with(|| Entry {
-        name: shown(&OsString::from_vec(name.to_vec())),
+        name: shown(&String::from_utf8_lossy(name)),
         ..Entry::default()
     })
 }

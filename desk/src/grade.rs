@@ -2,10 +2,11 @@
 
 use crate::calls::{self, Handin, Mark, Refusal, Replay};
 use crate::files::Source;
-use crate::model::{line_of, readable, Model};
+use crate::model::Model;
 use crate::reasons;
-use crate::say::{meetings, or};
+use crate::say::meetings;
 use crate::story;
+use crate::text::{line_of, or, readable};
 use crate::words::{class, refusals};
 
 /// The grades, from the best to the worst.

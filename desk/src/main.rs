@@ -17,6 +17,7 @@ mod say;
 mod show;
 mod story;
 mod table;
+mod text;
 mod words;
 
 use answer::{answer, end, failure, Answered, GOOD};

@@ -1,6 +1,7 @@
 //! A model's text for display: its lines, and the names of its labels.
 
 use crate::calls::{self, Clause};
+use crate::text::{line_of, readable};
 use crate::words::runs;
 
 /// The text of a model.
@@ -16,28 +17,6 @@ pub enum NoSet {
     Empty,
     /// No label has this name.
     Undeclared(String),
-}
-
-/// Bytes as a reader may see them: what is no plain letter, digit or sign is shown by its number.
-pub fn readable(bytes: &[u8]) -> String {
-    const LONGEST: usize = 240;
-    let mut shown = String::new();
-    for &b in bytes.iter().take(LONGEST) {
-        if b == b' ' || b.is_ascii_graphic() {
-            shown.push(b as char);
-        } else {
-            shown.push_str(&format!("\\x{b:02x}"));
-        }
-    }
-    if bytes.len() > LONGEST {
-        shown.push_str(" ..");
-    }
-    shown
-}
-
-/// Line n of a text, from 1.
-pub fn line_of(bytes: &[u8], n: usize) -> &[u8] {
-    n.checked_sub(1).and_then(|i| bytes.split(|&b| b == b'\n').nth(i)).unwrap_or(&[])
 }
 
 impl Model {

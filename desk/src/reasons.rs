@@ -1,10 +1,10 @@
 //! Why a place of a run is not allowed, in words.
 
 use crate::calls::{self, Reason};
-use crate::model::{readable, Model};
+use crate::model::Model;
 use crate::parts::Part;
-use crate::say::or;
 use crate::story::{self, Meeting, Place};
+use crate::text::{or, readable};
 use crate::words::runs;
 
 /// The variables of a stage.

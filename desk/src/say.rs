@@ -3,26 +3,12 @@
 use crate::answer::{answer, Answer, REFUSED};
 use crate::calls::{self, Analysis, Handin, Refusal, Replay, TOO_MANY};
 use crate::files::Source;
-use crate::model::{line_of, readable, Model};
+use crate::model::Model;
 use crate::parts::{plain, Part};
 use crate::reasons;
 use crate::story::{self, Event, Meeting};
+use crate::text::{capital, line_of, or, readable};
 use crate::words::{refusals, runs};
-
-/// A text, or what stands for it where there is none.
-pub fn or(text: String, otherwise: String) -> String {
-    if text.is_empty() {
-        otherwise
-    } else {
-        text
-    }
-}
-
-/// A sentence that begins with a capital letter.
-fn capital(sentence: &str) -> String {
-    let mut letters = sentence.chars();
-    letters.next().map_or(String::new(), |c| c.to_uppercase().chain(letters).collect())
-}
 
 /// A refused model: its line, the reason and the cure.
 pub fn refusal(text: &Source, r: Refusal) -> Vec<Part> {

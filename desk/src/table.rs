@@ -1,9 +1,10 @@
 //! The rows of a run's table, for a plain text and for a page.
 
 use crate::calls::{self, Replay};
-use crate::model::{readable, Model};
+use crate::model::Model;
 use crate::say::Handed;
 use crate::story::{self, Event, Meeting, Step};
+use crate::text::readable;
 use crate::words::runs;
 use std::collections::BTreeSet;
 

@@ -5,9 +5,9 @@ use crate::arguments::Call;
 use crate::calls;
 use crate::files::{read, Source};
 use crate::kinds::{self, Fault};
-use crate::model::{line_of, readable};
 use crate::parts::{plain, Part};
 use crate::say;
+use crate::text::{line_of, readable};
 use crate::words::{calling, questions, refusals};
 
 /// Writes the text alone.

@@ -6,9 +6,10 @@ use crate::calls::{self, Analysis};
 use crate::files::{read, Source};
 use crate::model::Model;
 use crate::parts::{plain, Part};
-use crate::say::{self, or};
+use crate::say;
 use crate::show::{table, Line};
 use crate::table::{change, signed, CLEARS, SETS};
+use crate::text::or;
 use crate::words::questions;
 use std::collections::BTreeSet;
 

@@ -5,13 +5,14 @@ use crate::arguments::Call;
 use crate::calls::{self, Handin, Refusal, Replay};
 use crate::commands::explain::ALL;
 use crate::files::{read, Source};
-use crate::model::{line_of, readable, Model};
+use crate::model::Model;
 use crate::parts::{plain, Part};
 use crate::reasons;
 use crate::say::{self, Handed};
 use crate::show;
 use crate::story;
 use crate::table::Run;
+use crate::text::{line_of, readable};
 use crate::words::{questions, refusals};
 
 /// The number of the refusal that says that a place is broken or the object was not created.

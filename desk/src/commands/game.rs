@@ -5,10 +5,11 @@ use crate::arguments::Call;
 use crate::calls::{self, Clause, Outcome, Refusal};
 use crate::commands::strike::choice;
 use crate::files::{read, Source};
-use crate::model::{readable, Model};
+use crate::model::Model;
 use crate::parts::{plain, Part};
 use crate::say;
 use crate::show::{table, Line};
+use crate::text::readable;
 use crate::words::questions;
 
 /// The lines of the two sides.

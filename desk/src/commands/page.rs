@@ -7,10 +7,11 @@ use crate::commands::explain::{sources, ALL};
 use crate::commands::mark::said;
 use crate::files::Source;
 use crate::html::{self, escaped};
-use crate::model::{readable, Model};
+use crate::model::Model;
 use crate::parts::Part;
 use crate::say::{self, Handed};
 use crate::table::{heads, Done, Row, Run, CLEARS, SETS};
+use crate::text::readable;
 use crate::words::{marks, page, runs};
 
 pub fn run(call: &Call) -> Answered {

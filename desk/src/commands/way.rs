@@ -4,11 +4,12 @@ use crate::answer::{answer, Answer, Answered, BAD, GOOD, REFUSED};
 use crate::arguments::Call;
 use crate::calls::{self, Analysis, Refusal};
 use crate::files::{read, Source};
-use crate::model::{readable, Model, NoSet};
+use crate::model::{Model, NoSet};
 use crate::parts::{plain, Part};
-use crate::say::{self, or};
+use crate::say;
 use crate::show::{table, Line};
 use crate::table::{change, signed, CLEARS, SETS};
+use crate::text::{or, readable};
 use crate::words::{marks, questions, refusals, runs};
 
 /// The number of the refusal of a state that no object can have.
