@@ -5,7 +5,9 @@ use crate::words::{self, calling, Lang};
 
 /// What a call gives to a command.
 pub struct Call {
-    pub command: &'static str,
+    command: &'static str,
+    /// The first line of its help.
+    usage: String,
     pub names: Vec<String>,
     /// The options, with the word that follows those that take one.
     options: Vec<(String, String)>,
@@ -37,9 +39,10 @@ pub fn choose_language(command: &str, words: Vec<String>) -> Result<Vec<String>,
 }
 
 /// Sorts the words into names and the command's options.
-pub fn sort(command: &'static str, has: &Options, words: Vec<String>) -> Result<Call, Answer> {
+pub fn sort(command: &'static str, usage: &str, has: &Options, words: Vec<String>) -> Result<Call, Answer> {
     let mut call = Call {
         command,
+        usage: usage.to_string(),
         names: Vec::new(),
         options: Vec::new(),
     };
@@ -71,7 +74,7 @@ impl Call {
 
     /// The answer to names that the command does not take.
     pub fn other_names(&self) -> Answer {
-        failure(calling::other_names(self.command))
+        failure(calling::other_names(&self.usage, self.command))
     }
 
     /// The number that a word writes; one that is too large for any call becomes the largest, which names nothing.

@@ -71,10 +71,12 @@ fn answered() -> Answered {
     let name = words.next().unwrap_or_default();
     let command = COMMANDS.iter().find(|c| c.name == name).ok_or_else(|| failure(calling::no_command()))?;
     let words = arguments::choose_language(command.name, words.collect())?;
+    let help = (command.help)();
     if words.iter().any(|w| w == "--help" || w == "-h") {
-        return Ok(answer(format!("{}\n\n{}\n", (command.help)(), help::language()), GOOD));
+        return Ok(answer(format!("{help}\n\n{}\n", help::language()), GOOD));
     }
-    (command.run)(&arguments::sort(command.name, &command.options, words)?)
+    let usage = help.lines().next().unwrap_or_default();
+    (command.run)(&arguments::sort(command.name, usage, &command.options, words)?)
 }
 
 fn main() {

@@ -23,9 +23,9 @@ messages! {
         en: "no language {word}; there are en and de",
         de: "keine Sprache {word}; es gibt en und de",
     }
-    other_names(command: &str) {
-        en: "eon {command} takes other names; eon {command} --help says how to call it",
-        de: "eon {command} erwartet andere Angaben; eon {command} --help sagt, wie der Aufruf lautet",
+    other_names(usage: &str, command: &str) {
+        en: "other names are needed ({usage}); eon {command} --help says how to call it",
+        de: "andere Angaben sind nötig ({usage}); eon {command} --help sagt, wie der Aufruf lautet",
     }
     no_number(word: &str, command: &str) {
         en: "{word} is no number; eon {command} --help says how to call it",
