@@ -176,7 +176,7 @@ impl<'a> Run<'a> {
             (1, 1) => runs::made_one(),
             (_, n) => runs::made(n),
         };
-        runs::folded(&what, &self.objects(&objects, states))
+        format!("{what}: {}", self.objects(&objects, states))
     }
 
     /// The objects that meet a stage.

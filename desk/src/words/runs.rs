@@ -48,7 +48,6 @@ messages! {
     }
     and_more(count: usize) { en: "and {count} more", de: "und {count} weitere" }
     is(object: usize, state: &str) { en: "{object} is {state}", de: "{object} ist {state}" }
-    folded(what: &str, objects: &str) { en: "{what}: {objects}", de: "{what}: {objects}" }
     without_labels() { en: "without labels", de: "ohne Labels" }
     none() { en: "none", de: "keine" }
 }
