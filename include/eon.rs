@@ -21,7 +21,4 @@ extern "C" {
     fn eon_literal(line: *const u8, bytes: usize, stage: usize, k: usize) -> u64;
     fn eon_variable(line: *const u8, bytes: usize, stage: usize, j: usize) -> u64;
     fn eon_asbestos(kinds: *const u32, count: usize, port: u32, level: u32, output: *mut u8, output_bytes: usize) -> u64;
-    #[rustfmt::skip]
-    fn eon_game(text: *const u8, bytes: usize, attacker: *const u32, attackers: usize, guardian: *const u32, guardians: usize, work: *mut u8, work_bytes: usize, states: *mut u32, moves: *mut u32) -> u64;
-    fn eon_way(text: *const u8, bytes: usize, from: u32, to: u32, work: *mut u8, work_bytes: usize, run: *mut u32, places: usize) -> u64;
 }
