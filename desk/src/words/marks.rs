@@ -3,7 +3,7 @@
 messages! {
     right_yes(places: usize) {
         en: "right: the run is kept, all {places} places of it, and meets the stages in order.",
-        de: "richtig: Der Lauf hält, alle {places} Stellen, und erfüllt die Stufen der Reihe nach.",
+        de: "richtig: Der Lauf hält an allen {places} Stellen und erfüllt die Stufen der Reihe nach.",
     }
     right_no() {
         en: "right: no run meets the stages in order, however long it is.",

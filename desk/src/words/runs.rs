@@ -95,11 +95,11 @@ messages! {
     }
     no_step_line() {
         en: "It is no `new` and no `next` line, so no step takes it.",
-        de: "Sie ist keine `new`- und keine `next`-Zeile, also nimmt kein Schritt sie.",
+        de: "Diese Zeile ist weder eine `new`- noch eine `next`-Zeile, also nimmt kein Schritt sie.",
     }
     other_number(number: usize) {
         en: "Objects are numbered from 0 in order of creation, so the new one is object {number}.",
-        de: "Objekte sind von 0 an in der Reihenfolge ihrer Entstehung nummeriert, also ist das neue Objekt {number}.",
+        de: "Objekte sind von 0 an in der Reihenfolge ihrer Entstehung nummeriert, also bekommt das neue Objekt die Nummer {number}.",
     }
     no_object_at_all() {
         en: "There is no such object: there is none yet.",
@@ -144,19 +144,19 @@ messages! {
     /// Literals are tried from left to right, those with `not` last.
     literal_of_new(literal: &str) {
         en: "Its literals have to hold of some objects, and none make {literal} true together with the literals without `not` before it.",
-        de: "Ihre Literale müssen für irgendwelche Objekte gelten, und es gibt keine Objekte, die {literal} zusammen mit den Literalen ohne `not` davor wahr machen.",
+        de: "Die Literale dieser Zeile müssen für irgendwelche Objekte gelten, und es gibt keine Objekte, die {literal} zusammen mit den Literalen ohne `not` davor wahr machen.",
     }
     not_literal_of_new(literal: &str) {
         en: "Its literals have to hold of some objects, and none make {literal} true together with all literals without `not` and those with it before this one.",
-        de: "Ihre Literale müssen für irgendwelche Objekte gelten, und es gibt keine Objekte, die {literal} zusammen mit allen Literalen ohne `not` und denen mit `not` davor wahr machen.",
+        de: "Die Literale dieser Zeile müssen für irgendwelche Objekte gelten, und es gibt keine Objekte, die {literal} zusammen mit allen Literalen ohne `not` und denen mit `not` davor wahr machen.",
     }
     literal_of_next(literal: &str, object: usize, name: &str) {
         en: "Its literals have to hold of some objects, and with object {object} for {name}, none make {literal} true together with the literals without `not` before it.",
-        de: "Ihre Literale müssen für irgendwelche Objekte gelten, und mit Objekt {object} für {name} gibt es keine Objekte, die {literal} zusammen mit den Literalen ohne `not` davor wahr machen.",
+        de: "Die Literale dieser Zeile müssen für irgendwelche Objekte gelten, und mit Objekt {object} für {name} gibt es keine Objekte, die {literal} zusammen mit den Literalen ohne `not` davor wahr machen.",
     }
     not_literal_of_next(literal: &str, object: usize, name: &str) {
         en: "Its literals have to hold of some objects, and with object {object} for {name}, none make {literal} true together with all literals without `not` and those with it before this one.",
-        de: "Ihre Literale müssen für irgendwelche Objekte gelten, und mit Objekt {object} für {name} gibt es keine Objekte, die {literal} zusammen mit allen Literalen ohne `not` und denen mit `not` davor wahr machen.",
+        de: "Die Literale dieser Zeile müssen für irgendwelche Objekte gelten, und mit Objekt {object} für {name} gibt es keine Objekte, die {literal} zusammen mit allen Literalen ohne `not` und denen mit `not` davor wahr machen.",
     }
     /// The same in short.
     literal_of_stage_fails(literal: &str) {
