@@ -1,5 +1,7 @@
 //! The proved calls (include/eon.h), with buffers of the sizes that they need.
 
+use crate::words::calling;
+
 include!("../../include/eon.rs");
 
 /// The most bytes of a model and of a hand-in that are read: one more than is taken, so that a longer file is refused for its length.
@@ -10,6 +12,14 @@ const WORK: usize = 65_536;
 const RUN: usize = 9_344;
 const OUT: usize = 130;
 const TEXT: usize = 16_384;
+const STRUCK: usize = 10;
+const COUNTS: usize = 4;
+const STATES: usize = 128;
+const SESSION: usize = 260;
+const SESSION_OBJECTS: usize = 255;
+
+/// The number that stands for no carried object in a replay state, and in a game for a guardian who holds out for ever.
+const NONE: u32 = 255;
 
 /// The most process kinds of a desk for Asbestos labels, and their cells.
 pub const KINDS: usize = 18;
@@ -32,6 +42,18 @@ pub enum Mark {
     Right,
     Other { reached: bool },
     Breaks,
+}
+
+impl Mark {
+    /// Whether the run of the hand-in, if it has one, breaks.
+    pub fn breaks(&self) -> bool {
+        match self {
+            Mark::Refused(r) => r.number == TOO_MANY,
+            Mark::Other { reached } => !reached,
+            Mark::Breaks => true,
+            Mark::Unreadable { .. } | Mark::Right => false,
+        }
+    }
 }
 
 /// What a hand-in says.
@@ -96,14 +118,38 @@ fn refusal(value: u32) -> Refusal {
 
 /// A number that include/eon.h does not have: the library and this program do not belong together.
 fn foreign(code: u64) -> ! {
-    eprintln!("eon: the library answered {code}, which is no answer; build it anew");
-    std::process::exit(3)
+    crate::answer::end(&crate::answer::failure(calling::foreign(code)))
 }
 
 /// Analyzes a model.
 pub fn analyze(text: &[u8]) -> Result<Analysis, Refusal> {
     let (mut work, mut run, mut out) = (vec![0; WORK], vec![0; RUN], [0; OUT]);
     let code = unsafe { eon_analyze(text.as_ptr(), text.len(), work.as_mut_ptr(), WORK, run.as_mut_ptr(), RUN, out.as_mut_ptr()) };
+    analysis(code, &out, run)
+}
+
+/// Asks whether an object can still play its part after these places.
+pub fn from(text: &[u8], before: &[u32], object: u32) -> Result<Analysis, Refusal> {
+    let (mut work, mut run, mut out) = (vec![0; WORK], vec![0; RUN], [0; OUT]);
+    let code = unsafe {
+        eon_from(
+            text.as_ptr(),
+            text.len(),
+            before.as_ptr(),
+            before.len(),
+            object,
+            work.as_mut_ptr(),
+            WORK,
+            run.as_mut_ptr(),
+            RUN,
+            out.as_mut_ptr(),
+        )
+    };
+    analysis(code, &out, run)
+}
+
+/// A verdict with the reachable states and the run shown.
+fn analysis(code: u64, out: &[u32; OUT], mut run: Vec<u32>) -> Result<Analysis, Refusal> {
     let value = code as u32;
     let states = out[1..=out[0] as usize].to_vec();
     match code >> 32 {
@@ -204,6 +250,26 @@ pub fn replay(text: &[u8], run: &[u32]) -> (Vec<u32>, Replay) {
     (stood, answer)
 }
 
+/// Who stood by at each place of a run that is allowed from objects in these states, with no stage met before.
+pub fn stood_by(text: &[u8], states: &[u32], run: &[u32]) -> Vec<u32> {
+    let mut session = [0; SESSION];
+    session[..states.len()].copy_from_slice(states);
+    session[SESSION_OBJECTS] = states.len() as u32;
+    session[SESSION_OBJECTS + 2] = NONE;
+    session[SESSION_OBJECTS + 3] = NONE;
+    run.iter().map(|&place| put(text, &mut session, place)).collect()
+}
+
+/// Puts an allowed place to a replay state: who stood by.
+fn put(text: &[u8], session: &mut [u32; SESSION], place: u32) -> u32 {
+    let mut work = vec![0; WORK];
+    let code = unsafe { eon_place(text.as_ptr(), text.len(), session.as_mut_ptr(), place, work.as_mut_ptr(), WORK) };
+    match code >> 32 {
+        3 => code as u32,
+        _ => foreign(code),
+    }
+}
+
 /// What a line makes of an object in a state: whether it creates the object, and the state after it; none where the line is no `new` or `next` line.
 pub fn effect(text: &[u8], line: u32, state: u32) -> Option<(bool, u32)> {
     let code = unsafe { eon_effect(text.as_ptr(), text.len(), line, state) };
@@ -254,4 +320,133 @@ pub fn asbestos(kinds: &[u32; KIND_CELLS], count: usize, port: u32, level: u32) 
         }
         _ => foreign(code),
     }
+}
+
+/// The fewest of these lines whose removal makes the question unreached, or none where no choice does.
+pub fn strike(text: &[u8], lines: &[u32]) -> Result<Option<Vec<u32>>, Refusal> {
+    let (mut work, mut out) = (vec![0; WORK], [0; STRUCK]);
+    let code = unsafe {
+        eon_cure(
+            text.as_ptr(),
+            text.len(),
+            lines.as_ptr(),
+            lines.len(),
+            work.as_mut_ptr(),
+            WORK,
+            out.as_mut_ptr(),
+        )
+    };
+    let value = code as u32;
+    match code >> 32 {
+        2 => Err(refusal(value)),
+        11 => Ok(Some(out.iter().copied().take(value as usize).collect())),
+        12 => Ok(None),
+        _ => foreign(code),
+    }
+}
+
+/// With how many ways to keep some lines and strike the rest the question is reached and unreached; the reached share in hundredths, and its remainder.
+pub struct Tally {
+    pub reached: u32,
+    pub unreached: u32,
+    pub share: u32,
+    pub remainder: u32,
+}
+
+/// Counts the ways to keep some of these lines and strike the rest.
+pub fn tally(text: &[u8], lines: &[u32]) -> Result<Tally, Refusal> {
+    let (mut work, mut out) = (vec![0; WORK], [0; COUNTS]);
+    let code = unsafe {
+        eon_tally(
+            text.as_ptr(),
+            text.len(),
+            lines.as_ptr(),
+            lines.len(),
+            work.as_mut_ptr(),
+            WORK,
+            out.as_mut_ptr(),
+        )
+    };
+    let [reached, unreached, share, remainder] = out;
+    match code >> 32 {
+        2 => Err(refusal(code as u32)),
+        13 => Ok(Tally {
+            reached,
+            unreached,
+            share,
+            remainder,
+        }),
+        _ => foreign(code),
+    }
+}
+
+/// A reachable state of the game's object, and within how many moves the attacker can force it; none where the guardian holds out for ever.
+pub struct Outcome {
+    pub state: u32,
+    pub moves: Option<u32>,
+}
+
+/// Solves the game of two sides with these lines.
+pub fn game(text: &[u8], attacker: &[u32], guardian: &[u32]) -> Result<Vec<Outcome>, Refusal> {
+    let (mut work, mut states, mut moves) = (vec![0; WORK], [0; STATES], [0; STATES]);
+    let code = unsafe {
+        eon_game(
+            text.as_ptr(),
+            text.len(),
+            attacker.as_ptr(),
+            attacker.len(),
+            guardian.as_ptr(),
+            guardian.len(),
+            work.as_mut_ptr(),
+            WORK,
+            states.as_mut_ptr(),
+            moves.as_mut_ptr(),
+        )
+    };
+    let value = code as u32;
+    let outcome = |(&state, &moves): (&u32, &u32)| Outcome {
+        state,
+        moves: (moves != NONE).then_some(moves),
+    };
+    match code >> 32 {
+        2 => Err(refusal(value)),
+        15 => Ok(states.iter().zip(&moves).take(value as usize).map(outcome).collect()),
+        _ => foreign(code),
+    }
+}
+
+/// The lines of a shortest way from one state to another, or none where there is no way.
+pub fn way(text: &[u8], from: u32, to: u32) -> Result<Option<Vec<u32>>, Refusal> {
+    let (mut work, mut run) = (vec![0; WORK], vec![0; RUN]);
+    let code = unsafe { eon_way(text.as_ptr(), text.len(), from, to, work.as_mut_ptr(), WORK, run.as_mut_ptr(), RUN) };
+    let value = code as u32;
+    match code >> 32 {
+        2 => Err(refusal(value)),
+        16 => {
+            run.truncate(value as usize);
+            Ok(Some(run))
+        }
+        17 => Ok(None),
+        _ => foreign(code),
+    }
+}
+
+/// What a clause of a model is.
+#[derive(Clone, Copy, PartialEq)]
+pub enum Clause {
+    Rule,
+    New,
+    Next,
+}
+
+/// Clause i of an accepted model: its line, and what it is.
+pub fn clause(text: &[u8], i: usize) -> Option<(usize, Clause)> {
+    let code = unsafe { eon_line(text.as_ptr(), text.len(), i) };
+    let clause = match code & 3 {
+        1 => Clause::Rule,
+        2 => Clause::New,
+        3 => Clause::Next,
+        _ => return None,
+    };
+    Some(((code >> 2) as usize, clause))
 }

@@ -1,6 +1,8 @@
 //! A model's text for display: its lines, and the names of its labels.
 
-use crate::calls;
+use crate::calls::{self, Clause};
+use crate::text::{line_of, readable};
+use crate::words::runs;
 
 /// The text of a model.
 pub struct Model {
@@ -9,26 +11,12 @@ pub struct Model {
     labels: Vec<String>,
 }
 
-/// Bytes as a reader may see them: what is no plain letter, digit or sign is shown by its number.
-pub fn readable(bytes: &[u8]) -> String {
-    const LONGEST: usize = 240;
-    let mut shown = String::new();
-    for &b in bytes.iter().take(LONGEST) {
-        if b == b' ' || b.is_ascii_graphic() {
-            shown.push(b as char);
-        } else {
-            shown.push_str(&format!("\\x{b:02x}"));
-        }
-    }
-    if bytes.len() > LONGEST {
-        shown.push_str(" ..");
-    }
-    shown
-}
-
-/// Line n of a text, from 1.
-pub fn line_of(bytes: &[u8], n: usize) -> &[u8] {
-    n.checked_sub(1).and_then(|i| bytes.split(|&b| b == b'\n').nth(i)).unwrap_or(&[])
+/// Why a word is no label set.
+pub enum NoSet {
+    /// It has no names, and is not written as the empty set.
+    Empty,
+    /// No label has this name.
+    Undeclared(String),
 }
 
 impl Model {
@@ -54,10 +42,42 @@ impl Model {
     pub fn state(&self, state: u32) -> String {
         let labels = self.labels(state);
         if labels.is_empty() {
-            "without labels".to_string()
+            runs::without_labels()
         } else {
             labels.join(" ")
         }
+    }
+
+    /// The names of all labels.
+    pub fn declared(&self) -> &[String] {
+        &self.labels
+    }
+
+    /// The state that a word writes: names with spaces, commas or + between them, in any order; () is the empty one.
+    pub fn read_state(&self, word: &str) -> Result<u32, NoSet> {
+        let inner = word.strip_prefix('(').and_then(|w| w.strip_suffix(')'));
+        let names: Vec<&str> = inner.unwrap_or(word).split([' ', ',', '+']).filter(|n| !n.is_empty()).collect();
+        if names.is_empty() && inner.is_none() {
+            return Err(NoSet::Empty);
+        }
+        names.iter().try_fold(0, |state, name| {
+            let label = self.labels.iter().position(|l| l == name);
+            label.map(|i| state | 1 << i).ok_or_else(|| NoSet::Undeclared(name.to_string()))
+        })
+    }
+
+    /// The numbers of the lines whose clauses are of these kinds.
+    pub fn lines_of(&self, kinds: &[Clause]) -> Vec<usize> {
+        (0..)
+            .map_while(|i| calls::clause(&self.bytes, i))
+            .filter(|(_, kind)| kinds.contains(kind))
+            .map(|(line, _)| line)
+            .collect()
+    }
+
+    /// A line with its number.
+    pub fn numbered(&self, line: usize) -> String {
+        runs::line_with_text(line, &readable(self.line(line)))
     }
 
     /// The number of the line with the question: the last one.

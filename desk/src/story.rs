@@ -56,9 +56,9 @@ pub fn place(number: u32) -> Place {
     }
 }
 
-/// The events of places that are kept, with those who stood by at each, and the objects' states after them.
-pub fn tell(model: &Model, run: &[u32], stood: &[u32]) -> (Vec<Event>, Vec<u32>) {
-    let mut states: Vec<u32> = Vec::new();
+/// The events of places that are kept from objects in these states on, with those who stood by at each, and the objects' states after them.
+pub fn tell(model: &Model, start: &[u32], run: &[u32], stood: &[u32]) -> (Vec<Event>, Vec<u32>) {
+    let mut states = start.to_vec();
     let mut effects: HashMap<(usize, u32), Option<(bool, u32)>> = HashMap::new();
     let mut events = Vec::new();
     for (&number, &stood) in run.iter().zip(stood) {
