@@ -6,6 +6,10 @@ use crate::texts::{
 };
 use std::fmt::Write;
 
+/// The examples of the game and of the lines to strike.
+const ACCOUNT: &str = include_str!("../../examples/account.eon");
+const MISTAKEN: &str = include_str!("../../examples/pay-mistaken.eon");
+
 /// What is asked of a text.
 pub enum Ask {
     /// What can become of an object after some places.
@@ -141,59 +145,73 @@ fn lines(t: &str, begin: &str) -> Vec<u32> {
     (1..).zip(t.lines()).filter(|(_, l)| l.starts_with(begin)).map(|(i, _)| i).collect()
 }
 
-/// All calls.
-pub fn all() -> Vec<Call> {
-    let call = |name, bytes: String, ask| Call { name, bytes, ask };
-    let account = include_str!("../../examples/account.eon").to_string();
-    let pay = include_str!("../../examples/pay-mistaken.eon").to_string();
+/// A call on a text.
+fn call(name: &'static str, bytes: &str, ask: Ask) -> Call {
+    let bytes = bytes.to_string();
+    Call { name, bytes, ask }
+}
+
+/// What can become of an object of a database.
+fn froms() -> Vec<Call> {
     let slowest = pair_full(chained);
-    let create = lines(&slowest, "(new")[0];
-    let chain = chained_object();
-    let climbing = lines(&chain, "(next")[..7].to_vec();
-    let dense = crossed(all_states, exchange);
-    let sides = lines(&dense, "(next x (");
-    let falling = crossed(|t| counter(t, true), back);
-    let rising = lines(&falling, "(next")[..7].to_vec();
-    let (struck, listed) = any_six();
-    let crowded = Ask::From {
-        before: crowd(create),
-        object: 0,
-    };
+    let ask = |before| Ask::From { before, object: 0 };
+    vec![
+        call("from, office", &office(), ask(vec![5 * 256])),
+        call("from, a pair, six full relations, slowly", &slowest, ask(crowd(lines(&slowest, "(new")[0]))),
+        after("from, after 1,000 changing places", "changing states, six full relations", 1_000),
+    ]
+}
+
+/// Marks.
+fn marks() -> Vec<Call> {
+    let slowest = pair_full(chained);
+    vec![
+        call("mark of a yes, office", &office(), Ask::Yes),
+        call("mark of a yes, longest run of a pair", &longest_run_of_pair(), Ask::Yes),
+        call("mark of a yes, a pair, slowly", &slowest, Ask::Yes),
+        call("mark of a run that breaks, a pair, slowly", &slowest, Ask::Short),
+        call("mark of a no, office", &office(), Ask::No),
+        call("mark of a no, a pair, slowly", &slowest, Ask::No),
+    ]
+}
+
+/// Games and ways, the worst of which are on the same texts.
+fn games_and_ways() -> Vec<Call> {
     let game = |attacker: &[u32], guardian: &[u32]| Ask::Game {
         attacker: attacker.to_vec(),
         guardian: guardian.to_vec(),
     };
+    let (dense, falling, chain) = (crossed(all_states, exchange), crossed(|t| counter(t, true), back), chained_object());
+    let sides = lines(&dense, "(next");
+    let up = |t: &str| lines(t, "(next")[..7].to_vec();
     vec![
-        call(
-            "from, office",
-            office(),
-            Ask::From {
-                before: vec![5 * 256],
-                object: 0,
-            },
-        ),
-        call("from, a pair, six full relations, slowly", slowest.clone(), crowded),
-        after("from, after 1,000 changing places", "changing states, six full relations", 1_000),
-        call("mark of a yes, office", office(), Ask::Yes),
-        call("mark of a yes, longest run of a pair", longest_run_of_pair(), Ask::Yes),
-        call("mark of a yes, a pair, slowly", slowest.clone(), Ask::Yes),
-        call("mark of a run that breaks, a pair, slowly", slowest.clone(), Ask::Short),
-        call("mark of a no, office", office(), Ask::No),
-        call("mark of a no, a pair, slowly", slowest, Ask::No),
-        call("game, account", account.clone(), game(&[9, 10], &[11, 12, 13])),
-        call("game, dense moves", dense.clone(), game(&sides[10..20], &sides[20..30])),
-        call("game, chained, six full relations", chain.clone(), game(&climbing, &[])),
-        call("game, the longest", falling.clone(), game(&rising, &[])),
-        call("way, integrity levels", integrity(), Ask::Way { from: 8, to: 3 }),
-        call("way, the longest", counter_to_empty(), Ask::Way { from: 1, to: 0 }),
-        call("way to empty, dense moves", dense, Ask::Way { from: 127, to: 0 }),
-        call("way to empty, counter with lines back", falling, Ask::Way { from: 1, to: 0 }),
-        call("way to empty, chained, six full relations", chain, Ask::Way { from: 1, to: 0 }),
-        call("cure, mistaken payments", pay.clone(), Ask::Cure(lines(&pay, "(ne"))),
-        call("tally, mistaken payments", pay.clone(), Ask::Tally(lines(&pay, "(ne"))),
-        call("cure, any six of ten lines", struck.clone(), Ask::Cure(listed.clone())),
-        call("tally, any six of ten lines", struck, Ask::Tally(listed)),
+        call("game, account", ACCOUNT, game(&[9, 10], &[11, 12, 13])),
+        call("game, dense moves", &dense, game(&sides[10..20], &sides[20..30])),
+        call("game, the longest", &falling, game(&up(&falling), &[])),
+        call("game, chained, six full relations", &chain, game(&up(&chain), &[])),
+        call("way, integrity levels", &integrity(), Ask::Way { from: 8, to: 3 }),
+        call("way, the longest", &counter_to_empty(), Ask::Way { from: 1, to: 0 }),
+        call("way to empty, dense moves", &dense, Ask::Way { from: 127, to: 0 }),
+        call("way to empty, counter with lines back", &falling, Ask::Way { from: 1, to: 0 }),
+        call("way to empty, chained, six full relations", &chain, Ask::Way { from: 1, to: 0 }),
     ]
+}
+
+/// Lines to strike.
+fn strikes() -> Vec<Call> {
+    let few = lines(MISTAKEN, "(ne");
+    let (slow, ten) = any_six();
+    vec![
+        call("cure, mistaken payments", MISTAKEN, Ask::Cure(few.clone())),
+        call("tally, mistaken payments", MISTAKEN, Ask::Tally(few)),
+        call("cure, any six of ten lines", &slow, Ask::Cure(ten.clone())),
+        call("tally, any six of ten lines", &slow, Ask::Tally(ten)),
+    ]
+}
+
+/// All calls.
+pub fn all() -> Vec<Call> {
+    [froms(), marks(), games_and_ways(), strikes()].into_iter().flatten().collect()
 }
 
 /// A hand-in that says yes by a run.

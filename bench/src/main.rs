@@ -7,10 +7,10 @@ mod datalog;
 mod method;
 mod model;
 mod product;
+mod rows;
 mod runs;
 mod texts;
 
-use calls::{Ask, Call};
 use clock::timed;
 use datalog::Spelling;
 use std::fs;
@@ -129,65 +129,6 @@ impl Table {
         if let Some(run) = &analysis.run {
             self.replay(buffers, &format!("  replay of its {} places", run.len()), bytes, run);
         }
-    }
-
-    /// A call, and the same in plain Rust where that is there.
-    fn call(&mut self, buffers: &mut product::Buffers, call: &Call) {
-        let (name, bytes) = (call.name, call.bytes.as_bytes());
-        let read = || method::text::read(bytes);
-        match &call.ask {
-            Ask::From { before, object } => {
-                let (own, places) = best(|| buffers.from(bytes, before, *object));
-                let shown = places.map_or("unreached".to_string(), |n| format!("{n} places"));
-                self.line(&format!("{name} ({shown})"), own, [None; 2]);
-            }
-            Ask::Cure(lines) => {
-                let (own, cure) = best(|| buffers.cure(bytes, lines));
-                let (plain, strikes) = best(|| method::strikes(&read(), lines));
-                assert_eq!(cure, strikes.fewest.map(|n| n as usize), "{name}");
-                self.line(&format!("{name} ({} searches)", strikes.searches), own, [Some(plain), None]);
-            }
-            Ask::Tally(lines) => {
-                let (own, reached) = best(|| buffers.tally(bytes, lines));
-                let (plain, strikes) = best(|| method::strikes(&read(), lines));
-                assert_eq!(reached, strikes.reached, "{name}");
-                self.line(&format!("{name} ({} searches)", strikes.searches), own, [Some(plain), None]);
-            }
-            Ask::Game { attacker, guardian } => {
-                let (own, moves) = best(|| buffers.game(bytes, attacker, guardian));
-                let (plain, expected) = best(|| method::game(&read(), attacker, guardian));
-                assert_eq!(moves, expected, "{name}");
-                let most = moves.iter().filter(|&&n| n < 255).max().unwrap_or(&0);
-                self.line(&format!("{name} ({most} moves)"), own, [Some(plain), None]);
-            }
-            Ask::Way { from, to } => {
-                let (own, steps) = best(|| buffers.way(bytes, *from, *to));
-                let (plain, expected) = best(|| method::way(&read(), *from, *to));
-                assert_eq!(steps, expected, "{name}");
-                let shown = steps.map_or("no way".to_string(), |n| format!("{n} steps"));
-                self.line(&format!("{name} ({shown})"), own, [Some(plain), None]);
-            }
-            Ask::Yes => self.mark(buffers, call, 6, |run| calls::handin(run)),
-            Ask::Short => self.mark(buffers, call, 8, |run| calls::handin(&run[..run.len() - 1])),
-            Ask::No => self.mark(buffers, call, 7, |_| "no\n".to_string()),
-        }
-    }
-
-    /// The mark of a hand-in that is made from the run shown, with the kind that it has.
-    fn mark(&mut self, buffers: &mut product::Buffers, call: &Call, kind: u64, write: impl Fn(&[u32]) -> String) {
-        let bytes = call.bytes.as_bytes();
-        let run = buffers.analyze(bytes).and_then(|a| a.run).expect("a question that is reached");
-        let handin = write(&run);
-        let (own, marked) = best(|| buffers.mark(bytes, handin.as_bytes()));
-        assert_eq!(marked, kind, "{}", call.name);
-        self.line(call.name, own, [None; 2]);
-    }
-
-    /// The writing of a text for Asbestos labels, and its analysis.
-    fn asbestos(&mut self, buffers: &mut product::Buffers, name: &str) {
-        let (own, text) = best(|| product::asbestos(&calls::kinds(), 4, 4));
-        self.line(&format!("{name} ({} bytes)", text.len()), own, [None; 2]);
-        self.text(buffers, "  analysis of it", &text);
     }
 }
 

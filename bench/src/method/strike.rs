@@ -6,7 +6,7 @@ use super::text::Model;
 /// How many choices are reached, the fewest lines that cure, if some do, and how many searches it took.
 pub struct Strikes {
     pub reached: u32,
-    pub fewest: Option<u32>,
+    pub fewest: Option<usize>,
     pub searches: usize,
 }
 
@@ -74,7 +74,7 @@ pub fn strikes(m: &Model, lines: &[u32]) -> Strikes {
     let unreached = (0..total).filter(|&n| choices.said[n] == Some(false));
     Strikes {
         reached: choices.said.iter().filter(|s| **s == Some(true)).count() as u32,
-        fewest: unreached.map(|n| n.count_ones()).min(),
+        fewest: unreached.map(|n| n.count_ones() as usize).min(),
         searches: choices.searches,
     }
 }
