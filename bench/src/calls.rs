@@ -187,7 +187,7 @@ fn games_and_ways() -> Vec<Call> {
     vec![
         call("game, account", ACCOUNT, game(&[9, 10], &[11, 12, 13])),
         call("game, dense moves", &dense, game(&sides[10..20], &sides[20..30])),
-        call("game, the longest", &falling, game(&up(&falling), &[])),
+        call("game, counting up", &falling, game(&up(&falling), &[])),
         call("game, chained, six full relations", &chain, game(&up(&chain), &[])),
         call("way, integrity levels", &integrity(), Ask::Way { from: 8, to: 3 }),
         call("way, the longest", &counter_to_empty(), Ask::Way { from: 1, to: 0 }),
