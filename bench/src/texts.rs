@@ -157,7 +157,7 @@ fn high_steps(t: &mut String) {
     t.push_str("(rule (Q x y) (P z x) (P z y))\n(rule (Q x y) (P x z) (P y z))\n");
 }
 
-/// Four pair relations hand one fact round over all pairs of 127 states: some 65,000 passes, each of which adds one fact.
+/// Four pair relations hand one fact round over all pairs of 127 states: some 65,000 facts, one after the other.
 fn hand_round() -> String {
     let mut t = declared(&["First", "Low", "Row", "Next"], &PAIRS);
     all_states(&mut t);
