@@ -1,6 +1,6 @@
-/* Tumreslo's calls for C: the analysis of an EON text, the replay of a run, the replay one place at a time, the accepted lines, the mark of a hand-in,
- * which lines to strike and how many choices of them are reached, the game of attacker and guardian, the shortest way between two sets
- * of labels, what is declared and stands on a line, for display; and the text of a desk for Asbestos labels.
+/* Tumreslo's calls for C: the analysis of an EON text, what can still become of an object, the replay of a run and why it breaks, the replay one place
+ * at a time, the accepted lines, the mark of a hand-in, which lines to strike and how many choices of them are reached, the game of attacker and
+ * guardian, the shortest way between two sets of labels, what is declared and stands on a line, for display; and the text of a desk for Asbestos labels.
  *
  * The library is written by `./library` as target/staticlib/libeon.a.
  *
@@ -38,7 +38,7 @@
  * under EON_RUN places; 14 a run over EON_RUN places, or a state that has kept EON_RUN; 15 more than 127 non-empty atomic states are reachable;
  * 16, 17 and 18 from eon_from, which says when; 19 a list of lines that is empty or has over EON_STRUCK, names a line twice, or names one that is
  * neither `new` nor `next`; 20, from eon_asbestos, no process kinds, over 18, a level outside the five, or an output under EON_TEXT bytes; 21 and 22 from
- * eon_game, which says when; 23, from eon_way, one of the two states is not reachable.
+ * eon_game, which says when; 23, from eon_way, one of the two states is not reachable. No call gives 13.
  * The first line is 1; the line is 0 for numbers 1, 12 and 14 to 23. 15 comes after all others but 23, from eon_analyze, eon_from, eon_cure, eon_tally,
  * eon_game and eon_way, and from eon_mark where the verdict is needed. A replay of such a text works as ever, and the calls for display take it as accepted.
  *

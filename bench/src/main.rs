@@ -1,11 +1,13 @@
 //! The product against a plain implementation in Rust and a stock Datalog engine, on the same texts in one run.
-//! `bench [PART ..]` takes the texts whose names have one of the parts; without any, all.
+//! `bench [PART ..] [-PART ..]` takes the texts whose names have one of the parts, or all without any, but for those that have one behind a `-`.
 
+mod calls;
 mod clock;
 mod datalog;
 mod method;
 mod model;
 mod product;
+mod rows;
 mod runs;
 mod texts;
 
@@ -131,8 +133,9 @@ impl Table {
 }
 
 fn main() {
-    let parts: Vec<String> = std::env::args().skip(1).collect();
-    let wanted = |name: &str| parts.is_empty() || parts.iter().any(|p| name.contains(p.as_str()));
+    let (without, with): (Vec<String>, Vec<String>) = std::env::args().skip(1).partition(|p| p.starts_with('-'));
+    let left = |name: &str| without.iter().any(|p| name.contains(&p[1..]));
+    let wanted = |name: &str| !left(name) && (with.is_empty() || with.iter().any(|p| name.contains(p.as_str())));
     let mut buffers = product::Buffers::new();
     let mut table = Table {
         worst: (f64::INFINITY, String::new()),
@@ -144,6 +147,12 @@ fn main() {
     }
     for run in runs::all().iter().filter(|r| wanted(r.name)) {
         table.replay(&mut buffers, run.name, run.bytes.as_bytes(), &run.places);
+    }
+    for call in calls::all().iter().filter(|c| wanted(c.name)) {
+        table.call(&mut buffers, call);
+    }
+    if wanted("asbestos, 18 kinds") {
+        table.asbestos(&mut buffers, "asbestos, 18 kinds");
     }
     println!("worst ratio {:.3}: {}", table.worst.0, table.worst.1.trim());
     println!("slowest {}: {}", column(Some(table.slowest.0)), table.slowest.1.trim());

@@ -23,7 +23,7 @@ struct Lines {
 }
 
 /// The number that the next line of a text has.
-fn next_line(t: &str) -> u32 {
+pub fn next_line(t: &str) -> u32 {
     t.lines().count() as u32 + 1
 }
 

@@ -29,7 +29,7 @@ pub fn declared(singles: &[&str], pairs: &[&str]) -> String {
 }
 
 /// Eight lines that reach all 127 states: one creates the full state, the others each remove a relation.
-fn all_states(t: &mut String) {
+pub fn all_states(t: &mut String) {
     writeln!(t, "(new (A B C D E F G))").unwrap();
     for s in STATES {
         writeln!(t, "(next x () ({s}) ({s} x))").unwrap();
@@ -37,7 +37,7 @@ fn all_states(t: &mut String) {
 }
 
 /// Lines that count an object's state up from 1 to 127 in steps of 1; a step needs the single relation O, where it is declared.
-fn counter(t: &mut String, guarded: bool) {
+pub fn counter(t: &mut String, guarded: bool) {
     writeln!(t, "(new (A))").unwrap();
     let guards: Vec<String> = if guarded {
         vec!["O".to_string()]
@@ -56,14 +56,14 @@ fn counter(t: &mut String, guarded: bool) {
 }
 
 /// Document 01's second office text.
-fn office() -> String {
+pub fn office() -> String {
     "(state Admin)\n(state User)\n(rel Control 1)\n(new (Admin))\n(new (User))\n(next x (Admin) () (User x) (Admin y))\n\
      (rule (Control x) (Admin x))\n(ask ((User x) (not (Admin x))) ((Control x)))\n"
         .to_string()
 }
 
 /// A course text: integrity levels of processes and objects, after the EON paper's model of Vista.
-fn integrity() -> String {
+pub fn integrity() -> String {
     let mut t = String::from(
         "(state P)\n(state Low)\n(state Med)\n(state High)\n(rel Obj 1)\n(rel ByMed 0)\n(rel ByHigh 0)\n(rel Geq 2)\n(rel Write 2)\n(rel Execute 2)\n",
     );
@@ -157,7 +157,7 @@ fn high_steps(t: &mut String) {
     t.push_str("(rule (Q x y) (P z x) (P z y))\n(rule (Q x y) (P x z) (P y z))\n");
 }
 
-/// Four pair relations hand one fact round over all pairs of 127 states: some 65,000 passes, each of which adds one fact.
+/// Four pair relations hand one fact round over all pairs of 127 states: some 65,000 facts, one after the other.
 fn hand_round() -> String {
     let mut t = declared(&["First", "Low", "Row", "Next"], &PAIRS);
     all_states(&mut t);
@@ -167,7 +167,7 @@ fn hand_round() -> String {
 }
 
 /// The literals that say that a variable stands for the state.
-fn is(state: u32, v: &str) -> String {
+pub fn is(state: u32, v: &str) -> String {
     (0..7).map(|i| bit(state >> i & 1 == 1, i, v)).collect()
 }
 
@@ -197,7 +197,7 @@ pub fn every(t: &mut String, relation: &str) {
 }
 
 /// A body of n literals over three variables and pair relations, with each of the three pairs of variables among the first three.
-fn tangle(n: usize, shift: usize, pairs: &[&str]) -> String {
+pub fn tangle(n: usize, shift: usize, pairs: &[&str]) -> String {
     let seats = ["x z", "z y", "y x", "z x", "y z", "x y", "z z", "y y"];
     (0..n).map(|i| format!(" ({} {})", pairs[(i + shift) % pairs.len()], seats[i])).collect()
 }
@@ -334,7 +334,7 @@ fn slow_pairs() -> String {
 }
 
 /// The counter, each step of which needs a pair that is derived from the state before: states, facts and guards are found one after the other.
-fn chained(t: &mut String) {
+pub fn chained(t: &mut String) {
     writeln!(t, "(new (A))").unwrap();
     writeln!(t, "(next x (A) () (O x) (not (A x)) (U x y) (U y x) (O y))").unwrap();
     for i in 1..7 {
@@ -481,7 +481,7 @@ fn longest_run_full() -> String {
 }
 
 /// The text whose shown run has 9,142 places: two objects that go a whole round of the counter between the stages.
-fn longest_run_of_pair() -> String {
+pub fn longest_run_of_pair() -> String {
     let names = ["I", "J", "K", "L"];
     let mut t = declared(&names, &[]);
     cycle(&mut t, false);
@@ -493,7 +493,7 @@ fn longest_run_of_pair() -> String {
 }
 
 /// A question of four stages that carry x and y, each with a third variable of its own.
-fn four_of_pair(t: &mut String, bodies: [String; 4]) {
+pub fn four_of_pair(t: &mut String, bodies: [String; 4]) {
     t.push_str("(ask");
     for (k, body) in bodies.iter().enumerate() {
         write!(t, " ({})", body.trim_start().replace('z', &format!("z{k}"))).unwrap();
@@ -502,7 +502,7 @@ fn four_of_pair(t: &mut String, bodies: [String; 4]) {
 }
 
 /// A pair through four stages of eight literals over six full relations, so that each pair of states is followed.
-fn pair_full(find: impl Fn(&mut String)) -> String {
+pub fn pair_full(find: impl Fn(&mut String)) -> String {
     let mut t = declared(&["O"], &PAIRS);
     find(&mut t);
     full_relations(&mut t, 43);

@@ -6,6 +6,7 @@ use crate::random::Random;
 use crate::report::Report;
 use crate::search::{led_about, reachable};
 use crate::subject::Subject;
+use crate::wide::declared;
 
 /// The most lines that a list may have.
 const LINES: usize = 10;
@@ -108,8 +109,37 @@ pub fn lists(report: &mut Report, r: &mut Random, subject: &Subject, m: &Model) 
     }
 }
 
-/// Two lines that cure only together, and lists of exactly ten lines and of eleven.
+/// The `new` lines of `five`.
+const TEN: std::ops::Range<u32> = 16..26;
+
+/// A text that is reached exactly if five of its ten `new` lines are kept. Each creates a state that has a label more than the one before, and the states
+/// that are there are counted along this order.
+fn five() -> String {
+    let labels = |n: usize| (0..n).map(|i| format!("L{i}")).collect::<Vec<String>>().join(" ");
+    let mut text = declared(LINES) + "(rel C2 1)\n(rel C3 1)\n(rel C4 1)\n(rel C5 1)\n(rel Less 2)\n";
+    text.extend((1..=LINES).map(|n| format!("(new ({}))\n", labels(n))));
+    text.extend((1..LINES).map(|i| format!("(rule (Less x y) (L0 x) (not (L{i} x)) (L{i} y))\n")));
+    text += "(rule (C2 y) (L0 x) (Less x y))\n";
+    text.extend((2..5).map(|k| format!("(rule (C{} y) (C{k} x) (Less x y))\n", k + 1)));
+    text + "(ask ((C5 x)))\n"
+}
+
+/// Of ten lines any six are to be struck, and of the 1,024 choices those that strike up to five are reached.
+fn six_of_ten(report: &mut Report) {
+    let subject = Subject::new(five().as_bytes());
+    let rising: Vec<u32> = TEN.collect();
+    let falling: Vec<u32> = TEN.rev().collect();
+    for lines in [rising, falling] {
+        put(report, &subject, &lines, WORK);
+        let given = (calls::cure(&subject.text, &lines, WORK).0, calls::tally(&subject.text, &lines, WORK).0);
+        let wanted = (Cure::Strike(vec![16, 17, 18, 19, 20, 21]), Tally::Count { reached: 638, unreached: 386, share: 62, remainder: 312 });
+        report.check(given == wanted, || format!("{given:?} for {lines:?}, not {wanted:?}"));
+    }
+}
+
+/// Two lines that cure only together, lists of exactly ten lines and of eleven, and six lines of ten.
 pub fn all(report: &mut Report) {
+    six_of_ten(report);
     let mut text = String::from("(state A)\n(state B)\n");
     for _ in 0..11 {
         text += "(new (A))\n";

@@ -2,11 +2,15 @@
 
 mod engine;
 mod levels;
+mod object;
 mod replay;
 mod row;
+mod strike;
 pub mod text;
 
 pub use levels::analyze;
+pub use object::{game, way};
+pub use strike::strikes;
 
 /// The place at which a run breaks, or none. Seven labels make 127 non-empty states at most; with more, 255 objects may have as many states.
 pub fn replay(m: &text::Model, run: &[u32]) -> Option<usize> {

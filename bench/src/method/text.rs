@@ -55,12 +55,14 @@ pub struct Clause {
     pub body: Body,
 }
 
+#[derive(Clone)]
 pub struct Stage {
     pub body: Body,
     /// The stage's variable that is carried variable 0 or 1, or 255.
     pub seat: [usize; 2],
 }
 
+#[derive(Clone)]
 pub struct Model {
     pub labels: Vec<String>,
     pub clauses: Vec<Clause>,

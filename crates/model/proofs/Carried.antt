@@ -1,7 +1,7 @@
 -- The carried variables of a well-formed model.
 use mathlib.Core.Path.{_≡_, refl, sym, ap, _∙_, subst}
 use mathlib.Core.Logic.{_⊎_, inl, inr, ⊎-elim, _≢_}
-use mathlib.Core.Bool.{true, false, false≢true}
+use mathlib.Core.Bool.{true, false≢true}
 use mathlib.Core.List.{List, [], _∷_, map}
 use Prim.Native.Nat.{ℕ, zero, suc, _≤_, _<_}
 use native.Mathlib.Omega.{arith}
@@ -13,10 +13,10 @@ use Rattle.limits.specs.Limits as limit
 use Rattle.semantics.specs.Models.{elem, Body, vars, shared, names, carriers, Distinct}
 use Rattle.semantics.specs.Runs.{nobody}
 use Rattle.semantics.specs.Walkers.{chosen}
-use Rattle.semantics.proofs.Tools.{either, clash, or-right, or-true-cases, elem-here, names-elem}
+use Rattle.semantics.proofs.Tools.{clash, or-right, or-true-cases, elem-here, names-elem}
 use Rattle.semantics.proofs.Carriers.{carriers-elem, carriers-shared, carriers-distinct, shared-somewhere, chosen-stands, chosen-first}
 use Rattle.model.specs.declared.Model.{Model}
-use Rattle.model.specs.Records.{upFrom, numberIn, stageOf, questionOf, stageAt, padded, carriedAt}
+use Rattle.model.specs.Records.{upFrom, numberIn, questionOf, stageAt, padded, carriedAt}
 use Rattle.model.specs.WellFormed.{WellFormed}
 use Rattle.model.proofs.Numbering.{elem-upFrom}
 use Rattle.model.proofs.Accepted.{stages, stage-here, stage-names}

@@ -1,14 +1,12 @@
 -- Document 01's office model, with its question of two stages, is well-formed.
 use mathlib.Core.Path.{_≡_, refl}
-use mathlib.Core.Logic.{⊎-elim, inr}
 use mathlib.Core.Bool.{Bool, true, _&&_, and-eq-true-iff, false≢true}
 use mathlib.Core.List.{List, [], _∷_, _++_}
 use Prim.Native.Nat.{ℕ, zero, suc, _+_, _≤_, _<_}
 use native.Mathlib.Omega.{arith}
-use borrow.Author.Tests.{ne-eqb}
 use lib.ListN.{length, getD, replicate}
 use Rattle.semantics.specs.Models.{elem, vars, is, isnt, fact, rule, new, next, firsts, shared, carriers, Safe, SafeLine, SafeQuestion}
-use Rattle.semantics.proofs.Tools.{same?, clash, each-cons}
+use Rattle.semantics.proofs.Tools.{each-cons}
 use Rattle.model.specs.declared.Action.the-variants.{Rule, New, Next}
 use Rattle.model.specs.declared.Clause.{Clause}
 use Rattle.model.specs.declared.Stage.{Stage}

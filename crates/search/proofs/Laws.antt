@@ -5,7 +5,6 @@ use mathlib.Core.Bool.{Bool, true, false, false≢true}
 use mathlib.Core.List.{List}
 use Prim.Native.Nat.{ℕ, _+_, _*_, _≤_, _<_}
 use native.Mathlib.Omega.{arith}
-use lib.ListN.{length}
 use Rattle.limits.specs.Limits as limit
 use Rattle.semantics.specs.Labels.{relabel}
 use Rattle.semantics.specs.Models.{elem, Body, Line, rule, new, next, other}

@@ -1,9 +1,9 @@
 -- What adding a state does to the row, and noting the empty one.
-use mathlib.Core.Path.{_≡_, refl, sym, ap, _∙_}
+use mathlib.Core.Path.{_≡_, refl, sym, _∙_}
 use mathlib.Core.Logic.{⊎-elim, _≢_}
 use mathlib.Core.Bool.{true, false, false≢true}
 use mathlib.Core.List.{List, [], _∷_, _++_}
-use Prim.Native.Nat.{ℕ, zero, suc, _+_, _≤_, _<_}
+use Prim.Native.Nat.{ℕ, _+_, _≤_, _<_}
 use native.Mathlib.Omega.{arith}
 use native.Mathlib.Numerals.{add-one}
 use borrow.Author.Tests.{eqb-true, eqb-false, eq-eqb, ne-eqb, lt-ltb, le-ltb}
@@ -13,7 +13,7 @@ use lib.Seq.{take-suc-set, length-take-le, getD-set-same, getD-set-other}
 use Rattle.limits.specs.Limits as limit
 use Rattle.semantics.specs.Models.{elem, Program, line, Distinct}
 use Rattle.semantics.specs.Tables.{From}
-use Rattle.semantics.proofs.Tools.{either, same?, clash, or-true-cases, or-false, or-right, elem-cases}
+use Rattle.semantics.proofs.Tools.{either, clash, or-true-cases, or-false, elem-cases}
 use Rattle.semantics.proofs.Growth.{founded-more}
 use Rattle.search_states.specs.declared.States.{States}
 use Rattle.search_states.specs.States.{row, by, from, nothing, appended, noted, crowded, added, Proper, Discovered}

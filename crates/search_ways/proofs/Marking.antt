@@ -1,7 +1,7 @@
 -- Marking pairs in a table of rows.
 use mathlib.Core.Path.{_≡_, sym, _∙_, subst}
 use mathlib.Core.Logic.{_⊎_, inl, inr, ⊎-elim, _≢_, _↔_}
-use mathlib.Core.Bool.{true, false, _||_, _&&_, false≢true, and-eq-true-iff}
+use mathlib.Core.Bool.{true, _||_, _&&_, false≢true, and-eq-true-iff}
 use mathlib.Core.List.{List}
 use Prim.Native.Nat.{ℕ, _+_, _*_, _/_, _%_, _<_}
 use native.Mathlib.Omega.{arith}

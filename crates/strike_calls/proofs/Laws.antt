@@ -1,5 +1,5 @@
 -- THE ANSWER TO A CALL, by what the reader and the list say.
-use mathlib.Core.Path.{_≡_, refl, sym, ap, _∙_}
+use mathlib.Core.Path.{_≡_, sym, ap, _∙_}
 use mathlib.Core.Logic.{_≢_}
 use mathlib.Core.Bool.{true, false}
 use mathlib.Core.List.{List}
@@ -12,8 +12,8 @@ use Rattle.semantics.specs.Models.{Program, Question}
 use Rattle.model.specs.Records.{programOf, questionOf}
 use Rattle.model.specs.WellFormed.{WellFormed}
 use Rattle.grammar.specs.Declarations.{Declared}
-use Rattle.grammar.specs.Texts.{Outcome, accepted, refused, outcome}
-use Rattle.calls.specs.Calls.{early, called}
+use Rattle.grammar.specs.Texts.{accepted, refused, outcome}
+use Rattle.calls.specs.Calls.{early}
 use Rattle.calls.proofs.Laws.{called-early, called-lines, sizes}
 use Rattle.text.specs.declared.Acceptance.the-variants.{Accepted, Refused}
 use Rattle.text.specs.declared.Reading.{Reading}

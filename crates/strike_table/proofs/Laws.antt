@@ -1,7 +1,7 @@
 -- How the table grows: what a decided choice settles is right, and what was decided stays decided.
 use mathlib.Core.Path.{_≡_, refl, sym, ap, _∙_, subst}
 use mathlib.Core.Logic.{⊎-elim, _≢_}
-use mathlib.Core.Bool.{Bool, true, false, cond, _&&_, and-eq-true-iff}
+use mathlib.Core.Bool.{Bool, true, false, cond, and-eq-true-iff}
 use mathlib.Core.List.{List, [], _∷_}
 use Prim.Native.Nat.{ℕ, zero, suc, _+_, _*_, _%_, _^_, _≤_, _<_}
 use native.Mathlib.Nat.{mod-le, mod-eq-of-lt, two-pow-succ}
@@ -16,7 +16,7 @@ use Rattle.limits.specs.Limits as limit
 use Rattle.semantics.specs.Labels.{has}
 use Rattle.semantics.specs.Models.{Program, Question}
 use Rattle.semantics.specs.Steps.{MoreThan}
-use Rattle.semantics.specs.Questions.{Reached, Verdict}
+use Rattle.semantics.specs.Questions.{Verdict}
 use Rattle.semantics.proofs.Tools.{either, same?, clash}
 use Rattle.semantics.proofs.Sets.{has-and, has-beyond}
 use Rattle.model.specs.declared.Model.{Model}

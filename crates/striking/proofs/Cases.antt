@@ -10,7 +10,7 @@ use lib.Dec.{eqb}
 use lib.ListN.{length, length-append, List·getD-append}
 use lib.Seq.{getD-append-seam}
 use Rattle.semantics.specs.Labels.{has, union, difference, relabel}
-use Rattle.semantics.specs.Models.{elem, Program, line}
+use Rattle.semantics.specs.Models.{elem, Program}
 use Rattle.semantics.specs.Facts.{Database, state, Meets}
 use Rattle.semantics.specs.Steps.{Pair, Steps}
 use Rattle.semantics.specs.Questions.{Reached}

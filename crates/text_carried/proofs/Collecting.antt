@@ -14,7 +14,6 @@ use Rattle.model.specs.Records.{upFrom, padded}
 use Rattle.grammar.proofs.Tests.{either}
 use Rattle.text_carried.specs.Asking.{marked, carriersOf}
 use Rattle.text_carried.specs.declared.Table.{Table}
-use Rattle.text_carried.specs.declared.Carriers.{Carriers}
 
 -- CELLS with one more
 padded-more : (n : ℕ) (xs : List ℕ) (x : ℕ) → length xs < n → set (padded n xs) (length xs) x ≡ padded n (xs ++ (x ∷ []))

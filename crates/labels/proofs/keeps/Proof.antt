@@ -1,8 +1,6 @@
 -- `labels::keeps` meets its contract: the four cases are what relabeling does to the relation.
-use mathlib.Core.Path.{sym, ap, _∙_}
+use mathlib.Core.Path.{sym, _∙_}
 use borrow.Author.Needs.{needs}
-use Rattle.semantics.specs.FourCases as paper
-use Rattle.semantics.specs.FourCases.{worked}
 use Rattle.semantics.proofs.FourCases.{by-cases}
 use Rattle.labels.proofs.keeps.Statement.{statement}
 use Rattle.labels.proofs.keeps.Tie as tie

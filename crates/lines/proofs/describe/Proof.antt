@@ -3,8 +3,6 @@ use Rattle.lines.specs.Lines.{recorded}
 use borrow.Author.Needs.{needs}
 use Rattle.lines.proofs.describe.Statement.{statement}
 use Rattle.lines.proofs.describe.Tie as tie
-use Rattle.lines.proofs.describe.Reads as reads
-use Rattle.lines.proofs.describe.Lts as lts
 
 -- src/lib.rt:14:16
 cast-line : tie.Need-cast-line
