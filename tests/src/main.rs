@@ -35,6 +35,8 @@ mod ways;
 mod wide;
 
 use report::Report;
+use std::sync::atomic::{AtomicUsize, Ordering};
+use std::thread;
 
 /// What the seeded models and the damaged texts are to meet at least.
 fn covered_enough(report: &mut Report) {
@@ -136,25 +138,62 @@ fn covered_enough(report: &mut Report) {
     }
 }
 
-fn main() {
+/// The parts of the tests, those that take longest first.
+const PARTS: [fn(&mut Report); 23] = [
+    seeded::paired_models,
+    seeded::models,
+    seeded::wide_models,
+    seeded::loose_models,
+    seeded::large_models,
+    seeded::roaming_models,
+    seeded::counters,
+    games::all,
+    strike::all,
+    onward::all,
+    asbestos::all,
+    longest::run,
+    cases::all,
+    models::all,
+    standing::all,
+    labels::all,
+    salad::texts,
+    handins::all,
+    lent::all,
+    crowd::all,
+    buffers::all,
+    shuffled::beyond,
+    ways::all,
+];
+
+/// The stack of a thread: the plain searches recurse.
+const STACK: usize = 64 << 20;
+
+/// Goes through the parts that are left, one after the other.
+fn work(next: &AtomicUsize) -> Report {
     let mut report = Report::default();
-    cases::all(&mut report);
-    models::all(&mut report);
-    standing::all(&mut report);
-    labels::all(&mut report);
-    longest::run(&mut report);
-    salad::texts(&mut report);
-    handins::all(&mut report);
-    lent::all(&mut report);
-    crowd::all(&mut report);
-    buffers::all(&mut report);
-    shuffled::beyond(&mut report);
-    onward::all(&mut report);
-    strike::all(&mut report);
-    games::all(&mut report);
-    ways::all(&mut report);
-    asbestos::all(&mut report);
-    seeded::models(&mut report);
+    while let Some(part) = PARTS.get(next.fetch_add(1, Ordering::Relaxed)) {
+        part(&mut report);
+    }
+    report
+}
+
+/// What all parts report, as many at a time as the machine has cores.
+fn all() -> Report {
+    let cores = thread::available_parallelism().map_or(1, usize::from);
+    let next = AtomicUsize::new(0);
+    thread::scope(|scope| {
+        let start = |_| thread::Builder::new().stack_size(STACK).spawn_scoped(scope, || work(&next));
+        let threads: Vec<_> = (0..cores).map(start).collect();
+        let mut report = Report::default();
+        for thread in threads {
+            report.add(thread.expect("a thread is started").join().expect("a part ends"));
+        }
+        report
+    })
+}
+
+fn main() {
+    let mut report = all();
     covered_enough(&mut report);
     if !report.close() {
         std::process::exit(1);

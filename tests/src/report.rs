@@ -30,6 +30,15 @@ impl Report {
         *self.covered.entry(what.to_string()).or_insert(0) += 1;
     }
 
+    /// Adds what another part counted.
+    pub fn add(&mut self, other: Report) {
+        self.passed += other.passed;
+        self.failed += other.failed;
+        for (what, times) in other.covered {
+            *self.covered.entry(what).or_insert(0) += times;
+        }
+    }
+
     /// Checks that something was met often enough for the other checks to say much.
     pub fn met_often(&mut self, what: &str, least: usize) {
         let times = self.covered.get(what).copied().unwrap_or(0);

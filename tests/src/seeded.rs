@@ -324,7 +324,7 @@ fn any_model(r: &mut Random, large: bool) -> String {
     model(r, shape)
 }
 
-/// Runs all seeded models.
+/// Models of ordinary size.
 pub fn models(report: &mut Report) {
     for seed in 1..=MODELS {
         let mut r = Random::new(seed);
@@ -333,21 +333,37 @@ pub fn models(report: &mut Report) {
         texts(report, &mut r, &text);
         one_object(report, &mut r, &text);
     }
+}
+
+/// Larger models.
+pub fn large_models(report: &mut Report) {
     for seed in 1..=LARGE_MODELS {
         let mut r = Random::new(seed + 1_000);
         let text = any_model(&mut r, true);
         seeded(report, &mut r, &text);
         one_object(report, &mut r, &text);
     }
+}
+
+/// Models whose questions join two carried variables.
+pub fn paired_models(report: &mut Report) {
     for seed in 1..=PAIRED_MODELS {
         let mut r = Random::new(seed + 4_000_000);
         let text = paired::model(&mut r);
         seeded(report, &mut r, &text);
         one_object(report, &mut r, &text);
     }
+}
+
+/// Models of many labels, with a chosen number of states.
+pub fn wide_models(report: &mut Report) {
     for seed in 1..=WIDE_MODELS {
         wide_model(report, &mut Random::new(seed + 6_000_000));
     }
+}
+
+/// Models of many labels, with a number of states that is left to chance.
+pub fn loose_models(report: &mut Report) {
     for seed in 1..=LOOSE_MODELS {
         let mut r = Random::new(seed + 7_000_000);
         let shape = Shape { states: 8 + r.below(17), relations: 4, clauses: 10 + r.below(40), stages: 4 };
@@ -355,6 +371,10 @@ pub fn models(report: &mut Report) {
         seeded(report, &mut r, &text);
         one_object(report, &mut r, &text);
     }
+}
+
+/// Models in which one object can be led about in many ways.
+pub fn roaming_models(report: &mut Report) {
     for seed in 1..=ROAMING_MODELS {
         let mut r = Random::new(seed + 8_000_000);
         let subject = Subject::new(roaming::model(&mut r).as_bytes());
@@ -362,6 +382,10 @@ pub fn models(report: &mut Report) {
         games::lists(report, &mut r, &subject);
         ways::pairs(report, &mut r, &subject);
     }
+}
+
+/// Counters, with long games and ways.
+pub fn counters(report: &mut Report) {
     for seed in 1..=COUNTERS {
         let mut r = Random::new(seed + 9_000_000);
         let (text, lines) = counter::any(&mut r);
