@@ -138,7 +138,7 @@ fn covered_enough(report: &mut Report) {
     }
 }
 
-/// The parts of the tests, those that take longest first.
+/// The parts of the tests; the seeded models take longest, and come first.
 const PARTS: [fn(&mut Report); 23] = [
     seeded::paired_models,
     seeded::models,
@@ -165,8 +165,8 @@ const PARTS: [fn(&mut Report); 23] = [
     ways::all,
 ];
 
-/// The stack of a thread: the plain searches recurse.
-const STACK: usize = 64 << 20;
+/// The stack of a thread, as large as that of a main thread mostly is.
+const STACK: usize = 8 << 20;
 
 /// Goes through the parts that are left, one after the other.
 fn work(next: &AtomicUsize) -> Report {
