@@ -1,4 +1,6 @@
 // The analysis of a text.
+#![tactic(auto)]
+
 ghost use Rattle.analyzer.specs.Analyzing.{Analyzes};
 
 use analyzer_verdict::Analysis;

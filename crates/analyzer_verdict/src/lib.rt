@@ -1,4 +1,6 @@
 // The analysis of an accepted model: the verdict with the run of a reached question, and the reachable states; or that too many are reachable.
+#![tactic(auto)]
+
 ghost use Rattle.std.specs.Prelude.{◌≡◌, ◌≤◌, length};
 ghost use Rattle.limits.specs.Limits as limit;
 ghost use Rattle.model.specs.Records.{program_of, question_of};

@@ -1,4 +1,6 @@
 // Asbestos labels: the table of send levels. The system over messages and the model that a desk writes for it are in specs/, and that the two say the same is in proofs/.
+#![tactic(auto)]
+
 ghost use Rattle.std.specs.Prelude.{◌≡◌, ◌<◌};
 ghost use Rattle.asbestos.specs.Messages.{levels, resulting_level};
 

@@ -1,4 +1,6 @@
 // A desk for Asbestos labels: the text that it writes, and what an analysis of that text says.
+#![tactic(auto)]
+
 ghost use Rattle.std.specs.Prelude.{◌≡◌};
 ghost use Rattle.asbestos_writer.specs.Writing.{kinds_of, Desks};
 ghost use Rattle.asbestos_desk.specs.Codes.{code, ShortText};

@@ -1,4 +1,6 @@
 // A desk for Asbestos labels: writes the bracket text for process kinds, a port level and an asked receive level.
+#![tactic(auto)]
+
 ghost use Rattle.std.specs.Prelude.{◌≡◌, not, [], ◌∷◌, ◌++◌, map, suc, ◌+◌, ◌≤◌, ◌<◌, eqb, length};
 ghost use Rattle.limits.specs.Limits as limit;
 ghost use Rattle.grammar.specs.Bytes.{bytes as quoted};

@@ -1,4 +1,6 @@
 // What every call over a text does: the refusals that come before the text's lines are read, and the work bytes left zero.
+#![tactic(auto)]
+
 ghost use Rattle.std.specs.Prelude.{◌≡◌, ◌≤◌, length};
 ghost use Rattle.limits.specs.Limits as limit;
 ghost use Rattle.calls.specs.Calls.{early as early_row, short as too_short};

@@ -1,4 +1,6 @@
 // The numbers of what is answered for a mark and for display.
+#![tactic(auto)]
+
 ghost use Rattle.std.specs.Prelude.{◌≡◌, ◌≤◌};
 ghost use Rattle.limits.specs.Limits as limit;
 ghost use Rattle.codes.specs.Codes.{handed as handin_code, marked as mark_code, spanned as span_code, declared as declaration_code};

@@ -1,4 +1,6 @@
 // The parts of a line: where a clause or a stage stands in it.
+#![tactic(auto)]
+
 ghost use Rattle.std.specs.Prelude.{◌≡◌, ◌≤◌, length, drop};
 ghost use Rattle.std.proofs.Math.Option.{some};
 ghost use Rattle.grammar.specs.Bytes.{bytes};

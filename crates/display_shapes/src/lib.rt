@@ -1,4 +1,6 @@
 // Where the parts of a line end, whatever is declared.
+#![tactic(auto)]
+
 ghost use Rattle.std.specs.Prelude.{◌≤◌, length};
 ghost use Rattle.grammar.specs.Shapes.{name, rest, atom, literal, list, stage};
 ghost use Rattle.display_shapes.specs.Ends.{Ends};

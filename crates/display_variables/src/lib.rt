@@ -1,4 +1,6 @@
 // The variables of a part of a line, in order of first appearance.
+#![tactic(auto)]
+
 ghost use Rattle.std.specs.Prelude.{◌≡◌, [], ◌-◌, ◌≤◌, ◌<◌, length, drop};
 ghost use Rattle.std.proofs.Math.Seq.{slice};
 ghost use Rattle.grammar.specs.Declarations.{member, extend};

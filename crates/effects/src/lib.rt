@@ -1,4 +1,6 @@
 // What a line makes of an object: the state that a `new` line creates it with, or that a `next` line gives it.
+#![tactic(auto)]
+
 ghost use Rattle.std.specs.Prelude.{◌≡◌, ◌≢◌, ℕ, ◌≤◌, ◌<◌};
 ghost use Rattle.semantics.specs.Models.{line as line_in};
 ghost use Rattle.model.specs.Records.{clause_at, program_of};

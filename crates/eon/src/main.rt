@@ -1,4 +1,6 @@
 // The program: reads a text from standard input and writes its listing to standard output.
+#![tactic(auto)]
+
 ghost use Rattle.std.specs.Prelude.{◌≤◌, length, take};
 ghost use Rattle.limits.specs.Limits as limit;
 ghost use Rattle.io.specs.Counts.{IsPrefixLen};

@@ -1,4 +1,6 @@
 // The public calls for C and Rust: answers as numbers, records as rows of cells (include/eon.h).
+#![tactic(auto)]
+
 ghost use Rattle.std.specs.Prelude.{◌≡◌, ◌+◌, ◌≤◌, length};
 ghost use Rattle.std.proofs.Math.Seq.{paste};
 ghost use Rattle.limits.specs.Limits as limit;

@@ -1,4 +1,6 @@
 // Which lines to strike, for C and Rust: the answer as a number, the lines as a row of cells (include/eon.h).
+#![tactic(auto)]
+
 ghost use Rattle.std.specs.Prelude.{◌≡◌};
 ghost use Rattle.exports_cure.specs.Codes.{coded as code_of, Few};
 ghost use Rattle.exports_cure.specs.Calls.{Advised};

@@ -1,4 +1,6 @@
 // Attacker and guardian, for C and Rust: the answer as a number, the states and their numbers of moves as rows of cells (include/eon.h).
+#![tactic(auto)]
+
 ghost use Rattle.std.specs.Prelude.{◌≡◌, ◌≤◌};
 ghost use Rattle.limits.specs.Limits as limit;
 ghost use Rattle.exports_game.specs.Codes.{coded as code_of};

@@ -1,4 +1,6 @@
 // How much of the policy matters, for C and Rust: the answer as a number, the counts as a row of cells (include/eon.h).
+#![tactic(auto)]
+
 ghost use Rattle.std.specs.Prelude.{◌≡◌};
 ghost use Rattle.exports_tally.specs.Codes.{coded as code_of, counts as counts_of};
 ghost use Rattle.exports_tally.specs.Calls.{Counted};

@@ -1,4 +1,6 @@
 // The shortest way between two atomic states, for C and Rust: the answer as a number (include/eon.h).
+#![tactic(auto)]
+
 ghost use Rattle.std.specs.Prelude.{◌≡◌};
 ghost use Rattle.exports_way.specs.Codes.{coded as code_of, Few};
 ghost use Rattle.exports_way.specs.Calls.{Looks};

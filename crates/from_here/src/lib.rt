@@ -1,4 +1,6 @@
 // What can still become of an object, asked of a text.
+#![tactic(auto)]
+
 ghost use Rattle.from_here.specs.Asking.{Asks};
 
 use analyzer_verdict::Analysis;

@@ -1,4 +1,6 @@
 // Where places lead from the empty database, wherever they end.
+#![tactic(auto)]
+
 ghost use Rattle.std.specs.Prelude.{◌≡◌, ◌≤◌, length};
 ghost use Rattle.limits.specs.Limits as limit;
 ghost use Rattle.model.specs.WellFormed.{WellFormed};

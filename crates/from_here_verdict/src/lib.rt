@@ -1,4 +1,6 @@
 // What can still become of an object, over an accepted model: the question put anew from where places lead, with that object for the first variable of stage 1.
+#![tactic(auto)]
+
 ghost use Rattle.std.specs.Prelude.{◌≡◌, true, ◌≤◌, length};
 ghost use Rattle.limits.specs.Limits as limit;
 ghost use Rattle.model.specs.Records.{program_of, question_of};

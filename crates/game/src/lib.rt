@@ -1,4 +1,6 @@
 // The game of attacker and guardian over a text.
+#![tactic(auto)]
+
 ghost use Rattle.game.specs.Playing.{Plays};
 
 use game_answer::Game;

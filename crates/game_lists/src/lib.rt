@@ -1,4 +1,6 @@
 // What is refused of a game: the list of a side's lines, and the form of the question.
+#![tactic(auto)]
+
 ghost use Rattle.std.specs.Prelude.{◌≡◌, ◌↔◌, true};
 ghost use Rattle.semantics.specs.Models.{Body, line as line_at};
 ghost use Rattle.model.specs.Records.{line_of, program_of};

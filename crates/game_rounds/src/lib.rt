@@ -1,4 +1,6 @@
 // The game by rounds: the numbers of a board's positions, round by round, until a round gives none.
+#![tactic(auto)]
+
 ghost use Rattle.std.specs.Prelude.{◌≡◌, suc, ◌*◌, ◌≤◌, length};
 ghost use Rattle.limits.specs.Limits as limit;
 ghost use Rattle.facts_bits.specs.Width as width;

@@ -1,4 +1,6 @@
 // The found states that meet a question of one stage with one variable.
+#![tactic(auto)]
+
 ghost use Rattle.std.specs.Prelude.{◌≡◌, ◌↔◌, true, ◌≤◌, ◌<◌, length};
 ghost use Rattle.limits.specs.Limits as limit;
 ghost use Rattle.semantics.specs.Facts.{Database};

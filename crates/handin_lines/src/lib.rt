@@ -1,4 +1,6 @@
 // One line of a hand-in, without its byte 10. Each reader takes the line and a place in it.
+#![tactic(auto)]
+
 ghost use Rattle.std.specs.Prelude.{◌≡◌, cond, ◌+◌, ◌-◌, ◌*◌, ◌≤◌, ◌<◌, length, drop};
 ghost use Rattle.std.proofs.Math.Option.{none, some};
 ghost use Rattle.limits.specs.Limits as limit;

@@ -1,4 +1,6 @@
 // One atomic state: whether it has a relation, and what a `next` line makes of it.
+#![tactic(auto)]
+
 ghost use Rattle.std.specs.Prelude.{◌≡◌, ◌&&◌, ◌<◌, ◌^◌, ltb};
 ghost use Rattle.semantics.specs.Labels.{has as member, relabel as relabeled};
 ghost use Rattle.semantics.specs.FourCases.{case_of, worked};

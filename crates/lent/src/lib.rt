@@ -1,4 +1,6 @@
 // One place put to a lent state over a text. The state is updated in place.
+#![tactic(auto)]
+
 ghost use Rattle.std.specs.Prelude.{◌≡◌};
 ghost use Rattle.replay.specs.Replies.{place_outcome, Put};
 

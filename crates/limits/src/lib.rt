@@ -1,4 +1,5 @@
 // The limits of the documents: each figure stands here, under its name, and everywhere else the name.
+#![tactic(auto)]
 
 // The bytes of a text.
 pub const TEXT: usize = 16_384;

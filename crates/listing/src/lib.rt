@@ -1,4 +1,6 @@
 // The listing of a verdict, or the line of a refusal, written into a lent slice.
+#![tactic(auto)]
+
 ghost use Rattle.std.specs.Prelude.{◌++◌, ◌+◌, ◌*◌, ◌≤◌, length, take};
 ghost use Rattle.model.specs.Places.{place_of};
 ghost use Rattle.model.specs.WellFormed.{GoodRelations};

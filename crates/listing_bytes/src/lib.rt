@@ -1,4 +1,6 @@
 // Bytes, numerals and the items of a form, written into a lent slice from a place on.
+#![tactic(auto)]
+
 ghost use Rattle.std.specs.Prelude.{[], ◌∷◌, ◌++◌, ◌+◌, ◌-◌, ◌≤◌, ◌<◌, length};
 ghost use Rattle.std.proofs.Math.Seq.{slice};
 ghost use Rattle.listing_bytes.specs.Numerals.{decimal};

@@ -1,4 +1,6 @@
 // The numbers of what is said of a run that was put to a text, and of the reason for which it breaks.
+#![tactic(auto)]
+
 ghost use Rattle.std.specs.Prelude.{◌≡◌, ◌<◌};
 ghost use Rattle.reason_codes.specs.Codes.{reasoned as reason_code, explained as explanation_code};
 

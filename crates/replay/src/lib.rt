@@ -1,4 +1,6 @@
 // The replay over a text: a whole run, and one place put to a state by value.
+#![tactic(auto)]
+
 ghost use Rattle.std.specs.Prelude.{◌≡◌};
 ghost use Rattle.replay_session.specs.declared.PlaceAnswer.TheVariants.{Refused};
 ghost use Rattle.replay.specs.Replies.{run_outcome, Replayed, place_outcome, Put};

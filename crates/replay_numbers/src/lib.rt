@@ -1,5 +1,7 @@
 // An accepted model's clauses, stages and counts as plain numbers, which are lent from call to call where the record would be copied.
 // Number 0 is the count of clauses, 1 that of stages, 2 and 3 the carried variables; stage i has the 8 numbers from 8 + 8 i on, clause i those from 40 + 8 i on.
+#![tactic(auto)]
+
 ghost use Rattle.std.specs.Prelude.{◌≡◌, ◌+◌, ◌^◌, ◌≤◌, ◌<◌, length};
 ghost use Rattle.limits.specs.Limits as limit;
 ghost use Rattle.model.specs.WellFormed.{WellFormed};

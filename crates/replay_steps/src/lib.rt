@@ -1,4 +1,6 @@
 // A step put to the replay's state: whether it is allowed, and what it makes of the state. The model and the view are lent as plain numbers.
+#![tactic(auto)]
+
 ghost use Rattle.std.specs.Prelude.{◌≡◌, ◌≢◌, false, List, map, ℕ, ◌+◌, ◌≤◌, ◌<◌, length, drop};
 ghost use Rattle.limits.specs.Limits as limit;
 ghost use Rattle.semantics.specs.Models.{vars, Supported};

@@ -1,4 +1,6 @@
 // The search: the reachable states of a model, their moves, the levels of its question, and the verdict; or that more states are reachable than it has room for.
+#![tactic(auto)]
+
 ghost use Rattle.std.specs.Prelude.{◌≡◌, ◌↔◌, true, false, ◌≤◌, ◌<◌, length};
 ghost use Rattle.limits.specs.Limits as limit;
 ghost use Rattle.semantics.specs.Walkers.{Whole};

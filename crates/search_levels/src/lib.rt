@@ -1,4 +1,6 @@
 // The levels of a question: in which states the carried objects can be with so many stages met, pair by pair, by who can come from which state to which.
+#![tactic(auto)]
+
 ghost use Rattle.std.specs.Prelude.{◌≡◌, ◌↔◌, true, cond, ◌&&◌, ◌||◌, ℕ, suc, ◌+◌, ◌*◌, ◌≤◌, ◌<◌, eqb, length};
 ghost use Rattle.limits.specs.Limits as limit;
 ghost use Rattle.model.specs.Records.{stage_at};

@@ -1,4 +1,6 @@
 // The row of atomic states that a search has found, in order of discovery, each with how it came, and whether the empty one is among them.
+#![tactic(auto)]
+
 ghost use Rattle.std.specs.Prelude.{◌≡◌, ◌≤◌, ◌<◌, length, take};
 ghost use Rattle.limits.specs.Limits as limit;
 ghost use Rattle.semantics.specs.Models.{elem};

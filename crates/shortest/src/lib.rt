@@ -1,4 +1,6 @@
 // The shortest way between two atomic states of a text.
+#![tactic(auto)]
+
 ghost use Rattle.shortest.specs.Ways.{Asks};
 
 use shortest_answer::Answer;

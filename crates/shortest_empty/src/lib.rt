@@ -1,4 +1,6 @@
 // A shortest way from a found state to the empty one, which has no slot: by the nearest slot from where a line empties the object.
+#![tactic(auto)]
+
 ghost use Rattle.std.specs.Prelude.{◌≡◌, ◌≤◌, ◌<◌, length};
 ghost use Rattle.semantics.specs.Facts.{state};
 ghost use Rattle.model.specs.Records.{program_of};

@@ -1,4 +1,6 @@
 // The list of lines that could be struck: whether it is refused, its lines in rising order, and the lines of a choice by its number.
+#![tactic(auto)]
+
 ghost use Rattle.std.specs.Prelude.{◌≡◌, false, ◌&&◌, ◌≤◌, length};
 ghost use Rattle.semantics.specs.Models.{elem};
 ghost use Rattle.model.specs.Records.{program_of};

@@ -1,4 +1,6 @@
 // A model without some of its lines.
+#![tactic(auto)]
+
 ghost use Rattle.std.specs.Prelude.{◌≡◌};
 ghost use Rattle.semantics.specs.Models.{elem};
 ghost use Rattle.model.specs.WellFormed.{WellFormed};

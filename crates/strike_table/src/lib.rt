@@ -1,4 +1,6 @@
 // The table of all choices of lines to strike: each is decided by a search, or settled by one that is decided.
+#![tactic(auto)]
+
 ghost use Rattle.std.specs.Prelude.{◌≡◌, ◌^◌, ◌≤◌, ◌<◌, length};
 ghost use Rattle.limits.specs.Limits as limit;
 ghost use Rattle.semantics.specs.Questions.{Verdict};

@@ -1,4 +1,6 @@
 // The bracket text: every byte list becomes an accepted model, or one listed refusal with its line.
+#![tactic(auto)]
+
 ghost use Rattle.std.specs.Prelude.{◌≡◌, [], ◌≤◌, length};
 ghost use Rattle.limits.specs.Limits as limit;
 ghost use Rattle.grammar.specs.Bytes.{lines};

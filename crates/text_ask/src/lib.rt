@@ -1,4 +1,6 @@
 // The `ask` line after its first word.
+#![tactic(auto)]
+
 ghost use Rattle.std.specs.Prelude.{◌≡◌, List, ◌+◌, ◌≤◌, ◌<◌, length, drop};
 ghost use Rattle.limits.specs.Limits as limit;
 ghost use Rattle.grammar.specs.Forms as forms;

@@ -1,4 +1,6 @@
 // The variables of the `ask` line, numbered over the whole line by first appearance, and those that are carried.
+#![tactic(auto)]
+
 ghost use Rattle.std.specs.Prelude.{◌≡◌, false, List, ◌+◌, ◌≤◌, ◌<◌, length, replicate};
 ghost use Rattle.std.proofs.Math.Seq.{slice};
 ghost use Rattle.limits.specs.Limits as limit;

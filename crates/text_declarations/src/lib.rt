@@ -1,4 +1,6 @@
 // The declarations of the bracket text: `state` and `rel` lines after their first word.
+#![tactic(auto)]
+
 ghost use Rattle.std.specs.Prelude.{◌≡◌, ◌+◌, ◌≤◌, ◌<◌, length, drop};
 ghost use Rattle.std.proofs.Math.Seq.{slice};
 ghost use Rattle.limits.specs.Limits as limit;

@@ -1,4 +1,6 @@
 // The numbers of rows 6 to 8 for a name of a list, a rule's head and a literal; a name is given by its relation code.
+#![tactic(auto)]
+
 ghost use Rattle.std.specs.Prelude.{◌≡◌};
 ghost use Rattle.grammar.specs.Declarations.{arity_of};
 ghost use Rattle.grammar.specs.Rows.{lower, name_fault, head_fault, plain_fault, negated_fault};

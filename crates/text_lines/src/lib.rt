@@ -1,4 +1,6 @@
 // One line of the bracket text that is no `ask` line.
+#![tactic(auto)]
+
 ghost use Rattle.std.specs.Prelude.{◌+◌, ◌≤◌, ◌<◌, length};
 ghost use Rattle.semantics.specs.Models.{Program};
 ghost use Rattle.grammar.specs.Shapes.{Read};

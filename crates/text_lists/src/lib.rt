@@ -1,4 +1,6 @@
 // The lists of state relations of `new` and `next` lines.
+#![tactic(auto)]
+
 ghost use Rattle.std.specs.Prelude.{◌+◌, ◌≤◌, ◌<◌, length};
 ghost use Rattle.text_names.specs.Names as names;
 ghost use Rattle.text_lists.specs.Lists.{NameAdded, RestEnd, ListEnd};

@@ -1,4 +1,6 @@
 // The model record of a text at its beginning, and with the declared names at its end.
+#![tactic(auto)]
+
 ghost use Rattle.std.specs.Prelude.{◌≡◌};
 ghost use Rattle.text_opening.specs.Openings.{blank as blank_record, fitted};
 

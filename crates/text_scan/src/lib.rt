@@ -1,4 +1,6 @@
 // The bytes, words and names of the bracket text. Each reader takes the text and a place in it; a line is read in the text up to its end.
+#![tactic(auto)]
+
 ghost use Rattle.std.specs.Prelude.{◌≡◌, ◌<◌, ◌≤◌, length};
 ghost use Rattle.grammar.specs.Bytes.{letter, alphanumeric, allowed, same};
 ghost use Rattle.text_scan.specs.Found.{NextByte, NextBytes, WordEnd, NameEnd, LineEnd};

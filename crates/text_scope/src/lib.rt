@@ -1,4 +1,6 @@
 // The variables of a clause or a stage: at most three, in order of first appearance, each with whether it stands in a literal without `not`.
+#![tactic(auto)]
+
 ghost use Rattle.std.specs.Prelude.{◌≡◌, ◌≤◌, ◌<◌, length};
 ghost use Rattle.std.proofs.Math.Seq.{slice};
 ghost use Rattle.limits.specs.Limits as limit;

@@ -1,4 +1,6 @@
 // The `ask` line of the bracket text: its stages are read and stored in the model record.
+#![tactic(auto)]
+
 ghost use Rattle.std.specs.Prelude.{◌≡◌, ◌+◌, ◌≤◌, ◌<◌};
 ghost use Rattle.limits.specs.Limits as limit;
 ghost use Rattle.text_stages.specs.Questions.{with_stage, Addable, Added};

@@ -1,4 +1,6 @@
 // The run of a reached question, out of what the search recorded.
+#![tactic(auto)]
+
 ghost use Rattle.std.specs.Prelude.{◌≡◌, ℕ, ◌≤◌, length};
 ghost use Rattle.limits.specs.Limits as limit;
 ghost use Rattle.search_levels.specs.Levels.{levels_bytes};

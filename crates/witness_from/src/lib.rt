@@ -1,4 +1,6 @@
 // The run of a question asked from a database, with one of its objects for the first variable of stage 1.
+#![tactic(auto)]
+
 ghost use Rattle.std.specs.Prelude.{◌≡◌, false, ℕ, ◌+◌, ◌≤◌, ◌<◌, length};
 ghost use Rattle.limits.specs.Limits as limit;
 ghost use Rattle.semantics.specs.Facts.{Database, state};

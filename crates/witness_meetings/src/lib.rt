@@ -1,4 +1,6 @@
 // The meetings of a shown run: the objects that meet a stage, and the places that are written for them.
+#![tactic(auto)]
+
 ghost use Rattle.std.specs.Prelude.{◌≡◌, List, [], ◌∷◌, ℕ, ◌+◌, ◌*◌, ◌≤◌, ◌<◌, length};
 ghost use Rattle.std.proofs.Math.Option.{Option};
 ghost use Rattle.limits.specs.Limits as limit;

@@ -1,4 +1,6 @@
 // The run table: places are written the last first, and turned round at the end.
+#![tactic(auto)]
+
 ghost use Rattle.std.specs.Prelude.{◌≡◌, ◌++◌, reverse, ◌≤◌, length, take, drop};
 
 // Reverses the first n numbers of the table.
