@@ -1,5 +1,4 @@
 use mathlib.Core.Path.{◌∙◌}
-use Prim.Native.Nat.{◌-◌}
 use native.Mathlib.Nat.{add-zero, add_assoc}
 use Rattle.text_scan.proofs.Laws.{bytes-short, bytes-other, bytes-all, bytes-more, bytes-differ}
 use borrow.Author.Rules.{rules}

@@ -1,5 +1,4 @@
 use mathlib.Core.Path.{sym, ◌∙◌}
-use Prim.Native.Nat.{◌-◌}
 use Rattle.text_scan.proofs.Laws.{line-start, line-more, line-found, line-bad, line-unended}
 use borrow.Author.Rules.{rules}
 use Rattle.text_scan.proofs.line_end.Goals as goal

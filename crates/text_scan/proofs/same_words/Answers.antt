@@ -1,5 +1,4 @@
 use mathlib.Core.Path.{sym, ◌∙◌}
-use Prim.Native.Nat.{◌-◌}
 use Rattle.text_scan.proofs.Laws.{same-lengths, same_more, same-differ, nothing}
 use borrow.Author.Rules.{rules}
 use Rattle.text_scan.proofs.same_words.Goals as goal

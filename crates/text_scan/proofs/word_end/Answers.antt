@@ -1,5 +1,4 @@
 use mathlib.Core.Path.{sym, ◌∙◌}
-use Prim.Native.Nat.{◌-◌}
 use Rattle.text_scan.proofs.Laws.{word-start, word_more, word-other, word-all}
 use borrow.Author.Rules.{rules}
 use Rattle.text_scan.proofs.word_end.Goals as goal
