@@ -12,7 +12,7 @@ unfoldable pub names : List Word
 names =
     bytes "S0" ∷ bytes "S1" ∷ bytes "S2" ∷ bytes "S3" ∷ bytes "S4"
     ∷ bytes "R0" ∷ bytes "R1" ∷ bytes "R2" ∷ bytes "R3" ∷ bytes "R4"
-    ∷ bytes "mark_relation"
+    ∷ bytes "M"
     ∷ []
 
 unfoldable pub label : ℕ → Word
