@@ -14,7 +14,7 @@ use Rattle.semantics.specs.Models.{elem, Program}
 use Rattle.semantics.specs.Facts.{Database, state, Meets}
 use Rattle.semantics.specs.Steps.{Pair, Steps}
 use Rattle.semantics.specs.Questions.{Reached}
-use Rattle.semantics.specs.Cases.{unreached, never, some_a, turning}
+use Rattle.semantics.specs.Cases.{never, some_a, turning}
 use Rattle.striking.specs.Striking.{strike, Choice, Before, nothing as none-counted, reached as one-reached, unreached as one-unreached, faulty, some_b, Struck}
 use Rattle.semantics.proofs.Tools.{either, same?, elem-here, each-cons}
 use Rattle.striking.proofs.Striking.{strike-none, still-unreached}
