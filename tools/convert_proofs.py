@@ -16,6 +16,9 @@ import sys
 PATH = re.compile(r"(?<![\w'.\u2080-\u2089′-])([A-Za-z_+κ\u03b1-\u03c9][\w'\u2080-\u2089-]*)((?:\.[A-Za-z0-9_+][\w'\u2080-\u2089-]*)*)")
 
 
+START = ("args", "requires", "ranges", "lifetimes", "well_formed")
+
+
 def plain(name):
     name = name.replace("_", "-")
     return re.sub(r"^overflow-", "", name)
@@ -53,22 +56,29 @@ def resolve(fn, place, fields, notes):
     while i < len(fields) and fields[i] == "before":
         pred = fn.places[place][1]
         if pred is None:
-            notes.append("before the start")
-            return "path", "c." + ".".join(fields)
+            # One `.before` too many today: go by the step's name.
+            rest = [f for f in fields[i:]]
+            while rest and rest[0] == "before":
+                rest.pop(0)
+            if not rest:
+                notes.append("before the start")
+                return "path", "c." + ".".join(fields)
+            return resolve(fn, place, rest, notes)
         place = pred
         i += 1
     if i == len(fields):
         return "place", place
     word, rest = fields[i], fields[i + 1 :]
-    if place == "Start" or (fn.places[place][1] is None):
-        key = "." + word
+    if (place == "Start" or fn.places[place][1] is None) and word in START:
         for a, b in fn.args.items():
             whole = "." + ".".join([word] + rest)
             if whole == a or whole.startswith(a + "."):
                 return "path", "c" + b + whole[len(a) :]
         return "path", "c." + ".".join([word] + rest)
-    if word in ("args", "requires", "ranges", "lifetimes", "well_formed"):
+    if word in START:
         return resolve(fn, "Start", [word] + rest, notes)
+    if place == "Start":
+        place = fn.goal_place
     p = step_of(fn, place, word)
     if p is None:
         # A record that has one `.before` more or fewer today: the step of that name on the way.

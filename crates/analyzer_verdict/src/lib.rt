@@ -16,7 +16,7 @@ use model::{Model, Place};
 use search::Found;
 
 // Reached with the number of places of the shown run and its last place, unreached, or a refusal with its number and line.
-#[derive(Drop)]
+#[derive(Clone, Copy)]
 pub enum Answer {
     Reached { places: usize, last: Place },
     Unreached,
@@ -24,7 +24,7 @@ pub enum Answer {
 }
 
 // An answer, and beside a verdict the reachable atomic states by rising number, the empty one first, and how many they are.
-#[derive(Drop)]
+#[derive(Clone, Copy)]
 pub struct Analysis {
     pub answer: Answer,
     pub states: [u32; LISTED],

@@ -20,7 +20,7 @@ const KINDS: usize = 18;
 pub const CELLS: usize = 3 * KINDS;
 
 // The text's length, or a refusal with its number and line.
-#[derive(Drop)]
+#[derive(Clone, Copy)]
 pub enum Answer {
     Written { length: usize },
     Refused { number: u32, line: u32 },

@@ -24,7 +24,7 @@ use text::Acceptance;
 const LIST: u32 = 19;
 
 // How many lines to strike, that no choice does, or a refusal with its number and line.
-#[derive(Drop)]
+#[derive(Clone, Copy)]
 pub enum Answer {
     Strike { count: usize },
     NoChoice,
@@ -32,7 +32,7 @@ pub enum Answer {
 }
 
 // An answer, and the lines to strike by rising number; the numbers behind them are zero, and all are beside any other answer.
-#[derive(Drop)]
+#[derive(Clone, Copy)]
 pub struct Advice {
     pub answer: Answer,
     pub lines: [u32; MOST],

@@ -12,7 +12,7 @@ use model::Model;
 use text::Acceptance;
 
 // A declared relation: its name begins at byte `from` of the text and has `size` bytes.
-#[derive(Drop)]
+#[derive(Clone, Copy)]
 pub struct Declaration {
     pub from: usize,
     pub size: usize,

@@ -15,7 +15,7 @@ use limits::{BODY, STAGES};
 const FURTHER: usize = STAGES - 1;
 
 // A `next` line's own variable stands from `head` to `headend`, 0 and 0 elsewhere; the other variables from `from` on; the literals from `body` on, each after one byte. All end at `end`: 0 if there is no part.
-#[derive(Drop)]
+#[derive(Clone, Copy)]
 pub struct Part {
     pub head: usize,
     pub headend: usize,

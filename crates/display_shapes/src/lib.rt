@@ -9,7 +9,7 @@ ghost use Rattle.display_shapes.specs.Rows.{Picked};
 use limits::{BODY, LIST};
 
 // The bytes from `from` up to, not including, `to`.
-#[derive(Drop)]
+#[derive(Clone, Copy)]
 pub struct Span {
     pub from: usize,
     pub to: usize,

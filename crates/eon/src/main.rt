@@ -16,7 +16,7 @@ use model::Model;
 const INPUT: usize = TEXT + 1;
 
 // How many bytes were read, or that reading failed.
-#[derive(Drop)]
+#[derive(Clone, Copy)]
 enum Input {
     Bytes { count: usize },
     Failed,

@@ -29,7 +29,7 @@ use replay_session::{Answer, Position, Session};
 use text::Acceptance;
 
 // What is said of a run: a refusal with its number and line, that it is kept, or that it is broken at a place, and why.
-#[derive(Drop)]
+#[derive(Clone, Copy)]
 pub enum Explanation {
     Refused { number: u32, line: u32 },
     Kept,

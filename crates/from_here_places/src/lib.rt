@@ -12,7 +12,7 @@ use model::Model;
 use replay_session::{Answer, Session};
 
 // Whether all places are allowed, and then where they lead.
-#[derive(Drop)]
+#[derive(Clone, Copy)]
 pub struct Standing {
     pub kept: bool,
     pub session: Session,

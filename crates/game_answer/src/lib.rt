@@ -26,14 +26,14 @@ const BAD_LIST: u32 = 21;
 const OTHER_FORM: u32 = 22;
 
 // The game is told, or refused with a number and a line.
-#[derive(Drop)]
+#[derive(Clone, Copy)]
 pub enum Answer {
     Told,
     Refused { number: u32, line: u32 },
 }
 
 // An answer, and beside a told game the reachable states by rising number, the empty one first, for each the fewest moves of the attacker, 255 where it is the guardian's, and how many states they are.
-#[derive(Drop)]
+#[derive(Clone, Copy)]
 pub struct Game {
     pub answer: Answer,
     pub states: [u32; LISTED],

@@ -13,7 +13,7 @@ use handin_lines::{Said, Verdict, read_line, read_verdict};
 use limits::{HANDIN, RUN};
 
 // What a hand-in says: no; or yes, with so many places, the first on line `first`; or it is unreadable at a line.
-#[derive(Drop)]
+#[derive(Clone, Copy)]
 pub enum Handin {
     No,
     Yes { first: u32, places: usize },
@@ -21,7 +21,7 @@ pub enum Handin {
 }
 
 // Where a line begins, and its number.
-#[derive(Drop)]
+#[derive(Clone, Copy)]
 struct Start {
     at: usize,
     line: u32,

@@ -17,7 +17,7 @@ use model::{Place, number_of};
 use text_scan::{at_byte, at_bytes, same_words};
 
 // What the first line says.
-#[derive(Drop)]
+#[derive(Clone, Copy)]
 pub enum Verdict {
     Yes,
     No,
@@ -25,7 +25,7 @@ pub enum Verdict {
 }
 
 // What a line after the first says: nothing, or the place with this number.
-#[derive(Drop)]
+#[derive(Clone, Copy)]
 pub enum Said {
     Nothing,
     Place { number: u32 },
@@ -33,7 +33,7 @@ pub enum Said {
 }
 
 // A number, and where it ends: 0 if there is none.
-#[derive(Drop)]
+#[derive(Clone, Copy)]
 struct Number {
     value: u32,
     end: usize,

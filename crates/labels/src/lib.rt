@@ -10,7 +10,7 @@ ghost use Rattle.labels.specs.Cases.{said};
 const RELATIONS: u32 = 32;
 
 // The cases of the paper's section 2.2 for one relation: it stands in the first list alone, in the second alone, in both, or in neither.
-#[derive(Drop)]
+#[derive(Clone, Copy)]
 enum Case {
     Set,
     Cleared,

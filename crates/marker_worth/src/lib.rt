@@ -19,7 +19,7 @@ use model::Model;
 use replay_session::Answer;
 
 // The text is refused, or too many states are reachable for a verdict; the hand-in is unreadable at a line; it is right; the verdict is the other one; its run breaks at a place, which stands on a line of the hand-in.
-#[derive(Drop)]
+#[derive(Clone, Copy)]
 pub enum Mark {
     Refused { number: u32, line: u32 },
     Unreadable { line: u32 },

@@ -22,7 +22,7 @@ use model::{Action, Clause, Place, Stage};
 use replay_session::Position;
 
 // Why a place of a run is not allowed: the run ended with a stage left; all stages are met; the line is no `new` or `next` line; the object is not the next one; it is not there; another stage is next; the stage has another number of variables; a carried variable stands for another object; or the literal at a place of the body is to blame.
-#[derive(Drop)]
+#[derive(Clone, Copy)]
 pub enum Reason {
     Ends,
     Done,

@@ -12,7 +12,7 @@ use limits::{CARRIED, NONE, OBJECTS, RUN};
 use model::{Model, Relations};
 
 // The replay's answer to a run: kept, broken at a place, or a refusal with its number and line.
-#[derive(Drop)]
+#[derive(Clone, Copy)]
 pub enum Answer {
     Kept,
     Broken { place: usize },
@@ -20,7 +20,7 @@ pub enum Answer {
 }
 
 // The answer to one place: kept with the number of those who stood by, broken at the count of places kept, or a refusal with its number and line.
-#[derive(Drop)]
+#[derive(Clone, Copy)]
 pub enum PlaceAnswer {
     Kept { stood: u32 },
     Broken { place: usize },
@@ -28,7 +28,7 @@ pub enum PlaceAnswer {
 }
 
 // The replay's state: the database, the stages met, the carried objects in the order of their variables (255 for none) and the count of places kept.
-#[derive(Drop)]
+#[derive(Clone, Copy)]
 pub struct Session {
     pub states: [u32; OBJECTS],
     pub objects: usize,
@@ -38,7 +38,7 @@ pub struct Session {
 }
 
 // The replay's state but for the states of the objects.
-#[derive(Drop)]
+#[derive(Clone, Copy)]
 pub struct Position {
     pub objects: usize,
     pub met: usize,

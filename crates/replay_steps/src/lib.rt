@@ -28,7 +28,7 @@ use model::{Action, Clause};
 use replay_session::Position;
 
 // Whether a place is allowed; the object that it gave a state, or NONE, and that state; the position after it; and the number of those who stood by, which only a step has.
-#[derive(Drop)]
+#[derive(Clone, Copy)]
 pub struct Outcome {
     pub allowed: bool,
     pub object: usize,

@@ -20,7 +20,7 @@ use search_states::{Listing, States};
 use search_ways::{MATRIX, TABLE};
 
 // From which slots each clause can be taken, to which slots one step at most leads from each slot, and to which any number of steps.
-#[derive(Drop)]
+#[derive(Clone, Copy)]
 pub struct Moves {
     pub table: [u8; TABLE],
     pub steps: [u8; MATRIX],
@@ -28,7 +28,7 @@ pub struct Moves {
 }
 
 // The reachable states in order of discovery and by rising number, and their moves; or that there are too many states, and then the rest says nothing.
-#[derive(Drop)]
+#[derive(Clone, Copy)]
 pub struct Explored {
     pub states: States,
     pub listing: Listing,
@@ -37,7 +37,7 @@ pub struct Explored {
 }
 
 // What is explored, the levels of the question, and whether it is reached.
-#[derive(Drop)]
+#[derive(Clone, Copy)]
 pub struct Found {
     pub states: States,
     pub listing: Listing,

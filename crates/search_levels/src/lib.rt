@@ -26,20 +26,20 @@ pub const LEVELS: usize = (STAGES + 1) * MATRIX;
 
 // Matrix k has the pairs of level k, with k stages met: bit e of its row f is set if the object of the first carried variable can be in slot e while that of the
 // second is in slot f. As long as a variable stood in no stage its slot is 0 and says nothing.
-#[derive(Drop)]
+#[derive(Clone, Copy)]
 pub struct Levels {
     pub rows: [u8; LEVELS],
 }
 
 // What stage 1 asks besides of the object of its first variable: that its slot is in the row, or nothing.
-#[derive(Drop)]
+#[derive(Clone, Copy)]
 pub struct Pointing {
     pub given: bool,
     pub among: [u8; BYTES],
 }
 
 // A carried variable at a stage: its number in the stage, whether it stands there, and whether it stood in a stage before.
-#[derive(Drop)]
+#[derive(Clone, Copy)]
 struct Walker {
     seat: usize,
     stands: bool,
@@ -47,7 +47,7 @@ struct Walker {
 }
 
 // A stage with the two carried variables, and what is asked besides of its first variable.
-#[derive(Drop)]
+#[derive(Clone, Copy)]
 struct Meeting {
     part: Part,
     first: Walker,

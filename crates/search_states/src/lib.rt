@@ -11,7 +11,7 @@ ghost use Rattle.search_states.specs.Rising.{nearest, Least, Lists};
 use limits::{ATOMIC, LISTED, SETS};
 
 // State i came by line lines[i] from state origins[i]. The empty state has no place in the row: it moves nothing and stands for no variable. A state more than the row has room for is noted as one too many.
-#[derive(Drop)]
+#[derive(Clone, Copy)]
 pub struct States {
     pub states: [u32; ATOMIC],
     pub lines: [u32; ATOMIC],
@@ -22,7 +22,7 @@ pub struct States {
 }
 
 // The states by rising number.
-#[derive(Drop)]
+#[derive(Clone, Copy)]
 pub struct Listing {
     pub states: [u32; LISTED],
     pub count: usize,

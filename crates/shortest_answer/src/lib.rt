@@ -23,7 +23,7 @@ use search_states::States;
 const NOT_REACHABLE: u32 = 23;
 
 // A shortest way with the number of its steps, that there is no way, or a refusal with its number and line.
-#[derive(Drop)]
+#[derive(Clone, Copy)]
 pub enum Answer {
     Way { steps: usize },
     NoWay,

@@ -15,7 +15,7 @@ use model::{Action, Model};
 pub const MOST: usize = 10;
 
 // Lines in rising order, and how many they are; the numbers behind them are zero.
-#[derive(Drop)]
+#[derive(Clone, Copy)]
 pub struct Lines {
     pub lines: [u32; MOST],
     pub count: usize,

@@ -26,7 +26,7 @@ pub const REACHED: u8 = 1;
 pub const UNREACHED: u8 = 2;
 
 // What is said of each choice by its number, and how many choices there are; or that there are too many states, and then nothing is said.
-#[derive(Drop)]
+#[derive(Clone, Copy)]
 pub struct Table {
     pub said: [u8; CHOICES],
     pub total: usize,

@@ -22,7 +22,7 @@ use text::Acceptance;
 const LIST: u32 = 19;
 
 // How many choices are reached and how many unreached, and the reached share in whole hundredths with its remainder; or a refusal with its number and line.
-#[derive(Drop)]
+#[derive(Clone, Copy)]
 pub enum Count {
     Counted {
         reached: u32,

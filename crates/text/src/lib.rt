@@ -15,14 +15,14 @@ use model::Model;
 use text_names::Declared;
 
 // Whether the text is accepted; if not, the refusal's number and line.
-#[derive(Drop)]
+#[derive(Clone, Copy)]
 pub enum Acceptance {
     Accepted,
     Refused { number: u32, line: u32 },
 }
 
 // The answer to a text, and the model of an accepted one.
-#[derive(Drop)]
+#[derive(Clone, Copy)]
 pub struct Reading {
     pub answer: Acceptance,
     pub model: Model,

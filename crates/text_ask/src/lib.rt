@@ -19,14 +19,14 @@ use text_stages::Asking;
 const FURTHER: usize = STAGES - 1;
 
 // The stages, and where they end: 0 if they do not.
-#[derive(Drop)]
+#[derive(Clone, Copy)]
 pub struct Stages {
     pub asking: Asking,
     pub end: usize,
 }
 
 // The `ask` line: its row number, 3 if it has no shape and 0 if it is accepted, and then the record with its stages.
-#[derive(Drop)]
+#[derive(Clone, Copy)]
 pub struct Asked {
     pub number: u32,
     pub model: Model,

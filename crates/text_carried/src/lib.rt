@@ -13,7 +13,7 @@ use limits::{ASKED, CARRIED, NONE, VARIABLES};
 use text_scope::Scope;
 
 // Variable i stands first from starts[i] to ends[i]; again[i] says whether it stands in a second stage.
-#[derive(Drop)]
+#[derive(Clone, Copy)]
 pub struct Table {
     pub count: usize,
     pub starts: [usize; ASKED],
@@ -22,14 +22,14 @@ pub struct Table {
 }
 
 // The carried variables in order of first appearance, 255 in a cell that has none, and whether there are more than cells.
-#[derive(Drop)]
+#[derive(Clone, Copy)]
 pub struct Carriers {
     pub cells: [u32; CARRIED],
     pub many: bool,
 }
 
 // The table with a stage's variables, and their numbers in the line.
-#[derive(Drop)]
+#[derive(Clone, Copy)]
 pub struct Numbering {
     pub table: Table,
     pub numbers: [u32; VARIABLES],

@@ -12,7 +12,7 @@ use limits::{PAIRS, RELS, STATES};
 use text_names::Declared;
 
 // A declaration: its row number, 3 if it has no shape and 0 if it is accepted, and the declared names with it.
-#[derive(Drop)]
+#[derive(Clone, Copy)]
 pub struct Declaration {
     pub number: u32,
     pub declared: Declared,

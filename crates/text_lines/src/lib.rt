@@ -16,7 +16,7 @@ use text_clauses::Reading;
 use text_names::Declared;
 
 // The line's row number, 3 if it has no shape and 0 if it is accepted, and the declarations and the model with it.
-#[derive(Drop)]
+#[derive(Clone, Copy)]
 pub struct Step {
     pub number: u32,
     pub declared: Declared,

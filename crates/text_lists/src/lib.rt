@@ -12,14 +12,14 @@ use text_names::Declared;
 const FURTHER: usize = LIST - 1;
 
 // The lowest row number of the names so far, and the set of their relations, which counts only where there is no fault.
-#[derive(Drop)]
+#[derive(Clone, Copy)]
 pub struct Chosen {
     pub fault: u32,
     pub set: u32,
 }
 
 // A list, and where it ends: 0 if there is none.
-#[derive(Drop)]
+#[derive(Clone, Copy)]
 pub struct List {
     pub chosen: Chosen,
     pub end: usize,

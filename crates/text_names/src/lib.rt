@@ -10,7 +10,7 @@ ghost use Rattle.text_names.specs.Names.{declared_of, Valid, found, tally, added
 use limits::DECLARED;
 
 // Name i begins at byte names[i], has lengths[i] bytes and the relation code codes[i].
-#[derive(Drop)]
+#[derive(Clone, Copy)]
 pub struct Declared {
     pub codes: [u32; DECLARED],
     pub names: [u32; DECLARED],

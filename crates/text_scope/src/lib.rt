@@ -11,7 +11,7 @@ ghost use Rattle.text_scope.specs.Scopes.{Valid, known_of, marks_of, entered};
 use limits::VARIABLES;
 
 // Variable i stands first from starts[i] to ends[i].
-#[derive(Drop)]
+#[derive(Clone, Copy)]
 pub struct Scope {
     pub count: usize,
     pub starts: [usize; VARIABLES],

@@ -12,7 +12,7 @@ use text_carried::Table;
 use text_literals::Frame;
 
 // The lowest row number of the stages so far; where there is none, their variables and the record with them.
-#[derive(Drop)]
+#[derive(Clone, Copy)]
 pub struct Asking {
     pub number: u32,
     pub table: Table,

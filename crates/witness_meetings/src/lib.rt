@@ -23,7 +23,7 @@ use model::{Model, Place, Stage};
 use search_states::States;
 
 // The objects of a shown run: object base + i has the found state i, and two more stand for the carried variables.
-#[derive(Drop)]
+#[derive(Clone, Copy)]
 pub struct Cast {
     pub base: u32,
     pub first: u32,

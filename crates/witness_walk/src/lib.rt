@@ -23,14 +23,14 @@ use search_states::States;
 use witness_meetings::Cast;
 
 // The slots of the two carried objects; a slot says nothing as long as its variable stood in no stage.
-#[derive(Drop)]
+#[derive(Clone, Copy)]
 pub struct Pair {
     pub first: usize,
     pub second: usize,
 }
 
 // A level, the slots of the carried objects there, and the index at which the place before is written.
-#[derive(Drop)]
+#[derive(Clone, Copy)]
 pub struct Stand {
     pub level: usize,
     pub first: usize,
