@@ -38,6 +38,10 @@ extend-news seen (x ∷ xs) = ⊎_elim
     (λ (q : member x seen ≡ false). rw q (extend-news (seen ++ (x ∷ [])) xs ∙ append_assoc seen (x ∷ []) (news (seen ++ (x ∷ [])) xs)))
     (either (member x seen))
 
+extend-seen : (seen xs : List Word) (x : Word) → member x seen ≡ true → extend seen (x ∷ xs) ≡ extend seen xs
+unfolding extend
+extend-seen seen xs x e = rw e
+
 extend-fresh : (seen xs : List Word) (x : Word) → member x seen ≡ false → extend seen (x ∷ xs) ≡ extend (seen ++ (x ∷ [])) xs
 unfolding extend
 extend-fresh seen xs x e = rw e
@@ -86,10 +90,12 @@ pub numbers-in-order : (seen xs : List Word) (S : List ℕ) → ((i : ℕ) → e
 unfolding firsts extend
 numbers-in-order seen [] S h = refl
 numbers-in-order seen (x ∷ xs) S h = ⊎_elim
-    (λ (q : member x seen ≡ true). rw (q, h (place (extend seen xs) x), lt-ltb (place (extend seen xs) x) (length seen) (place-seen seen xs x q)) (numbers-in-order seen xs S h))
-    (λ (q : member x seen ≡ false). rw (q, place-next seen xs x q, h (length seen), le-ltb (length seen) (length seen) (omega arith))
+    (λ (q : member x seen ≡ true). subst (λ (E : List Word). firsts S (map (place E) (x ∷ xs)) ≡ up_from (length seen) (length (news seen (x ∷ xs)))) (sym (extend-seen seen xs x q))
+    (rw (q, h (place (extend seen xs) x), lt-ltb (place (extend seen xs) x) (length seen) (place-seen seen xs x q)) (numbers-in-order seen xs S h)))
+    (λ (q : member x seen ≡ false). subst (λ (E : List Word). firsts S (map (place E) (x ∷ xs)) ≡ up_from (length seen) (length (news seen (x ∷ xs)))) (sym (extend-fresh seen xs x q))
+    (rw (q, place-next seen xs x q, h (length seen), le-ltb (length seen) (length seen) (omega arith))
     (ap {B = List ℕ} (λ (l : List ℕ). length seen ∷ l) (rw (length-snoc seen x) at
-    (numbers-in-order (seen ++ (x ∷ [])) xs (length seen ∷ S) (λ i. rw (length-snoc seen x) (one_more S (length seen) h i))))))
+    (numbers-in-order (seen ++ (x ∷ [])) xs (length seen ∷ S) (λ i. rw (length-snoc seen x) (one_more S (length seen) h i)))))))
     (either (member x seen))
 
 -- a rule's head with no variable repeated has the first numbers
@@ -99,8 +105,9 @@ head-numbers seen [] xs h r = refl
 head-numbers seen (x ∷ hs) xs h r =
     let new = h x (member-here x hs) in
     let once = or-false (member x hs) (repeats hs) r in
-    rw (extend-fresh seen (hs ++ xs) x new, place-next seen (hs ++ xs) x new)
-    (ap {B = List ℕ} (λ (l : List ℕ). length seen ∷ l) (rw (length-snoc seen x) at (head-numbers (seen ++ (x ∷ [])) hs xs (apart once.0) once.1)))
+    subst (λ (E : List Word). map (place E) (x ∷ hs) ≡ up_from (length seen) (suc (length hs))) (sym (extend-fresh seen (hs ++ xs) x new))
+    (rw (place-next seen (hs ++ xs) x new)
+    (ap {B = List ℕ} (λ (l : List ℕ). length seen ∷ l) (rw (length-snoc seen x) at (head-numbers (seen ++ (x ∷ [])) hs xs (apart once.0) once.1))))
   where
     apart : member x hs ≡ false → (y : Word) → member y hs ≡ true → member y (seen ++ (x ∷ [])) ≡ false
     apart o y e = ⊎_elim
