@@ -61,14 +61,14 @@ def resolve(fn, place, fields, notes):
             while rest and rest[0] == "before":
                 rest.pop(0)
             if not rest:
-                notes.append("before the start")
-                return "path", "c." + ".".join(fields)
+                return "place", place
             return resolve(fn, place, rest, notes)
         place = pred
         i += 1
     if i == len(fields):
         return "place", place
     word, rest = fields[i], fields[i + 1 :]
+    word = "well_formed" if word == "well-formed" else word
     if (place == "Start" or fn.places[place][1] is None) and word in START:
         for a, b in fn.args.items():
             whole = "." + ".".join([word] + rest)
@@ -87,6 +87,8 @@ def resolve(fn, place, fields, notes):
             at = fn.places[at][1]
         if at is not None:
             place, p = at, fn.places[at]
+    if p is None and word.endswith("_lem"):
+        return resolve(fn, place, [word[:-4]] + rest, notes)
     if p is None:
         notes.append(f"{place} has no step {word}")
         return "path", "c.BYHAND-" + word + "." + ".".join(rest)
@@ -94,14 +96,14 @@ def resolve(fn, place, fields, notes):
     if arm:
         return "path", "c." + arm
     new = p[2][1]
-    if len(rest) >= 2 and rest[0] == "new" and p[3] in fn.params:
+    if len(rest) >= 2 and rest[0] in ("new", "kept", "auto") and p[3] in fn.params:
         k, j = 0, 1
         while j < len(rest) and rest[j] == "1":
             k += 1
             j += 1
         names = fn.params[p[3]]
         if j < len(rest) and rest[j] == "0" and k < len(names):
-            rest = ["new", names[k]] + rest[j + 1 :]
+            rest = ["new" if rest[0] == "new" else "auto", names[k]] + rest[j + 1 :]
     return "path", "c." + ".".join([new] + rest)
 
 
@@ -172,6 +174,10 @@ def turn_body(fn, place, text, helpers, goal, notes, var="c"):
                     place_, fields_ = at, fields
                 else:
                     place_, fields_ = at[0], at[1] + fields
+                if fields_[-1:] == ["given"]:
+                    env[v] = ("path", (place_, fields_), "\0", v)
+                    pos = m.end()
+                    continue
                 env[v] = ("path", (place_, fields_), t[1], v)
                 out.append(text[m.start() : m.start()] + f"let {v} = {t[1]} in" + text[m.end() - len(m.group(0)) + len(m.group(0).rstrip()) : m.end()])
         else:
@@ -199,6 +205,8 @@ def turn_body(fn, place, text, helpers, goal, notes, var="c"):
                     out.append(new)
         pos = m.end()
     body = "".join(out)
+    # A test of `!x` says today what it says of x.
+    body = re.sub(r"\(not-(?:true|false) (?:_|[\w.'-]+|\([^()]*\)) ([\w.'-]+\.if-not-[\w-]+\.(?:true|false))\)", r"\1", body)
     # Lines that only held an alias.
     body = re.sub(r"\n[ \t]*(?=\n)", "", body)
     return body
@@ -245,9 +253,9 @@ def arm_text(fn, old, side, text, notes):
         if k < len(steps):
             if k == 0:
                 rest = rest.replace(".taken", ".true").replace(".left", ".false")
-            new = re.match(r"\.new((?:\.1)*)\.0(.*)$", rest, re.S)
-            if new and steps[k][3] in fn.params and len(new.group(1)) // 2 < len(fn.params[steps[k][3]]):
-                rest = ".new." + fn.params[steps[k][3]][len(new.group(1)) // 2] + new.group(2)
+            new = re.match(r"\.(new|kept|auto)((?:\.1)*)\.0(.*)$", rest, re.S)
+            if new and steps[k][3] in fn.params and len(new.group(2)) // 2 < len(fn.params[steps[k][3]]):
+                rest = (".new." if new.group(1) == "new" else ".auto.") + fn.params[steps[k][3]][len(new.group(2)) // 2] + new.group(3)
             return f"{w}.{steps[k][2][1]}{rest}"
         return f"{w}.PART{k - len(steps)}-is{rest}"
 
@@ -389,7 +397,7 @@ def convert(crate, name, info, text):
             continue
         if "tie." in ty or "tie." in body:
             # A lemma over the record of a place.
-            at = re.search(r"tie\.((?:After|Then|Else|In|At|Joined)[\w-]*)", ty)
+            at = re.search(r"tie\.((?:Start|After|Then|Else|In|At|Joined)[\w-]*)", ty)
             place = fn.place_by_plain.get(plain(at.group(1))) if at else None
             if not place:
                 notes.append("by hand: " + own)

@@ -28,6 +28,10 @@ abbrev pub Front : ℕ → Input → Type 0
 Front n (Bytes k) = k ≤ n
 Front n Failed = Unit {0}
 
+-- OUTPUT: a count of bytes that the buffer has
+abbrev pub IsPrefixLen : ℕ → List ℕ → Type 0
+IsPrefixLen n out = (n ≤ length out) × (n ≡ length (take n out))
+
 -- AN ANALYSIS that can be listed, and its listing: the first k states, and of a reached question the run
 abbrev pub Ready : List ℕ → Model → List ℕ → ℕ → List ℕ → Answer → Type 0
 Ready text m states k run (Reached n last) = Listable text m states k run n

@@ -3,14 +3,14 @@
 
 ghost use Rattle.std.specs.Prelude.{◌≤◌, length, take};
 ghost use Rattle.limits.specs.Limits as limit;
-ghost use Rattle.io.specs.Counts.{IsPrefixLen};
 ghost use Rattle.listing.specs.Report.{size};
-ghost use Rattle.eon.specs.Output.{Front, Ready, Shows, Output};
+ghost use Rattle.eon.specs.Output.{Front, IsPrefixLen, Ready, Shows, Output};
 
 use analyzer_verdict::{Analysis, Answer};
-use libc::{STDIN_FILENO, STDOUT_FILENO};
 use limits::{RUN, TEXT, WORK};
 use model::Model;
+use std::io;
+use std::io::{ErrorKind, Print, Read, Write};
 
 // One byte more than a text may have, so that a longer one is refused by its first bytes.
 const INPUT: usize = TEXT + 1;
@@ -23,20 +23,16 @@ enum Input {
 }
 
 // Reads until the buffer is full or the input ends.
-fn read_input(text: &mut [u8]) -> Input
+fn read_input<R: Read>(source: &mut R, text: &mut [u8]) -> Input
     ensures { Front (length text.new) result }
 {
     let mut done = 0;
     while done < text.len() {
-        let got = libc::read(STDIN_FILENO, &mut text[done..]);
-        if got < 0 {
-            return Input::Failed;
+        match source.read(&mut text[done..]) {
+            Err(_) => return Input::Failed,
+            Ok(0) => return Input::Bytes { count: done },
+            Ok(n) => done += n,
         }
-        let n = io::count(got, &text[done..]);
-        if n == 0 {
-            return Input::Bytes { count: done };
-        }
-        done += n;
     }
     Input::Bytes { count: done }
 }
@@ -69,22 +65,20 @@ fn mark(text: &[u8], work: &mut [u8], run: &mut [u32], out: &mut [u8]) -> usize
     list(out, text, m, analysis, run)
 }
 
-// Writes the listing of the text, or says on standard error that writing failed.
-fn answer(text: &[u8]) {
+// Writes the listing of the text.
+fn answer(rt: &impl Print, text: &[u8]) -> io::Result<()> {
     let mut work = [0u8; WORK];
     let mut run = [0u32; RUN];
     let mut out = [0u8; listing::SIZE];
     let n = mark(text, &mut work, &mut run, &mut out);
-    if !io::write_all(STDOUT_FILENO, &out[..n]) {
-        os::fail(b"write");
-    }
+    io::writer(rt).write_all(&out[..n])
 }
 
-fn main() {
+fn main(rt: HostRuntime) -> io::Result<()> {
     let mut text = [0u8; INPUT];
-    let input = read_input(&mut text);
+    let input = read_input(&mut rt.reader(), &mut text);
     match input {
-        Input::Bytes { count } => answer(&text[..count]),
-        Input::Failed => os::fail(b"read"),
+        Input::Bytes { count } => answer(&rt, &text[..count]),
+        Input::Failed => Err(io::Error::new(ErrorKind::Other, "read")),
     }
 }

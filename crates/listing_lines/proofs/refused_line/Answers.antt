@@ -1,0 +1,9 @@
+-- `listing::refused_line` meets its contract.
+use Rattle.listing_bytes.proofs.Writing.{after, whole-line}
+use Rattle.listing_lines.specs.Lines.{refused_line}
+use Rattle.listing_lines.proofs.refused_line.Goals as goal
+
+pub returns : goal.returns
+unfolding refused_line
+returns c =
+    whole-line (after c.put_bytes-word.ensures c.put_pair.ensures)

@@ -1,0 +1,16 @@
+-- `listing::verdict_line` meets its contract.
+use Rattle.listing_bytes.proofs.Writing.{whole-line}
+use Rattle.listing_lines.specs.Lines.{verdict_line}
+use Rattle.listing_lines.proofs.verdict_line.Goals as goal
+
+pub returns-then-reached : goal.returns-then-reached
+unfolding verdict_line
+returns-then-reached c =
+    let e = c.if-reached.true in
+    rw e (whole-line c.put_bytes.ensures)
+
+pub returns : goal.returns
+unfolding verdict_line
+returns c =
+    let e = c.if-reached.false in
+    rw e (whole-line c.put_bytes-2.ensures)
