@@ -1,4 +1,3 @@
-use Prim.Native.Nat.{◌-◌}
 use Rattle.grammar.specs.Shapes.{literal}
 use Rattle.display_shapes.proofs.Laws.{Going}
 use Rattle.display_shapes.proofs.literals_end.Given as goal

@@ -1,4 +1,3 @@
-use Prim.Native.Nat.{◌-◌}
 use Rattle.grammar.specs.Shapes.{name}
 use Rattle.display_shapes.proofs.Laws.{Going}
 use Rattle.display_shapes.proofs.names_end.Given as goal

@@ -1,4 +1,3 @@
-use Prim.Native.Nat.{◌-◌}
 use native.Mathlib.Omega.{arith}
 use Rattle.display_shapes.proofs.Rows.{walking_start, walking-out, walking-closed, walking-fails, walking-found, walking-more}
 use borrow.Author.Rules.{rules}

@@ -1,4 +1,3 @@
-use Prim.Native.Nat.{◌-◌}
 use native.Mathlib.Omega.{arith}
 use Rattle.display_shapes.proofs.Laws.{going_start, going_more, going-closed, going-fails, going-ends, going-full}
 use borrow.Author.Rules.{rules}

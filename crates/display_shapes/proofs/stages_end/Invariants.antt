@@ -1,4 +1,3 @@
-use Prim.Native.Nat.{◌-◌}
 use Rattle.grammar.specs.Shapes.{stage}
 use Rattle.display_shapes.proofs.Laws.{Going}
 use Rattle.display_shapes.proofs.stages_end.Given as goal

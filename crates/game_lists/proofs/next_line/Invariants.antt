@@ -1,6 +1,5 @@
 use mathlib.Core.Logic.{◌≢◌}
 use Prim.Native.Nat.{ℕ, ◌-◌, ◌≤◌, ◌<◌}
-use Rattle.semantics.specs.Models.{line}
 use Rattle.model.specs.Records.{clause_at}
 use Rattle.game_lists.proofs.next_line.Given as goal
 

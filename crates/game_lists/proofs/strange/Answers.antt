@@ -1,12 +1,8 @@
 use mathlib.Core.Path.{sym, ◌∙◌}
-use mathlib.Core.Bool.{true}
-use Prim.Native.Nat.{◌-◌}
 use native.Mathlib.Omega.{arith}
 use borrow.Author.Count.{below_more}
-use borrow.Author.Tests.{not-true, not-false}
 use Rattle.model.specs.Records.{program_of}
 use Rattle.game_lists.proofs.Laws.{strange-some, strange-none}
-use Rattle.std.proofs.lemmas.Bool.{not-true, not-false}
 use Rattle.game_lists.proofs.strange.Goals as goal
 
 pub loop-j-init : goal.loop-j-init

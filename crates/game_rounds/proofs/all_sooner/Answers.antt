@@ -1,6 +1,4 @@
 use mathlib.Core.Path.{sym, ◌∙◌}
-use mathlib.Core.Bool.{true}
-use Prim.Native.Nat.{◌-◌}
 use native.Mathlib.Omega.{arith}
 use borrow.Author.Count.{below_more}
 use borrow.Author.Tests.{lt-ltb, le-ltb}
@@ -8,7 +6,7 @@ use Rattle.semantics.proofs.Tools.{clash}
 use Rattle.game_rounds.specs.Board.{sooner}
 use Rattle.game_rounds.proofs.Slots.{one-fails, all_found}
 use Rattle.game_rounds.proofs.all_sooner.Goals as goal
-use Rattle.game_rounds.proofs.all_sooner.Goals.{else-get, then-get}
+use Rattle.game_rounds.proofs.all_sooner.Goals.{else-get, then-get+else-ranks-t}
 
 pub loop-t-init : goal.loop-t-init
 loop-t-init c = (omega arith, λ u l. absurd (omega (arith, l)))
@@ -42,7 +40,7 @@ loop-t-smaller c = omega (arith, c.loop-t-test.true)
 pub loop-t-preserved : goal.loop-t-preserved
 loop-t-preserved c = (
   omega (arith, c.loop-t-test.true),
-  below_more _ _ c.loop-t.invariant.1 (λ q. (elim (c.if-get.branch) [ then-get w ↦ lt-ltb _ _ w.PART1-is.left | else-get w ↦ clash q (sym c.get.ensures ∙ w.left) ])),
+  below_more _ _ c.loop-t.invariant.1 (λ q. (elim (c.if-get.branch) [ then-get+else-ranks-t w ↦ lt-ltb _ _ w.if-ranks-t.false | else-get w ↦ clash q (sym c.get.ensures ∙ w.if-get.false) ])),
 )
 
 pub returns : goal.returns

@@ -1,5 +1,5 @@
 use mathlib.Core.Path.{sym, ◌∙◌}
-use Prim.Native.Nat.{◌-◌, ◌<◌}
+use Prim.Native.Nat.{◌<◌}
 use native.Mathlib.Omega.{arith}
 use Rattle.limits.specs.Limits as limit
 use Rattle.game_rounds.proofs.Turning.{beginning-none, beginning-met, beginning-kept, beginning-all}

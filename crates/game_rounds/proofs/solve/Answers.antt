@@ -1,12 +1,11 @@
 use mathlib.Core.Path.{◌≡◌, refl, sym, ◌∙◌}
 use mathlib.Core.Logic.{inl, inr}
-use Prim.Native.Nat.{ℕ, suc, ◌-◌, ◌≤◌}
+use Prim.Native.Nat.{ℕ, suc, ◌≤◌}
 use native.Mathlib.Omega.{arith}
-use borrow.Author.Tests.{not-true, not-false}
 use Rattle.game_rounds.specs.Board.{board}
 use Rattle.game_rounds.proofs.Numbers.{Agree, begun, next-round, last-round}
 use Rattle.game_rounds.proofs.solve.Goals as goal
-use Rattle.game_rounds.proofs.solve.Goals.{At-loop-second, else-not-moved, then-not-moved}
+use Rattle.game_rounds.proofs.solve.Goals.{At-loop-second, else-not-moved, then-not-moved+else-not-answered}
 
 -- after k rounds
 so : (c : At-loop-second) → let a = c.args in (k : ℕ) × (c.loop-second.round ≡ suc k) × (k ≤ 252) × Agree (board a.ours.now a.theirs.now a.met a.n) a.n k c.loop-second.first c.loop-second.second
@@ -46,7 +45,7 @@ returns-then-not-answered c =
     let k = so (goal.at.returns-then-not-answered c).At-loop-second in
     let t = c.turn-moved in
     let u = c.turn-answered in
-    last-round a.ours.now a.theirs.now a.met a.n c.requires k.0 l.round k.1 k.2 l.first l.second k.3 t.new.ranks t.result t.ensures u.new.ranks u.result u.ensures (not-true t.result c.if-not-moved.true) (not-true u.result c.if-not-answered.true)
+    last-round a.ours.now a.theirs.now a.met a.n c.requires k.0 l.round k.1 k.2 l.first l.second k.3 t.new.ranks t.result t.ensures u.new.ranks u.result u.ensures c.if-not-moved.true c.if-not-answered.true
 
 pub overflow_add-round : goal.overflow_add-round
 overflow_add-round c = let k = so (goal.at.overflow_add-round c).At-loop-second in record { fits = omega (arith, k.1, k.2) }
@@ -63,4 +62,4 @@ loop-second-preserved c =
     λ M f h.
     let k = l.invariant M f h in
     next-round a.ours.now a.theirs.now M a.n f k.0 l.round k.1 k.2 l.first l.second k.3 t.new.ranks t.result t.ensures u.new.ranks u.result u.ensures
-    (elim (c.if-not-moved.branch) [ then-not-moved w ↦ inr (not-false u.result w.PART0-is.left) | else-not-moved w ↦ inl (not-false t.result w.left) ])
+    (elim (c.if-not-moved.branch) [ then-not-moved+else-not-answered w ↦ inr w.if-not-answered.false | else-not-moved w ↦ inl w.if-not-moved.false ])

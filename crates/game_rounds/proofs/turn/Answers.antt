@@ -1,11 +1,9 @@
 use mathlib.Core.Path.{sym, ◌∙◌}
-use mathlib.Core.Logic.{⊎_elim}
-use Prim.Native.Nat.{◌-◌}
 use native.Mathlib.Omega.{arith}
 use Rattle.game_rounds.specs.Board.{side_of}
 use Rattle.game_rounds.proofs.Turning.{partly_none, partly-given, partly-kept, kept-none, kept-own, partly-all}
 use Rattle.game_rounds.proofs.turn.Goals as goal
-use Rattle.game_rounds.proofs.turn.Goals.{else-ranks-e-eq-NONE, then-ranks-e-eq-NONE}
+use Rattle.game_rounds.proofs.turn.Goals.{else-ranks-e-eq-NONE, then-ranks-e-eq-NONE+then-ready, then-ranks-e-eq-NONE+else-ready}
 
 pub loop-e-init : goal.loop-e-init
 loop-e-init c =
@@ -43,12 +41,13 @@ loop-e-preserved c =
     let p = c.loop-e.invariant.2 in
     let same = c.loop-e.invariant.2.long in
     let kept = partly-kept (side_of a.attacks) a.moves.now a.n a.ranks.now a.others.now a.round l.e l.ranks l.changed p in
-    elim (c.if-ranks-e-eq-NONE.branch) [ then-ranks-e-eq-NONE w ↦ 
-    let g = partly-given (side_of a.attacks) a.moves.now a.n a.ranks.now a.others.now a.round l.e l.ranks l.changed p (omega (arith, c.requires.0, h, l.invariant.1)) w.if-ranks-e-eq-NONE.true (sym w.ready.ensures ∙ w.PART0-is.taken) in
-    rw (w.PART1-is, w.PART2-is) (omega (arith, h), g.long ∙ c.requires.2, g) | else-ranks-e-eq-NONE w ↦ ⊎_elim
-    (λ v. rw (v.3, v.4) (omega (arith, h), l.invariant.1, kept (kept-none (side_of a.attacks) a.moves.now a.n a.ranks.now a.others.now a.round l.e (sym v.1.ensures ∙ v.2.left))))
-    (λ v. rw (v.1, v.2) (omega (arith, h), l.invariant.1, kept (kept-own (side_of a.attacks) a.moves.now a.n a.ranks.now a.others.now a.round l.e (λ z. v.0.left (p.rest l.e (omega arith) ∙ z)))))
-    w ]
+    elim (c.if-ranks-e-eq-NONE.branch) [
+      | then-ranks-e-eq-NONE+then-ready w ↦
+          let g = partly-given (side_of a.attacks) a.moves.now a.n a.ranks.now a.others.now a.round l.e l.ranks l.changed p (omega (arith, c.requires.0, h, l.invariant.1)) w.if-ranks-e-eq-NONE.true (sym w.ready.ensures ∙ w.if-ready.true) in
+          rw (w.ranks-is, w.changed-is) (omega (arith, h), g.long ∙ c.requires.2, g)
+      | then-ranks-e-eq-NONE+else-ready w ↦ rw (w.ranks-is, w.changed-is) (omega (arith, h), l.invariant.1, kept (kept-none (side_of a.attacks) a.moves.now a.n a.ranks.now a.others.now a.round l.e (sym w.ready.ensures ∙ w.if-ready.false)))
+      | else-ranks-e-eq-NONE w ↦ rw (w.ranks-is, w.changed-is) (omega (arith, h), l.invariant.1, kept (kept-own (side_of a.attacks) a.moves.now a.n a.ranks.now a.others.now a.round l.e (λ z. w.if-ranks-e-eq-NONE.false (p.rest l.e (omega arith) ∙ z))))
+    ]
 
 pub shape_of-ranks : goal.shape_of-ranks
 shape_of-ranks c = c.loop-e.invariant.2.long
