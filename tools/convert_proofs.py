@@ -205,8 +205,6 @@ def turn_body(fn, place, text, helpers, goal, notes, var="c"):
                     out.append(new)
         pos = m.end()
     body = "".join(out)
-    # A test of `!x` says today what it says of x.
-    body = re.sub(r"\(not-(?:true|false) (?:_|[\w.'-]+|\([^()]*\)) ([\w.'-]+\.if-not-[\w-]+\.(?:true|false))\)", r"\1", body)
     # Lines that only held an alias.
     body = re.sub(r"\n[ \t]*(?=\n)", "", body)
     return body
@@ -265,13 +263,18 @@ def arm_text(fn, old, side, text, notes):
     return f"{w} ↦ {body}"
 
 
+def tested(text):
+    """A test of `!x` says today what it says of x."""
+    return re.sub(r"\(not-(?:true|false) (?:_|[\w.'-]+|\([^()]*\)) ([\w.'-]+\.if-not-[\w-]+\.(?:true|false))\)", r"\1", text)
+
+
 def joins(fn, text, notes, found):
     """Turns `⊎_elim (λ w. A) (λ w. B) c.if-x.branch` to cases by name."""
     at = 0
     while True:
         at = text.find("⊎_elim", at)
         if at < 0:
-            return text
+            return tested(text)
         one = group(text, at + len("⊎_elim"))
         two = one and group(text, one[1])
         m = two and re.match(r"\s*([\w.'-]+)\.([\w-]+)\.branch(?![\w'-])", text[two[1] :])

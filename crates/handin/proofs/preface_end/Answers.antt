@@ -1,0 +1,31 @@
+use mathlib.Core.Path.{sym, ◌∙◌}
+use mathlib.Core.Logic.{⊎_elim}
+use native.Mathlib.Omega.{arith}
+use borrow.Author.Rules.{rules}
+use Prim.Native.Nat.{◌-◌}
+use Rattle.handin.proofs.Laws.{preface-start, preface-more, preface-other, preface-all}
+use Rattle.handin.proofs.preface_end.Goals as goal
+
+pub loop-i-init : goal.loop-i-init
+loop-i-init c = (c.requires.0, preface-start c.requires.1 c.requires.2)
+
+pub slice_bounds-read_line-count : goal.slice_bounds-read_line-count
+slice_bounds-read_line-count c = c.line_end-e.ensures.begins
+
+pub returns-in_default : goal.returns-in_default
+returns-in_default c = preface-other c.loop-i.invariant.1 c.line_end-e.ensures (λ e. c.in_default.not-Nothing (c.read_line-said.ensures ∙ e))
+
+pub overflow_add-i : goal.overflow_add-i
+overflow_add-i c = record { fits = omega (arith, c.line_end-e.ensures.ends, c.loop-i.invariant.0) }
+
+pub overflow_add-line : goal.overflow_add-line
+overflow_add-line c = record { fits = omega (arith, c.loop-i.invariant.0, c.loop-i.invariant.1.small, c.loop-i.invariant.1.within) }
+
+pub loop-i-smaller : goal.loop-i-smaller
+loop-i-smaller c = omega (arith, c.line_end-e.ensures.begins, c.line_end-e.ensures.ends, c.loop-i-test.true)
+
+pub loop-i-preserved : goal.loop-i-preserved
+loop-i-preserved c = (c.loop-i.invariant.0, preface-more c.loop-i.invariant.1 c.line_end-e.ensures (sym c.read_line-said.ensures ∙ c.in-Nothing.is))
+
+pub returns : goal.returns
+returns c = preface-all c.loop-i.invariant.1 (search rules)

@@ -1,0 +1,21 @@
+use mathlib.Core.Path.{◌≡◌, refl, sym}
+use mathlib.Core.Bool.{false}
+use lib.ListN.{get_or}
+use Rattle.text_scope.specs.Scopes.{marks_of}
+use Rattle.text_scope.proofs.Laws.{marked_more, marked-none}
+use borrow.Author.Rules.{rules}
+use Rattle.text_scope.proofs.all_plain.Goals as goal
+
+pub loop-i-init : goal.loop-i-init
+loop-i-init c = (search rules, refl, c.requires.0, c.requires.1, refl)
+
+pub loop-i-preserved : goal.loop-i-preserved
+loop-i-preserved c = let v = c.loop-i.invariant in (search rules, refl, v.2, v.3, marked_more (λ j. get_or c.args.s.plain j false) c.loop-i.i v.4 c.if-s-i.true)
+
+pub returns-else-s-i : goal.returns-else-s-i
+unfolding marks_of
+returns-else-s-i c = let v = c.loop-i.invariant in sym (marked-none (λ j. get_or c.args.s.plain j false) c.args.s.count c.loop-i.i c.loop-i-test.true c.if-s-i.false)
+
+pub returns : goal.returns
+unfolding marks_of
+returns c = let v = c.loop-i.invariant in let z : c.args.s.count ≡ c.loop-i.i = search rules in rw z (sym v.4)
