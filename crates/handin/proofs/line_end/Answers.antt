@@ -1,4 +1,3 @@
-use Prim.Native.Nat.{◌-◌}
 use Rattle.handin.proofs.Laws.{line-start, line-more, line-found, line-all}
 use borrow.Author.Rules.{rules}
 use Rattle.handin.proofs.line_end.Goals as goal

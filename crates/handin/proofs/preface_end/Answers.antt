@@ -1,8 +1,6 @@
 use mathlib.Core.Path.{sym, ◌∙◌}
-use mathlib.Core.Logic.{⊎_elim}
 use native.Mathlib.Omega.{arith}
 use borrow.Author.Rules.{rules}
-use Prim.Native.Nat.{◌-◌}
 use Rattle.handin.proofs.Laws.{preface-start, preface-more, preface-other, preface-all}
 use Rattle.handin.proofs.preface_end.Goals as goal
 

@@ -1,10 +1,8 @@
 use mathlib.Core.Path.{sym, ap, ◌∙◌}
-use mathlib.Core.Logic.{⊎_elim}
 use native.Mathlib.Omega.{arith}
 use Rattle.handin.specs.declared.Handin.TheVariants.{Yes}
 use Rattle.handin.specs.Answers.{told}
 use borrow.Author.Rules.{rules}
-use Prim.Native.Nat.{◌-◌}
 use Rattle.handin.proofs.Laws.{run-start, run_end, run-full, run-bad, run_more}
 use Rattle.handin.proofs.read_places.Goals as goal
 

@@ -1,8 +1,6 @@
-use mathlib.Core.Logic.{⊎_elim}
 use native.Mathlib.Omega.{arith}
 use borrow.Author.Rules.{rules}
 use mathlib.Core.Path.{refl, sym, ◌∙◌}
-use Prim.Native.Nat.{◌-◌}
 use Rattle.handin.proofs.Laws.{run-start, run-bad, run_more, no-yes, table-length, table_more, table-end, run_room}
 use Rattle.handin.proofs.write_places.Goals as goal
 
