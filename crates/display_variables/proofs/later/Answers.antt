@@ -1,4 +1,3 @@
-use Prim.Native.Nat.{◌-◌}
 use native.Mathlib.Omega.{arith}
 use Rattle.display_variables.proofs.Laws.{counted_start, counted-end, counted-old, counted-new, counted-found}
 use Rattle.display_variables.proofs.later.Goals as goal
@@ -25,7 +24,7 @@ loop-i-preserved c =
     let p = c.requires.0 in
     let l = c.loop-i-test.true in
     let f = c.fresh_end-e.ensures in
-    elim (c.if-e-ne0.branch) [ then-e-ne0+else-c-j w ↦ rw w.PART1-is (counted-new v p l f w.if-e-ne0.true w.PART0-is.left) | else-e-ne0 w ↦ rw w.PART0-is (counted-old v p l f (omega (arith, w.if-e-ne0.false))) ]
+    elim (c.if-e-ne0.branch) [ then-e-ne0+else-c-j w ↦ rw w.c-is (counted-new v p l f w.if-e-ne0.true w.if-c-j.false) | else-e-ne0 w ↦ rw w.c-is (counted-old v p l f (omega (arith, w.if-e-ne0.false))) ]
 
 pub returns : goal.returns
 returns c = counted-end c.loop-i.invariant c.requires.0 c.loop-i-test.false
