@@ -1,4 +1,3 @@
-use Prim.Native.Nat.{◌-◌}
 use native.Mathlib.Omega.{arith}
 use Rattle.text_carried.proofs.Collecting.{collected-start, collected-skip, collected-mark, collected-many, collected-all}
 use borrow.Author.Rules.{rules}

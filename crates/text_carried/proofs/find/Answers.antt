@@ -1,6 +1,4 @@
 use mathlib.Core.Path.{refl, sym, ◌∙◌}
-use mathlib.Core.Bool.{false}
-use Prim.Native.Nat.{◌-◌}
 use native.Mathlib.Omega.{arith}
 use lib.Seq.{slice}
 use Rattle.text_carried.proofs.Laws.{find-more, find-hit, find_none}

@@ -1,5 +1,4 @@
 use mathlib.Core.Path.{refl}
-use Prim.Native.Nat.{◌-◌}
 use native.Mathlib.Omega.{arith}
 use Rattle.text_carried.proofs.Entering.{numbered-start, found_below, numbered-valid, numbered_more, numbered-all}
 use borrow.Author.Rules.{rules}
