@@ -17,7 +17,7 @@ use Rattle.grammar.specs.Forms as forms
 use Rattle.grammar.specs.Shapes.{Read, stage, ask_rest, whole}
 use Rattle.grammar.specs.Declarations.{Declared, extend, place}
 use Rattle.grammar.specs.Rows.{lower, row, body_fault, supported, few, scope_fault, stages_fault, carried, carries_many, fault}
-use Rattle.grammar.specs.Models.{body_of, question_of}
+use Rattle.grammar.specs.Models.{body_of}
 use Rattle.grammar.proofs.Tests.{either}
 use Rattle.grammar.proofs.Lower.{lower-first, lower-bound, lower-under}
 use Rattle.acceptance.proofs.Questions.{ask_words, carriers-words}

@@ -1,0 +1,12 @@
+use mathlib.Core.Path.{◌≡◌, refl}
+use mathlib.Core.List.{[], ◌∷◌}
+use Prim.Native.Nat.{ℕ}
+use lib.ListN.{get_or}
+use Rattle.replay_numbers.proofs.Parts.{each-cell}
+use Rattle.replay_meetings.specs.Carried.{carried_on}
+use Rattle.replay_meetings.proofs.carry_all.Goals as goal
+
+pub returns : goal.returns
+returns c =
+    let a = c.args in
+    (refl, each-cell (λ (v : ℕ). get_or (c.carry-first.result ∷ c.carry-second.result ∷ []) v 0 ≡ carried_on (get_or a.carried v 0) (get_or a.objects v 0)) c.carry-first.ensures c.carry-second.ensures)
