@@ -24,7 +24,7 @@ use Rattle.model.specs.declared.Place.TheVariants.{Meeting}
 use Rattle.model.specs.Places.{number_of, numeral, Objects, Numerable}
 use Rattle.model.proofs.Numbering.{length-up_from}
 use Rattle.model.proofs.Renaming.{elem-of-map, elem-map, vars-renamed, supported-renamed, holds-renamed, named-renamed}
-use Rattle.model.proofs.Accepted.{stages, stage-here, stage-vars, stage-different, stage-names, stage_body_lem}
+use Rattle.model.proofs.Accepted.{stage-here, stage-vars, stage-different, stage-names, stage_body_lem}
 use Rattle.model.proofs.Carried.{carried-cells, carried-own, carried-differ}
 use Rattle.facts_bits.specs.Width as width
 use Rattle.facts_bits.specs.Bits.{in_row}
