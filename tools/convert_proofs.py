@@ -265,7 +265,7 @@ def arm_text(fn, old, side, text, notes):
 
 def tested(text):
     """A test of `!x` says today what it says of x."""
-    return re.sub(r"\(not-(?:true|false) (?:_|[\w.'-]+|\([^()]*\)) ([\w.'-]+\.if-not-[\w-]+\.(?:true|false))\)", r"\1", text)
+    return re.sub(r"not-(?:true|false) (?:_|[\w.'-]+|\([^()]*\)) ([\w.'-]+\.if-not-[\w-]+\.(?:true|false))", r"\1", text)
 
 
 def joins(fn, text, notes, found):

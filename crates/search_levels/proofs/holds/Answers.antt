@@ -1,0 +1,28 @@
+use native.Mathlib.Omega.{arith}
+use Rattle.search_levels.proofs.Aiming.{seated-small}
+use Rattle.search_levels.proofs.Passing.{fixed-both}
+use Rattle.search_levels.proofs.holds.Goals as goal
+
+pub seated-one-requires : goal.seated-one-requires
+seated-one-requires c = λ q. omega (arith, c.requires.0.first q, c.requires.0.asked.body.body.few)
+
+pub seated-both-requires : goal.seated-both-requires
+seated-both-requires c = λ q. omega (arith, c.requires.0.second q, c.requires.0.asked.body.body.few)
+
+pub pointed-requires : goal.pointed-requires
+pointed-requires c =
+    let a = c.args in
+    let r = c.requires.0 in
+    let free = c.free-free in
+    let one = c.seated-one in
+    let both = c.seated-both in
+    (r.asked, r.some, seated-small one.result both.result a.t.second a.f (omega (arith, c.requires.2)) both.ensures (seated-small free.result one.result a.t.first a.e (omega (arith, c.requires.1)) one.ensures (rw (free.ensures 0) (omega arith))))
+
+pub returns : goal.returns
+returns c =
+    let r = c.requires.0 in
+    let a = c.args in
+    λ S R n.
+    let told = c.pointed.ensures S R n in
+    let law = fixed-both c.free-free.result c.seated-one.result c.seated-both.result a.t.first a.t.second a.t.part.variables a.e a.f r.asked.body.body.few c.requires.1 c.requires.2 r.first r.second r.apart c.free-free.ensures c.seated-one.ensures c.seated-both.ensures in
+    ((λ q. let z = told.0 q in let y = (law z.0).0 z.2 in (z.0, z.1, y.0, y.1, z.3)), λ q. told.1 (q.0, q.1, (law q.0).1 (q.2, q.3), q.4))
