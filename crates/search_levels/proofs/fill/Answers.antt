@@ -19,7 +19,7 @@ use Rattle.search_levels.specs.Passing.{besides, Led, Met, Ready, meeting_of, Cl
 use Rattle.search_levels.proofs.Stages.{numbers-long, stage-ready, chosen-after, passed-stage}
 use Rattle.search_levels.proofs.Filling.{begun, begun-clear, passed-more}
 use Rattle.search_levels.proofs.fill.Goals as goal
-use Rattle.search_levels.proofs.fill.Goals.{After-asked-t, After-asked_at, After-slots-1}
+use Rattle.search_levels.proofs.fill.Goals.{After-asked-t}
 
 pub loop-k-init : goal.loop-k-init
 loop-k-init c =

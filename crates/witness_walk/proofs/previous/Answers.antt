@@ -1,4 +1,3 @@
-use Prim.Native.Nat.{◌-◌}
 use native.Mathlib.Omega.{arith}
 use borrow.Author.Count.{below_more}
 use Rattle.witness_walk.proofs.Sources.{said, denied, found-pair, pair_found}
@@ -12,12 +11,12 @@ pub returns-then-u-lt-LISTED : goal.returns-then-u-lt-LISTED
 returns-then-u-lt-LISTED c =
     let a = c.args in
     found-pair a.m a.rows.now a.ways.now a.k a.first a.second _ _ _ _ c.holds-one.ensures c.holds-two.ensures c.carries-begun.ensures c.carries-began.ensures _ _
-    c.if-u-lt-LISTED.true c.loop-v-test.true (c.source-u.ensures.0 c.if-u-lt-LISTED.true) (said c.moves.result _ c.moves.ensures c.if-moves.true)
+    c.if-u-lt-LISTED.true c.loop-v-test.true (c.source-u.ensures.found c.if-u-lt-LISTED.true) (said c.moves.result _ c.moves.ensures c.if-moves.true)
 
 pub loop-v-preserved : goal.loop-v-preserved
 loop-v-preserved c = (
   omega (arith, c.loop-v-test.true),
-  below_more _ _ c.loop-v.invariant.1 (elim (c.if-moves.branch) [ then-moves+else-u-lt-LISTED w ↦ λ h. let t = w.source-u.ensures.1 h.0 h.1 h.2 in let l = w.PART0-is.left in omega arith | else-moves w ↦ λ h. denied c.moves.result _ c.moves.ensures w.left h.3 ]),
+  below_more _ _ c.loop-v.invariant.1 (elim (c.if-moves.branch) [ then-moves+else-u-lt-LISTED w ↦ λ h. let t = w.source-u.ensures.first h.0 h.1 h.2 in let l = w.if-u-lt-LISTED.false in omega arith | else-moves w ↦ λ h. denied c.moves.result _ c.moves.ensures w.if-moves.false h.3 ]),
 )
 
 pub returns : goal.returns
