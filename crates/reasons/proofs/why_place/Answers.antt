@@ -20,7 +20,7 @@ pub returns-in-Step : goal.returns-in-Step
 returns-in-Step c = let a = c.args in λ m v states l. explains-at m (session_in states a.at) a.n c.why_step.result (step c.in-Step.line c.in-Step.object) (step-place a.n c.in-Step.line c.in-Step.object (sym c.place_of-p.ensures ∙ c.in-Step.is)) (c.why_step.ensures m v states (opened m v (session_in states a.at) a.numbers.now a.literals.now a.slots.now a.work.now a.n l c.if-at-stages.false (step c.in-Step.line c.in-Step.object) (step-place a.n c.in-Step.line c.in-Step.object (sym c.place_of-p.ensures ∙ c.in-Step.is))))
 
 pub returns-in_default-p : goal.returns-in_default-p
-returns-in_default-p c = let a = c.args in let f = c.place_of-p in λ m v states l. explains-nowhere m (session_in states a.at) a.n NoLine (sym f.ensures ∙ neither f.result ? ?)
+returns-in_default-p c = let a = c.args in let f = c.place_of-p in λ m v states l. explains-nowhere m (session_in states a.at) a.n NoLine (sym f.ensures ∙ neither f.result c.in_default.not-Step c.in_default-p.not-Meeting)
 
 pub why_meeting-requires : goal.why_meeting-requires
 why_meeting-requires c = let a = c.args in (c.requires.0, c.requires.1, c.requires.2, opened c.requires.0 c.requires.1 (session_in c.requires.2 a.at) a.numbers.now a.literals.now a.slots.now a.work.now a.n c.requires.3 c.if-at-stages.false (meet c.in-Meeting.stage (objects (c.in-Meeting.first ∷ c.in-Meeting.second ∷ c.in-Meeting.third ∷ []))) (meeting-place a.n c.in-Meeting.stage c.in-Meeting.first c.in-Meeting.second c.in-Meeting.third (sym c.place_of-p.ensures ∙ c.in-Meeting.is)))

@@ -1,0 +1,35 @@
+use mathlib.Core.Path.{◌≡◌, refl, sym, ap, ◌∙◌}
+use mathlib.Core.Logic.{inl, inr}
+use mathlib.Core.Bool.{Bool, false, ◌||◌}
+use Rattle.semantics.proofs.Tools.{clash, or_right}
+use Rattle.model.specs.Records.{program_of}
+use Rattle.game_lists.specs.Lists.{faulty}
+use Rattle.game_lists.proofs.Laws.{of-form}
+use Rattle.game_answer.specs.Telling.{faulted}
+use Rattle.game_answer.proofs.decide.Goals as goal
+use Rattle.game_answer.proofs.decide.Goals.{Else-faulty-2}
+
+-- neither list is refused
+good : (c : Else-faulty-2) → let a = c.args in faulted (program_of a.m) a.attacker.now a.guardian.now ≡ false
+good c =
+    let a = c.args in
+    ap (λ (b : Bool). b || faulty (program_of a.m) a.guardian.now) (sym c.faulty.ensures ∙ c.if-faulty.false) ∙ (sym c.faulty-2.ensures ∙ c.if-faulty-2.false)
+
+pub returns-then-faulty : goal.returns-then-faulty
+returns-then-faulty c =
+    let a = c.args in
+    rw c.refuse.ensures (inl (refl, ap (λ (b : Bool). b || faulty (program_of a.m) a.guardian.now) (sym c.faulty.ensures ∙ c.if-faulty.true), refl), refl, refl)
+
+pub returns-then-faulty-2 : goal.returns-then-faulty-2
+returns-then-faulty-2 c =
+    let a = c.args in
+    rw c.refuse-then-faulty-2.ensures (inl (refl, or_right (faulty (program_of a.m) a.attacker.now) (faulty (program_of a.m) a.guardian.now) (sym c.faulty-2.ensures ∙ c.if-faulty-2.true), refl), refl, refl)
+
+pub returns-then-not-single : goal.returns-then-not-single
+returns-then-not-single c =
+    let k = c.single in
+    rw c.refuse-then-not-single.ensures (inr (inl (refl, good (goal.at.returns-then-not-single c).Else-faulty-2, (λ f. clash (k.ensures.1 (of-form c.args.m c.requires.0 f.0 f.1 f.2)) (c.if-not-single.true)), refl)), refl, refl)
+
+pub explored-requires : goal.explored-requires
+explored-requires c =
+    let k = c.single in (c.requires.0, c.requires.1, good (goal.at.explored-requires c).Else-faulty-2, k.ensures.0 (c.if-not-single.false))
