@@ -48,7 +48,7 @@ module _ (A B M : List ℕ) (S : Database) (one : Distinct S) (full : elem 0 S �
   place e l = seat-state S one full e l
 
   options-same : (a : Side) (e : ℕ) → e ≤ length S → options G a (state S e) ≡ map (state S) (options F a e)
-  options-same a e l = rw (place e l) (stay-map (state S) e (slots (of A B a) e (suc (length S))))
+  options-same a e l = ap (λ (d : ℕ). or_stay (state S e) (map (state S) (slots (of A B a) d (suc (length S))))) (place e l) ∙ stay-map (state S) e (slots (of A B a) e (suc (length S)))
 
   below : (a : Side) (e t : ℕ) → e ≤ length S → elem t (options F a e) ≡ true → t ≤ length S
   below a e t l i = omega (arith, up-below (suc (length S)) t (options-closed F (up_to (suc (length S))) (closed A B M (length S) fits) a e t (up-here (suc (length S)) e (omega (arith, l))) i))

@@ -1,5 +1,5 @@
 use mathlib.Core.Path.{◌≡◌, ap, subst}
-use Prim.Native.Nat.{ℕ, ◌-◌, ◌≤◌}
+use Prim.Native.Nat.{ℕ, ◌≤◌}
 use native.Mathlib.Omega.{arith}
 use lib.ListN.{length, get_or}
 use Rattle.limits.specs.Limits as limit

@@ -18,17 +18,17 @@ good c =
 pub returns-then-faulty : goal.returns-then-faulty
 returns-then-faulty c =
     let a = c.args in
-    rw c.refuse.ensures (inl (refl, ap (λ (b : Bool). b || faulty (program_of a.m) a.guardian.now) (sym c.faulty.ensures ∙ c.if-faulty.true), refl), refl, refl)
+    rw c.refuse.ensures (inl (refl, ap (λ (b : Bool). b || faulty (program_of a.m) a.guardian.now) (sym c.faulty.ensures ∙ c.if-faulty.true), refl), refl, c.refuse.ensures)
 
 pub returns-then-faulty-2 : goal.returns-then-faulty-2
 returns-then-faulty-2 c =
     let a = c.args in
-    rw c.refuse-then-faulty-2.ensures (inl (refl, or_right (faulty (program_of a.m) a.attacker.now) (faulty (program_of a.m) a.guardian.now) (sym c.faulty-2.ensures ∙ c.if-faulty-2.true), refl), refl, refl)
+    rw c.refuse-then-faulty-2.ensures (inl (refl, or_right (faulty (program_of a.m) a.attacker.now) (faulty (program_of a.m) a.guardian.now) (sym c.faulty-2.ensures ∙ c.if-faulty-2.true), refl), refl, c.refuse-then-faulty-2.ensures)
 
 pub returns-then-not-single : goal.returns-then-not-single
 returns-then-not-single c =
     let k = c.single in
-    rw c.refuse-then-not-single.ensures (inr (inl (refl, good (goal.at.returns-then-not-single c).Else-faulty-2, (λ f. clash (k.ensures.1 (of-form c.args.m c.requires.0 f.0 f.1 f.2)) (c.if-not-single.true)), refl)), refl, refl)
+    rw c.refuse-then-not-single.ensures (inr (inl (refl, good (goal.at.returns-then-not-single c).Else-faulty-2, (λ f. clash (k.ensures.1 (of-form c.args.m c.requires.0 f.0 f.1 f.2)) c.if-not-single.true), refl)), refl, c.refuse-then-not-single.ensures)
 
 pub explored-requires : goal.explored-requires
 explored-requires c =

@@ -21,7 +21,7 @@ pub returns-then-found : goal.returns-then-found
 returns-then-found c =
     let m = c.args.m in
     let e = c.explore-found.ensures.0 in
-    rw c.refuse.ensures (inr (inr (refl, c.requires.2, (stage_of m.literals (stage_at m 0), number_in (stage_at m 0) 0, form_of m c.requires.0 c.requires.3), e.crowded.0 c.if-found.true, c.wipe.ensures)), refl, refl)
+    rw c.refuse.ensures (inr (inr (refl, c.requires.2, (stage_of m.literals (stage_at m 0), number_in (stage_at m 0) 0, form_of m c.requires.0 c.requires.3), e.crowded.0 c.if-found.true, c.wipe.ensures)), refl, c.refuse.ensures)
 
 pub tell-requires : goal.tell-requires
 tell-requires c =

@@ -1,5 +1,5 @@
 use mathlib.Core.Path.{◌≡◌, sym, ◌∙◌, subst}
-use Prim.Native.Nat.{ℕ, ◌-◌}
+use Prim.Native.Nat.{ℕ}
 use native.Mathlib.Omega.{arith}
 use borrow.Author.Rules.{rules}
 use Rattle.strike_table.specs.Tables.{Marked}
@@ -14,7 +14,7 @@ pub loop-k-preserved : goal.loop-k-preserved
 loop-k-preserved c =
     let l = c.loop-k in (
       search rules,
-      elim (c.if-settles.branch) [ then-settles w ↦ rw w.way_told-1 (marking-more _ _ l.k _ _ l.invariant.1 (sym c.settles.ensures ∙ w.if-settles.true) (omega (arith, c.requires.0, c.requires.1))) | else-settles w ↦ rw w.PART0-is (marking-other _ _ l.k _ _ l.invariant.1 (sym c.settles.ensures ∙ w.if-settles.false)) ],
+      elim (c.if-settles.branch) [ then-settles w ↦ rw w.said-is (marking-more _ _ l.k _ _ l.invariant.1 (sym c.settles.ensures ∙ w.if-settles.true) (omega (arith, c.requires.0, c.requires.1))) | else-settles w ↦ rw w.said-is (marking-other _ _ l.k _ _ l.invariant.1 (sym c.settles.ensures ∙ w.if-settles.false)) ],
     )
 
 pub returns : goal.returns

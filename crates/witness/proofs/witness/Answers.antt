@@ -1,0 +1,39 @@
+use native.Mathlib.Omega.{arith}
+use Rattle.witness_walk.proofs.Laws.{written-length, behind-index}
+use Rattle.witness.proofs.Laws.{building-few, turn-fits, whole, shown}
+use Rattle.witness.proofs.witness.Goals as goal
+
+pub walk-from-requires : goal.walk-from-requires
+walk-from-requires c =
+    let p = c.requires in
+    let few = c.requires.0.known.proper.count in
+    (p.0, c.slots-slots.ensures, record { states = omega arith; first = omega arith; second = omega arith }, omega arith, c.goal-pair.ensures, p.2)
+
+pub build-r-requires : goal.build-r-requires
+build-r-requires c =
+    let p = c.requires in
+    let a = c.args in
+    let h = c.walk-from.ensures.0 in
+    let few = c.requires.0.known.proper.count in (
+      p.0.known.model,
+      p.0.known.proper,
+      p.0.known.found,
+      omega arith,
+      omega (arith, p.2, building-few a.m a.work.now a.s p.0.known 0, behind-index a.m a.work.now a.s a.rows.now a.table.now a.steps.now a.ways.now p.0 _ 0 a.run.now _ _ _ _ _ h, written-length _ _ _ _ _ _ h.played),
+    )
+
+pub turn-requires : goal.turn-requires
+turn-requires c =
+    let p = c.requires in
+    let a = c.args in
+    let h = c.walk-from.ensures in
+    let e = c.build-r.ensures in
+    turn-fits _ _ a.run.now _ _ (whole a.m a.work.now a.s a.rows.now a.table.now a.steps.now a.ways.now p.0 a.run.now _ _ _ _ _ _ _ h.1 h.0 e.0 e.1) (omega (arith, p.2))
+
+pub returns : goal.returns
+returns c =
+    let p = c.requires in
+    let a = c.args in
+    let h = c.walk-from.ensures in
+    let e = c.build-r.ensures in
+    shown a.m a.work.now a.s a.rows.now a.table.now a.steps.now a.ways.now p.0 a.run.now _ _ (whole a.m a.work.now a.s a.rows.now a.table.now a.steps.now a.ways.now p.0 a.run.now _ _ _ _ _ _ _ h.1 h.0 e.0 e.1) (omega (arith, p.2)) _ c.turn.ensures
