@@ -1,5 +1,6 @@
 use mathlib.Core.Path.{◌≡◌, refl, sym, ap, ◌∙◌}
 use mathlib.Core.Bool.{Bool, false}
+use Prim.Native.Nat.{ℕ}
 use lib.Dec.{ltb}
 use lib.ListN.{length}
 use borrow.Author.Tests.{ltb-false}
@@ -11,15 +12,15 @@ use Rattle.calls.proofs.Laws.{called-early, called-lines, sizes}
 use Rattle.text.proofs.Laws.{is-refused}
 use Rattle.shortest.proofs.Laws.{good-model, leaves}
 use Rattle.shortest.proofs.way.Goals as goal
-use Rattle.shortest.proofs.way.Goals.{After-early-row, Else-row-ne0}
+use Rattle.shortest.proofs.way.Goals.{Else-row-ne0}
 
 -- the row before the lines
-row : (c : After-early-row) → let a = c.args in c.early-row.result ≡ early (length a.text.now) (short (length a.work.now) (length a.run.now)) false
-row c = let a = c.args in c.early-row.ensures ∙ ap (λ (b : Bool). early (length a.text.now) b false) c.short.ensures
+row : (t w r v : ℕ) (b : Bool) → v ≡ early t b false → b ≡ short w r → v ≡ early t (short w r) false
+row t w r v b e s = e ∙ ap (λ (b : Bool). early t b false) s
 
 -- without one the buffers have their sizes, and the lines are read
 none : (c : Else-row-ne0) → let a = c.args in early (length a.text.now) (short (length a.work.now) (length a.run.now)) false ≡ 0
-none c = sym (row BYHAND-After-early-row) ∙ c.if-row-ne0.false
+none c = let a = c.args in sym (row (length a.text.now) (length a.work.now) (length a.run.now) _ _ c.early-row.ensures c.short.ensures) ∙ c.if-row-ne0.false
 
 lines : (c : Else-row-ne0) → let a = c.args in called a.text.now (short (length a.work.now) (length a.run.now)) false ≡ outcome a.text.now
 lines c = let a = c.args in called-lines a.text.now (short (length a.work.now) (length a.run.now)) false (none c)
@@ -27,7 +28,7 @@ lines c = let a = c.args in called-lines a.text.now (short (length a.work.now) (
 pub returns-then-row-ne0 : goal.returns-then-row-ne0
 returns-then-row-ne0 c =
     let a = c.args in
-    let e = row (goal.at.returns-then-row-ne0 c).After-early-row in
+    let e = row (length a.text.now) (length a.work.now) (length a.run.now) _ _ c.early-row.ensures c.short.ensures in
     rw (called-early a.text.now (short (length a.work.now) (length a.run.now)) false (λ z. c.if-row-ne0.true (e ∙ z)), ← e) (refl, refl, refl)
 
 pub returns-in-Refused : goal.returns-in-Refused
