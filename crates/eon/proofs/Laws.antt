@@ -120,6 +120,9 @@ module _ (text : List ℕ) (D : Declared) (P : Program) (Q : Question) (m : Mode
 pub zeros : (n : ℕ) → n ≤ length (replicate {A = ℕ} n 0)
 zeros n = omega (arith, length-replicate {A = ℕ} n 0)
 
+pub zeros-length : (n : ℕ) → n ≡ length (replicate {A = ℕ} n 0)
+zeros-length n = omega (arith, length-replicate {A = ℕ} n 0)
+
 -- with buffers that have their sizes, the answer is the text's
 in-room : (text : List ℕ) (short : Bool) → short ≡ false → called text short false ≡ outcome text
 unfolding called early outcome

@@ -1,5 +1,6 @@
 use mathlib.Core.Path.{◌≡◌, refl, sym, ap, ◌∙◌}
 use mathlib.Core.Bool.{Bool, false}
+use Prim.Native.Nat.{ℕ}
 use lib.Dec.{ltb}
 use lib.ListN.{length}
 use borrow.Author.Tests.{ltb-false}
@@ -13,21 +14,21 @@ use Rattle.handin.specs.Handins.{reading}
 use Rattle.marker.specs.Marking.{narrow}
 use Rattle.marker.proofs.Laws.{good-model, marked}
 use Rattle.marker.proofs.mark.Goals as goal
-use Rattle.marker.proofs.mark.Goals.{After-early-row, Else-row-ne0}
+use Rattle.marker.proofs.mark.Goals.{Else-row-ne0}
 
 -- the row before the lines
-row : (c : After-early-row) → let a = c.args in c.early-row.result ≡ early (length a.text.now) (narrow (length a.work.now) (length a.run.now) (length a.stood.now)) false
-row c = let a = c.args in c.early-row.ensures ∙ ap (λ (b : Bool). early (length a.text.now) b false) c.short-short.ensures
+row : (t w r k v : ℕ) (b : Bool) → v ≡ early t b false → b ≡ narrow w r k → v ≡ early t (narrow w r k) false
+row t w r k v b e s = e ∙ ap (λ (b : Bool). early t b false) s
 
 pub returns-then-row-ne0 : goal.returns-then-row-ne0
 returns-then-row-ne0 c =
     let a = c.args in
-    let e = row (goal.at.returns-then-row-ne0 c).After-early-row in
+    let e = row (length a.text.now) (length a.work.now) (length a.run.now) (length a.stood.now) _ _ c.early-row.ensures c.short-short.ensures in
     rw (called-early a.text.now (narrow (length a.work.now) (length a.run.now) (length a.stood.now)) false (λ z. c.if-row-ne0.true (e ∙ z)), e) (refl, refl, refl, refl)
 
 -- without one the buffers have their sizes, and the lines are read
 none : (c : Else-row-ne0) → let a = c.args in early (length a.text.now) (narrow (length a.work.now) (length a.run.now) (length a.stood.now)) false ≡ 0
-none c = sym (row BYHAND-After-early-row) ∙ c.if-row-ne0.false
+none c = let a = c.args in sym (row (length a.text.now) (length a.work.now) (length a.run.now) (length a.stood.now) _ _ c.early-row.ensures c.short-short.ensures) ∙ c.if-row-ne0.false
 
 lines : (c : Else-row-ne0) → let a = c.args in called a.text.now (narrow (length a.work.now) (length a.run.now) (length a.stood.now)) false ≡ outcome a.text.now
 lines c = let a = c.args in called-lines a.text.now (narrow (length a.work.now) (length a.run.now) (length a.stood.now)) false (none c)

@@ -1,0 +1,11 @@
+use Prim.Native.Nat.{◌≤◌}
+use Rattle.strike_list.specs.Lists.{listed}
+use Rattle.cure.specs.Soonest.{size_at}
+use Rattle.cure.proofs.Scans.{Scanned}
+use Rattle.cure.proofs.soonest.Given as goal
+
+abbrev pub invariant-loop-i : goal.invariant-loop-i
+invariant-loop-i l = (l.i ≤ l.total) × (l.total ≤ 1024) × Scanned (size_at (listed l.l) l.said) l.total l.i l.best l.least
+
+abbrev pub decreases-loop-i : goal.decreases-loop-i
+decreases-loop-i l = l.i
