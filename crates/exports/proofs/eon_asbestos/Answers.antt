@@ -1,0 +1,13 @@
+-- `exports::eon_asbestos` meets its contract.
+use Rattle.asbestos_writer.specs.Writing.{kinds_of}
+use Rattle.asbestos_desk.proofs.Verdict.{short-text}
+use Rattle.exports.proofs.eon_asbestos.Goals as goal
+
+pub coded-requires : goal.coded-requires
+coded-requires c =
+    let a = c.args in
+    let w = c.write in
+    short-text (kinds_of a.kinds.now a.count) a.port a.level a.out.now w.result w.new.out w.ensures.0
+
+pub returns : goal.returns
+returns c = let w = c.write in record { answer = w.result; desks = w.ensures.0; keeps = w.ensures.1; number = c.coded.ensures }

@@ -1,0 +1,16 @@
+-- `exports::put` meets its contract.
+use mathlib.Core.Path.{refl, ◌∙◌}
+use native.Mathlib.Omega.{arith}
+use Rattle.exports.proofs.put.Goals as goal
+
+pub overflow_add-result-in-Broken : goal.overflow_add-result-in-Broken
+overflow_add-result-in-Broken c = record { fits = omega (arith, rw c.in-Broken.is at c.requires) }
+
+pub returns-in-Kept : goal.returns-in-Kept
+returns-in-Kept c = rw c.in-Kept.is refl
+
+pub returns-in-Broken : goal.returns-in-Broken
+returns-in-Broken c = rw c.in-Broken.is refl
+
+pub returns-in-Refused : goal.returns-in-Refused
+returns-in-Refused c = c.refusal.ensures ∙ rw c.in-Refused.is refl

@@ -1,0 +1,30 @@
+-- `exports::unpack` meets its contract.
+use borrow.Author.Rules.{rules}
+use mathlib.Core.Path.{◌≡◌, refl, sym, ◌∙◌}
+use native.Mathlib.Omega.{arith}
+use Prim.Native.Nat.{ℕ}
+use lib.ListN.{length, get_or}
+use mir.Syntax.{w32}
+use mir.Val.{Fits}
+use lib.Seq.{length-take-le}
+use Rattle.exports.proofs.Cells.{states-copied}
+use Rattle.exports.proofs.unpack.Goals as goal
+use Rattle.exports.proofs.unpack.Goals.{Start}
+
+-- the row of cells has its size
+whole : (c : Start) → length c.args.cells ≡ 260
+whole c = search rules
+
+-- each cell has 32 bits
+narrow : (c : Start) (i : ℕ) → Fits w32 (get_or c.args.cells i 0)
+narrow c i = search rules
+
+pub slice_bounds-copy-end-2 : goal.slice_bounds-copy-end-2
+slice_bounds-copy-end-2 c = sym (length-take-le 255 c.args.cells (omega (arith, whole (goal.at.slice_bounds-copy-end-2 c).Start)))
+
+pub copy-requires : goal.copy-requires
+copy-requires c = omega (arith, length-take-le 255 c.args.cells (omega (arith, whole (goal.at.copy-requires c).Start)))
+
+pub returns : goal.returns
+returns c =
+    (rw (c.copy.ensures ∙ states-copied c.args.cells (whole (goal.at.returns c).Start)) refl, record { objects = (narrow (goal.at.returns c).Start 255).fits; met = (narrow (goal.at.returns c).Start 256).fits; kept = (narrow (goal.at.returns c).Start 259).fits })
