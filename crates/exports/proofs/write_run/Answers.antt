@@ -1,7 +1,5 @@
 -- `exports::write_run` meets its contract.
-use mathlib.Core.Logic.{⊎_elim}
 use mathlib.Core.Path.{sym, ap, ◌∙◌}
-use native.Mathlib.Omega.{arith}
 use Rattle.handin.specs.Handins.{Handin, reading}
 use Rattle.marker.proofs.Said.{told-yes}
 use Rattle.exports.specs.Calls.{written}
@@ -10,7 +8,7 @@ use Rattle.exports.proofs.write_run.Goals as goal
 
 pub returns-in_default : goal.returns-in_default
 returns-in_default c =
-    not_yes (reading c.args.handin.now) c.args.run.now (λ first places e. ⊎_elim (λ z. absurd (omega (arith, z))) (λ z. absurd (omega (arith, z))) (rw (c.requires.1 ∙ e) at c.in_default.not-Yes))
+    not_yes (reading c.args.handin.now) c.args.run.now (λ first places e. c.in_default.not-Yes first places (c.requires.1 ∙ e))
 
 pub write-requires : goal.write-requires
 write-requires c =
