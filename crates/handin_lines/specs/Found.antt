@@ -67,6 +67,18 @@ answer none = None
 answer (some nothing) = Some Nothing
 answer (some (place p)) = Some (Place (number_of p))
 
+-- whether a line says nothing
+abbrev pub is_silent : Option lines.Said → Bool
+is_silent none = false
+is_silent (some nothing) = true
+is_silent (some (place p)) = false
+
+-- the number of the place that a line says
+abbrev pub number_said : Option lines.Said → std.Option ℕ
+number_said none = None
+number_said (some nothing) = None
+number_said (some (place p)) = Some (number_of p)
+
 -- what the first line says
 abbrev pub clear : Option Bool → std.Option Bool
 clear none = None

@@ -10,7 +10,7 @@ ghost use Rattle.grammar.specs.Bytes.{bytes, alphanumeric};
 ghost use Rattle.grammar.specs.Shapes.{after, whole};
 ghost use Rattle.text_scan.specs.Found.{WordEnd};
 ghost use Rattle.handin_lines.specs.Lines.{verdict, below, nothing, states_rest, atomic_rest, step_rest, meet_rest, said_by};
-ghost use Rattle.handin_lines.specs.Found.{cut, DigitsEnd, NumberEnd, BelowEnd, object, last, met, answer, clear};
+ghost use Rattle.handin_lines.specs.Found.{cut, DigitsEnd, NumberEnd, BelowEnd, object, last, met, answer, is_silent, number_said, clear};
 
 use limits::NONE;
 use model::{Place, number_of};
@@ -18,7 +18,7 @@ use text_scan::{at_byte, at_bytes, same_words};
 
 // What a line after the first says: nothing, or the place with this number.
 #[derive(Clone, Copy)]
-pub enum Said {
+enum Said {
     Nothing,
     Place { number: u32 },
 }
@@ -247,7 +247,7 @@ fn nothing_if(known: bool) -> Option<Said>
 }
 
 // A line after the first, if it can be read.
-pub fn read_line(line: &[u8]) -> Option<Said>
+fn read_line(line: &[u8]) -> Option<Said>
     ensures { result ≡ answer (said_by line.now) }
 {
     if at_bytes(line, 0, b"(states ") {
@@ -263,6 +263,23 @@ pub fn read_line(line: &[u8]) -> Option<Said>
         return read_meeting(line, 6);
     }
     None
+}
+
+// Whether a line after the first says nothing.
+pub fn says_nothing(line: &[u8]) -> bool
+    ensures { result ≡ is_silent (said_by line.now) }
+{
+    matches!(read_line(line), Some(Said::Nothing))
+}
+
+// The number of the place that a line after the first says.
+pub fn read_place(line: &[u8]) -> Option<u32>
+    ensures { result ≡ number_said (said_by line.now) }
+{
+    match read_line(line) {
+        Some(Said::Place { number }) => Some(number),
+        _ => None,
+    }
 }
 
 // Whether the first line says yes, if it can be read.
