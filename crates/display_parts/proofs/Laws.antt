@@ -237,10 +237,10 @@ module _ (s : List ℕ) (l : 6 ≤ length s) (h : after (bytes "(next ") s ≡ s
   unfolding part_of next_rest
   next-nameless k = rw (next-form s h, k)
 
-  module _ {x : ℕ} (v : NameEnd s 6 x) (y : x ≡ 0 → ⊥) where
+  module _ {x : ℕ} (v : NameEnd s 6 x) where
     next-rest : next_rest (drop 6 s) ≡ next_tail (slice 6 x s) (drop x s)
     unfolding next_rest
-    next-rest = rw (v.found y).2 (next-tail (slice 6 x s) (drop x s))
+    next-rest = rw v.read (next-tail (slice 6 x s) (drop x s))
 
     pub next-listless : spaced_list (drop x s) ≡ none → part_of s 0 ≡ none
     unfolding part_of
@@ -266,7 +266,7 @@ module _ (s : List ℕ) (l : 6 ≤ length s) (h : after (bytes "(next ") s ≡ s
             let (c, f, g, r) = mi.found yb in
             let (q, j, u, d) = to_end w z (omega arith) in
             gives-some s (part_of s 0) _ {hs = slice 6 x s ∷ []} {b = q} (rw (next-form s h, next-rest, o, r, u, d)) (λ t. absurd (omega arith))
-            (next-placed s x b e 8 q (v.found y).0 (v.found y).1 j (omega arith) u)
+            (next-placed s x b e 8 q v.begins v.ends j (omega arith) u)
 
 -- STAGES
 stage-gives : (s : List ℕ) (o : Option (List Literal)) (r : Span) → Stands stage s o r → Gives s (o >>= λ q. some ([], q)) (record { head = 0; headend = 0; from = r.from; body = r.from; end = r.to })

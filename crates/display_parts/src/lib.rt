@@ -96,10 +96,9 @@ fn next_part(line: &[u8]) -> Part
     requires { (6 ≤ length line.now) × (after (bytes "(next ") line.now ≡ some (drop 6 line.now)) }
     ensures { Gives line.now (part_of line.now 0) result }
 {
-    let x = text_scan::name_end(line, 6);
-    if x == 0 {
+    let Some(x) = text_scan::name_end(line, 6) else {
         return nothing();
-    }
+    };
     let p = spaced_list_end(line, x);
     if p == 0 {
         return nothing();

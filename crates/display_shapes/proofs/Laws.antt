@@ -5,7 +5,6 @@ use mathlib.Core.Option.{none, some}
 use Prim.Native.Nat.{ℕ, ◌+◌, ◌-◌, ◌≤◌, ◌<◌}
 use native.Mathlib.Omega.{arith}
 use lib.ListN.{length, drop, length-drop}
-use lib.Seq.{slice}
 use Rattle.limits.specs.Limits as limit
 use Rattle.grammar.specs.Bytes.{bytes}
 use Rattle.grammar.specs.Forms.{plain, negated}
@@ -23,7 +22,7 @@ module _ {A : Type 0} {read : List ℕ → Read A} {text : List ℕ} {at : ℕ} 
 
 -- a name
 pub ends-name : {text : List ℕ} {at e : ℕ} → NameEnd text at e → Ends name text at e
-ends-name {text} {at} {e} h = record { found = λ q. let f = h.found q in (slice at e text, f.0, f.1, f.2); missing = h.missing }
+ends-name h = ends_some h.begins h.ends h.read
 
 -- ITEMS, one after the other
 pub record Going {A : Type 0} (item : List ℕ → Read A) (text : List ℕ) (at n i k : ℕ) : Type 0 where

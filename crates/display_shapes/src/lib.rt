@@ -33,10 +33,9 @@ fn names_end(text: &[u8], at: usize, n: usize) -> usize
             return i + 1;
         }
         if text_scan::at_byte(text, i, 32) {
-            let e = text_scan::name_end(text, i + 1);
-            if e == 0 {
+            let Some(e) = text_scan::name_end(text, i + 1) else {
                 return 0;
-            }
+            };
             i = e;
             k -= 1;
         } else {
@@ -58,10 +57,9 @@ pub fn list_end(text: &[u8], at: usize) -> usize
         return at + 2;
     }
     if text_scan::at_byte(text, at, 40) {
-        let e = text_scan::name_end(text, at + 1);
-        if e == 0 {
+        let Some(e) = text_scan::name_end(text, at + 1) else {
             return 0;
-        }
+        };
         return names_end(text, e, NAMES);
     }
     0
@@ -73,10 +71,9 @@ pub fn atom_end(text: &[u8], at: usize) -> usize
     ensures { Ends atom text.now at result }
 {
     if text_scan::at_byte(text, at, 40) {
-        let e = text_scan::name_end(text, at + 1);
-        if e == 0 {
+        let Some(e) = text_scan::name_end(text, at + 1) else {
             return 0;
-        }
+        };
         return names_end(text, e, text.len() - at);
     }
     0

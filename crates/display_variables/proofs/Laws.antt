@@ -11,7 +11,7 @@ use lib.ListN.{length, take, drop, get_or, length-append}
 use lib.Seq.{slice, drop-drop}
 use borrow.Author.Tests.{eqb-true, eq-eqb, ne_eqb}
 use Rattle.grammar.specs.Bytes.{bytes, Word, same}
-use Rattle.grammar.specs.Shapes.{after}
+use Rattle.grammar.specs.Shapes.{after, name}
 use Rattle.grammar.specs.Declarations.{member, extend}
 use Rattle.grammar.proofs.Tests.{either}
 use Rattle.grammar.proofs.Words.{same-eq, member-append, extend-append}
@@ -33,9 +33,13 @@ module _ (line : List ℕ) (i : ℕ) (l : i < length line) where
   pub behind-name : {t : List ℕ} {e : ℕ} → after (bytes " ") (drop i line) ≡ some t → NameEnd line (i + 1) e → BehindEnd line i e
   unfolding behind_at
   behind-name h v = record {
-    found = λ q. let (a, b, c) = v.found q in (a, b, rw (space h, c));
-    missing = λ q. rw (space h, v.missing q);
+    found = λ q. (v.begins, v.ends, rw (space h, v.read));
+    missing = λ q. let a = v.begins in absurd (omega arith);
   }
+
+  pub behind-nameless : {t : List ℕ} → after (bytes " ") (drop i line) ≡ some t → name (drop (i + 1) line) ≡ none → BehindEnd line i 0
+  unfolding behind_at
+  behind-nameless h v = record { found = λ q. absurd (q refl); missing = λ q. rw (space h, v) }
 
   pub behind-other : after (bytes " ") (drop i line) ≡ none → BehindEnd line i 0
   unfolding behind_at

@@ -17,7 +17,10 @@ fn behind_end(line: &[u8], i: usize) -> usize
     ensures { BehindEnd line.now i result }
 {
     if text_scan::at_byte(line, i, 32) {
-        return text_scan::name_end(line, i + 1);
+        return match text_scan::name_end(line, i + 1) {
+            Some(e) => e,
+            None => 0,
+        };
     }
     0
 }

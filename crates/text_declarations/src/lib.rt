@@ -85,13 +85,12 @@ pub fn read_state(text: &[u8], d: Declared, at: usize) -> Declaration
     requires { (at ≤ length text.now) × (length text.now < 4294967296) × names.Valid text.now d × Limited d }
     ensures { DeclarationEnd text.now d (state_rest (drop at text.now)) result }
 {
-    let e = text_scan::name_end(text, at);
-    if e == 0 {
+    let Some(e) = text_scan::name_end(text, at) else {
         return Declaration {
             number: 3,
             declared: d,
         };
-    }
+    };
     if text_scan::at_byte(text, e, 41) {
         if e + 1 == text.len() {
             let number = state_number(text, d, at, e);
@@ -123,13 +122,12 @@ pub fn read_rel(text: &[u8], d: Declared, at: usize) -> Declaration
     requires { (at ≤ length text.now) × (length text.now < 4294967296) × names.Valid text.now d × Limited d }
     ensures { DeclarationEnd text.now d (rel_rest (drop at text.now)) result }
 {
-    let e = text_scan::name_end(text, at);
-    if e == 0 {
+    let Some(e) = text_scan::name_end(text, at) else {
         return Declaration {
             number: 3,
             declared: d,
         };
-    }
+    };
     if text_scan::at_byte(text, e, 32) {
         let n = arity_at(text, e + 1);
         if n == 3 {

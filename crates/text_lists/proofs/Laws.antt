@@ -26,6 +26,7 @@ use Rattle.grammar.specs.Models.{code_of, codes}
 use Rattle.grammar.proofs.Lower.{lower-second, lower-assoc, lower-none}
 use Rattle.grammar.proofs.Tests.{either}
 use Rattle.grammar.proofs.Reading.{Reading, reading-start, reading-more, reading-closed}
+use Rattle.text_scan.specs.Found.{NameEnd}
 use Rattle.text_names.specs.Names.{found}
 use Rattle.text_lists.specs.Lists.{Holds, Extends, NameAdded, RestEnd, ListEnd}
 use Rattle.text_lists.specs.declared.Chosen.{Chosen}
@@ -90,10 +91,10 @@ names-start h = record { more = []; reading = reading-start h; holds = λ ws so.
 
 module _ {text : seq.List ℕ} {D : Declared} {at n : ℕ} {s t : Chosen} {i k : ℕ} (so : NamesSo text D at n s t i k) where
   pub names_more : {r : Chosen} {e : ℕ} → 0 < k → after (bytes ")") (drop i text) ≡ none → after (bytes " ") (drop i text) ≡ some (drop (i + 1) text)
-      → ((i + 1 < e) × (e ≤ length text) × (name (drop (i + 1) text) ≡ some (slice (i + 1) e text, drop e text))) → NameAdded text D t (i + 1) e r → NamesSo text D at n s r e (k - 1)
-  names_more {r} {e} h p q (a, b, m) ad = record {
+      → NameEnd text (i + 1) e → NameAdded text D t (i + 1) e r → NamesSo text D at n s r e (k - 1)
+  names_more {r} {e} h p q w ad = record {
     more = so.more ++ (slice (i + 1) e text ∷ []);
-    reading = reading-more so.reading h p q a b m;
+    reading = reading-more so.reading h p q w.begins w.ends w.read;
     holds = λ ws f. rw (← append_assoc) (ad.added (ws ++ so.more) (so.holds ws f));
   }
 
@@ -126,12 +127,12 @@ module _ {text : seq.List ℕ} {D : Declared} {at : ℕ} where
       unfolding list bracket
       list-nameless m = record { found = λ z. absurd (z refl); missing = λ z. rw (p, q, m) }
 
-      pub list-found : {e : ℕ} {t : Chosen} {r : List} → s ≡ record { fault = 0; set = 0 } → ((at + 1 < e) × (e ≤ length text) × (name (drop (at + 1) text) ≡ some (slice (at + 1) e text, drop e text)))
+      pub list-found : {e : ℕ} {t : Chosen} {r : List} → s ≡ record { fault = 0; set = 0 } → NameEnd text (at + 1) e
           → NameAdded text D s (at + 1) e t → RestEnd text D e (limit.list - 1) t r → ListEnd text D at r
       unfolding list bracket
-      list-found {e} {t} {r} z (a, b, m) ad v = record {
-        found = λ y. let w = v.found y in (slice (at + 1) e text ∷ w.0, omega (arith, w.1), w.2, rw (p, q, m, w.3), w.4 (slice (at + 1) e text ∷ []) (ad.added [] (rw z (empty-list D))));
-        missing = λ y. rw (p, q, m, v.missing y);
+      list-found {e} {t} {r} z m ad v = record {
+        found = λ y. let w = v.found y in let a = m.begins in (slice (at + 1) e text ∷ w.0, omega (arith, w.1), w.2, rw (p, q, m.read, w.3), w.4 (slice (at + 1) e text ∷ []) (ad.added [] (rw z (empty-list D))));
+        missing = λ y. rw (p, q, m.read, v.missing y);
       }
 
 -- the code's `1 << c`

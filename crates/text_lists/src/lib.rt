@@ -61,10 +61,9 @@ fn read_names(text: &[u8], d: Declared, at: usize, s: Chosen, n: usize) -> List
             };
         }
         if text_scan::at_byte(text, i, 32) {
-            let e = text_scan::name_end(text, i + 1);
-            if e == 0 {
+            let Some(e) = text_scan::name_end(text, i + 1) else {
                 return List { chosen: t, end: 0 };
-            }
+            };
             t = add_name(text, d, t, i + 1, e);
             i = e;
             k -= 1;
@@ -94,10 +93,9 @@ pub fn read_list(text: &[u8], d: Declared, at: usize) -> List
         };
     }
     if text_scan::at_byte(text, at, 40) {
-        let e = text_scan::name_end(text, at + 1);
-        if e == 0 {
+        let Some(e) = text_scan::name_end(text, at + 1) else {
             return List { chosen: s, end: 0 };
-        }
+        };
         let t = add_name(text, d, s, at + 1, e);
         return read_names(text, d, e, t, FURTHER);
     }

@@ -9,14 +9,14 @@ loop-k-init c = going_start (search rules)
 pub returns-then-at_byte : goal.returns-then-at_byte
 returns-then-at_byte c = let f = c.at_byte.ensures.found c.if-at_byte.true in going-closed c.loop-k.invariant f.0 f.1
 
-pub name_end-e-requires : goal.name_end-e-requires
-name_end-e-requires c = omega (arith, (c.at_byte-in-loop-k.ensures.found c.if-at_byte-2.true).0)
+pub name_end-requires : goal.name_end-requires
+name_end-requires c = omega (arith, (c.at_byte-in-loop-k.ensures.found c.if-at_byte-2.true).0)
 
-pub returns-then-e-eq0 : goal.returns-then-e-eq0
-returns-then-e-eq0 c = going-fails c.loop-k.invariant (c.at_byte.ensures.missing c.if-at_byte.false) (c.at_byte-in-loop-k.ensures.found c.if-at_byte-2.true).1 (c.name_end-e.ensures.missing c.if-e-eq0.true)
+pub returns-in_default : goal.returns-in_default
+returns-in_default c = going-fails c.loop-k.invariant (c.at_byte.ensures.missing c.if-at_byte.false) (c.at_byte-in-loop-k.ensures.found c.if-at_byte-2.true).1 c.in_default.ensures
 
 pub loop-k-preserved : goal.loop-k-preserved
-loop-k-preserved c = going_more c.loop-k.invariant c.loop-k-test.true (c.at_byte.ensures.missing c.if-at_byte.false) (c.at_byte-in-loop-k.ensures.found c.if-at_byte-2.true).1 (ends-name c.name_end-e.ensures) c.if-e-eq0.false
+loop-k-preserved c = going_more c.loop-k.invariant c.loop-k-test.true (c.at_byte.ensures.missing c.if-at_byte.false) (c.at_byte-in-loop-k.ensures.found c.if-at_byte-2.true).1 (ends-name c.in-Some.ensures) (let b = c.in-Some.ensures.begins in λ z. absurd (omega arith))
 
 pub returns-else-at_byte-2 : goal.returns-else-at_byte-2
 returns-else-at_byte-2 c = going-ends c.loop-k.invariant (c.at_byte.ensures.missing c.if-at_byte.false) (c.at_byte-in-loop-k.ensures.missing c.if-at_byte-2.false)

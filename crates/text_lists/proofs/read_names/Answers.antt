@@ -10,17 +10,17 @@ loop-k-init c = (names-start c.requires.0, c.requires.1)
 pub returns-then-at_byte : goal.returns-then-at_byte
 returns-then-at_byte c = names-closed c.loop-k.invariant.0 (c.at_byte.ensures.found c.if-at_byte.true).0 (c.at_byte.ensures.found c.if-at_byte.true).1
 
-pub name_end-e-requires : goal.name_end-e-requires
-name_end-e-requires c = omega (arith, (c.at_byte-in-loop-k.ensures.found c.if-at_byte-2.true).0)
+pub name_end-requires : goal.name_end-requires
+name_end-requires c = omega (arith, (c.at_byte-in-loop-k.ensures.found c.if-at_byte-2.true).0)
 
-pub returns-then-e-eq0 : goal.returns-then-e-eq0
-returns-then-e-eq0 c = names-none (reading-fails c.loop-k.invariant.0.reading (c.at_byte.ensures.missing c.if-at_byte.false) (c.at_byte-in-loop-k.ensures.found c.if-at_byte-2.true).1 (c.name_end-e.ensures.missing c.if-e-eq0.true))
+pub returns-in_default : goal.returns-in_default
+returns-in_default c = names-none (reading-fails c.loop-k.invariant.0.reading (c.at_byte.ensures.missing c.if-at_byte.false) (c.at_byte-in-loop-k.ensures.found c.if-at_byte-2.true).1 c.in_default.ensures)
 
 pub add_name-t-requires : goal.add_name-t-requires
-add_name-t-requires c = let x = c.name_end-e.ensures.found c.if-e-eq0.false in (c.loop-k.invariant.1, omega (arith, x.0), x.1)
+add_name-t-requires c = let x = c.in-Some.ensures in (c.loop-k.invariant.1, omega (arith, x.begins), x.ends)
 
 pub loop-k-preserved : goal.loop-k-preserved
-loop-k-preserved c = (names_more c.loop-k.invariant.0 c.loop-k-test.true (c.at_byte.ensures.missing c.if-at_byte.false) (c.at_byte-in-loop-k.ensures.found c.if-at_byte-2.true).1 (c.name_end-e.ensures.found c.if-e-eq0.false) c.add_name-t.ensures, c.loop-k.invariant.1)
+loop-k-preserved c = (names_more c.loop-k.invariant.0 c.loop-k-test.true (c.at_byte.ensures.missing c.if-at_byte.false) (c.at_byte-in-loop-k.ensures.found c.if-at_byte-2.true).1 c.in-Some.ensures c.add_name-t.ensures, c.loop-k.invariant.1)
 
 pub returns-else-at_byte-2 : goal.returns-else-at_byte-2
 returns-else-at_byte-2 c = names-none (reading-ends c.loop-k.invariant.0.reading (c.at_byte.ensures.missing c.if-at_byte.false) (c.at_byte-in-loop-k.ensures.missing c.if-at_byte-2.false))
