@@ -32,14 +32,12 @@ fn line_end(handin: &[u8], at: usize) -> usize
     requires { at < length handin.now }
     ensures { LineEnd handin.now at result }
 {
-    let mut i = at;
-    while i < handin.len() {
+    for i in at..handin.len() {
         if handin[i] == b'\n' {
             return i;
         }
-        i += 1;
     }
-    i
+    handin.len()
 }
 
 // Past the lines that say nothing, from line 2 on.

@@ -23,24 +23,8 @@ use Rattle.handin_lines.specs.Lines.{digits, after_digits, is_numeral, number, b
 use Rattle.handin_lines.specs.Found.{cut, DigitsEnd, NumberAt, BelowAt, BelowEnd, object, last}
 use Rattle.handin_lines.specs.declared.Number.{Number}
 
--- LETTERS AND DIGITS
+-- DIGITS
 module _ (b : ℕ) where
-  pub alphanumeric-digits : b ≤ 57 → leb 48 b ≡ alphanumeric b
-  unfolding alphanumeric
-  alphanumeric-digits h = rw (le-leb b 57 h, lt-leb 65 b (omega arith), lt-leb 97 b (omega arith)) (sym (and-true (leb 48 b)))
-
-  pub alphanumeric-upper : 57 < b → b ≤ 90 → leb 65 b ≡ alphanumeric b
-  unfolding alphanumeric
-  alphanumeric-upper h k = rw (lt-leb b 57 h, le-leb b 90 k, le-leb 48 b (omega arith), lt-leb 97 b (omega arith), and-true, or-false (leb 65 b), or-false (leb 65 b))
-
-  pub alphanumeric-lower : 90 < b → b ≤ 122 → leb 97 b ≡ alphanumeric b
-  unfolding alphanumeric
-  alphanumeric-lower h k = rw (lt-leb b 57 (omega arith), lt-leb b 90 h, le-leb b 122 k, le-leb 48 b (omega arith), le-leb 65 b (omega arith), and-true, or-false)
-
-  pub alphanumeric-none : 122 < b → false ≡ alphanumeric b
-  unfolding alphanumeric
-  alphanumeric-none h = rw (lt-leb b 57 (omega arith), lt-leb b 90 (omega arith), lt-leb b 122 h, le-leb 48 b (omega arith), le-leb 65 b (omega arith), le-leb 97 b (omega arith))
-
   pub digit-yes : 48 ≤ b → b ≤ 57 → digit b ≡ true
   digit-yes h k = rw (le-leb 48 b h, le-leb b 57 k)
 

@@ -6,15 +6,14 @@ ghost use Rattle.std.proofs.Math.Option.{none, some};
 ghost use Rattle.limits.specs.Limits as limit;
 ghost use Rattle.model.specs.declared.Place.TheVariants.{Meeting};
 ghost use Rattle.model.specs.Places.{numeral};
-ghost use Rattle.grammar.specs.Bytes.{bytes, alphanumeric};
+ghost use Rattle.grammar.specs.Bytes.{bytes};
 ghost use Rattle.grammar.specs.Shapes.{after, whole};
-ghost use Rattle.text_scan.specs.Found.{WordEnd};
 ghost use Rattle.handin_lines.specs.Lines.{verdict, below, nothing, states_rest, atomic_rest, step_rest, meet_rest, said_by};
 ghost use Rattle.handin_lines.specs.Found.{cut, DigitsEnd, NumberEnd, BelowEnd, object, last, met, answer, is_silent, number_said, clear};
 
 use limits::NONE;
 use model::{Place, number_of};
-use text_scan::{at_byte, at_bytes, same_words};
+use text_scan::{at_byte, at_bytes, same_words, word_end};
 
 // What a line after the first says: nothing, or the place with this number.
 #[derive(Clone, Copy)]
@@ -32,39 +31,6 @@ struct Number {
 
 // From this number on all are alike.
 const LARGE: u32 = 8_388_608;
-
-// A letter or a digit.
-fn is_alphanumeric(b: u8) -> bool
-    ensures { result ≡ alphanumeric b }
-{
-    if b <= 57 {
-        return 48 <= b;
-    }
-    if b <= 90 {
-        return 65 <= b;
-    }
-    if b <= 122 {
-        return 97 <= b;
-    }
-    false
-}
-
-// Where the word that is next ends.
-fn word_end(line: &[u8], at: usize) -> usize
-    requires { at ≤ length line.now }
-    ensures { WordEnd line.now at result }
-{
-    let mut i = at;
-    while i < line.len() {
-        let b = line[i];
-        if is_alphanumeric(b) {
-            i += 1;
-        } else {
-            return i;
-        }
-    }
-    i
-}
 
 // Whether the line ends with the bracket that is next.
 fn ends(line: &[u8], at: usize) -> bool
