@@ -12,14 +12,7 @@ use model::Model;
 pub fn among(list: &[u32], number: u32) -> bool
     ensures { result ≡ elem number list.now }
 {
-    let mut i = 0;
-    while i < list.len() {
-        if list[i] == number {
-            return true;
-        }
-        i += 1;
-    }
-    false
+    list.contains(&number)
 }
 
 // The model without the clauses of the listed lines: the others move up, and keep their line numbers.
@@ -29,14 +22,12 @@ pub fn strike(mut m: Model, lines: &[u32]) -> Model
 {
     let n = m.clausecount;
     let mut kept = 0;
-    let mut i = 0;
-    while i < n {
+    for i in 0..n {
         let c = m.clauses[i];
         if !among(lines, c.line) {
             m.clauses[kept] = c;
             kept += 1;
         }
-        i += 1;
     }
     m.clausecount = kept;
     m
