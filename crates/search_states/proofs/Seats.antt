@@ -1,5 +1,5 @@
 -- The first place of a number in a row.
-use mathlib.Core.Path.{◌≡◌, refl, sym, ap, ◌∙◌}
+use mathlib.Core.Path.{◌≡◌, refl, sym, ap, ◌∙◌, subst}
 use mathlib.Core.Logic.{⊎_elim}
 use mathlib.Core.Bool.{true, false, cond}
 use mathlib.Core.List.{List, [], ◌∷◌}
@@ -11,6 +11,7 @@ use lib.Dec.{eqb, ltb}
 use lib.ListN.{length, get_or}
 use native.Mathlib.Numerals.{one-add}
 use Rattle.std.specs.List.{list_any, position}
+use Rattle.std.specs.Prelude.{Option, Some, None}
 use Rattle.std.specs.Option.{unwrap_or}
 use Rattle.std.proofs.lemmas.Bool.Decides.{nat_tests}
 use Rattle.std.proofs.lemmas.List.Recursion.{is_position_or_len}
@@ -44,13 +45,34 @@ list_any-elem x [] = refl
 list_any-elem x (y ∷ ys) = let e : eqb y x ≡ eqb x y = grind (arith, nat_tests) in rw (e, list_any-elem x ys)
 
 -- its `position` is the first place
-pub position-seat : (x : ℕ) (xs : List ℕ) (n : ℕ) → length xs ≡ n → unwrap_or (position (eqb x) xs) n ≡ seat x xs
-position-seat x xs n long =
-    rw (← long, ← is_position_or_len (seat x) (eqb x) refl (λ y ys. ap (cond (eqb x y) 0) (sym (one-add (seat x ys)))) xs)
-    (⊎_elim
-    (λ (e : ltb (seat x xs) (length xs) ≡ true). rw e)
-    (λ (e : ltb (seat x xs) (length xs) ≡ false). rw e (sym (seat-absent x xs (sym (seat-below x xs) ∙ e))))
-    (either (ltb (seat x xs) (length xs))))
+pub position-seat : (x : ℕ) (xs : List ℕ) → position (eqb x) xs ≡ cond (elem x xs) (Some (seat x xs)) None
+position-seat x xs = rw (← is_position_or_len (seat x) (eqb x) refl (λ y ys. ap (cond (eqb x y) 0) (sym (one-add (seat x ys)))) xs, seat-below x xs)
+
+pub position-or_length : (x : ℕ) (xs : List ℕ) (n : ℕ) → length xs ≡ n → unwrap_or (position (eqb x) xs) n ≡ seat x xs
+position-or_length x xs n long = rw (position-seat x xs, ← long)
+    (⊎_elim (λ (e : elem x xs ≡ true). rw e) (λ (e : elem x xs ≡ false). rw (e, seat-absent x xs e)) (either (elem x xs)))
+
+-- where it is, and that it is nowhere
+pub position-there : (x : ℕ) (xs : List ℕ) (t : ℕ) → position (eqb x) xs ≡ Some t → (t < length xs) × (get_or xs t 0 ≡ x)
+position-there x xs t h = ⊎_elim
+    (λ (e : elem x xs ≡ true). let q : seat x xs ≡ t = some-same (seat x xs) t (rw e at (sym (position-seat x xs) ∙ h)) in subst (λ (u : ℕ). (u < length xs) × (get_or xs u 0 ≡ x)) q (seat-ok x xs e))
+    (λ (e : elem x xs ≡ false). absurd (none-some t (rw e at (sym (position-seat x xs) ∙ h))))
+    (either (elem x xs))
+  where
+    some-same : (a b : ℕ) → ◌≡◌ {A = Option ℕ} (Some a) (Some b) → a ≡ b
+    some-same a b e = cc
+
+    none-some : (b : ℕ) → ◌≡◌ {A = Option ℕ} None (Some b) → ⊥
+    none-some b e = cc
+
+pub position-nowhere : (x : ℕ) (xs : List ℕ) → position (eqb x) xs ≡ None → elem x xs ≡ false
+position-nowhere x xs h = ⊎_elim
+    (λ (e : elem x xs ≡ true). absurd (some-none (seat x xs) (rw e at (sym (position-seat x xs) ∙ h))))
+    (λ (e : elem x xs ≡ false). e)
+    (either (elem x xs))
+  where
+    some-none : (b : ℕ) → ◌≡◌ {A = Option ℕ} (Some b) None → ⊥
+    some-none b e = cc
 
 -- each place has an element of the row
 pub elem-get_or : (xs : List ℕ) (j : ℕ) → j < length xs → elem (get_or xs j 0) xs ≡ true

@@ -42,6 +42,12 @@ module _ (m : Model) (w : List ℕ) where
       ))
       b
 
+-- no other clause has one
+pub noted-other : (w : List ℕ) (i e : ℕ) (a : Action) → ((plus minus : ℕ) → a ≡ Next plus minus → ⊥) → Noted a w i e → ⊥
+noted-other w i e (Rule r n) f h = h
+noted-other w i e (New t) f h = h
+noted-other w i e (Next plus minus) f h = f plus minus refl
+
 -- the row of the marks, joined to row i of the table
 pub copied-row : (w : List ℕ) (i : ℕ) (r : List ℕ) → Copied w (guard i) r → (t t' : List ℕ) → Joined t i r t' → Marks t' (With t (InRow i width.slots (λ e. in_row w (guard i) e ≡ true)))
 copied-row w i r c t t' j = marks-so t' (With t (InRow i width.slots (λ e. bit_at r e ≡ true))) (With t (InRow i width.slots (λ e. in_row w (guard i) e ≡ true)))

@@ -4,18 +4,13 @@ use Rattle.facts_bits.specs.Width as width
 use Rattle.facts_bits.specs.Bits.{Copied}
 use Rattle.search_ways.specs.Moves.{InRow, Noted}
 use Rattle.search_ways.proofs.Marking.{marks-same}
-use Rattle.search_ways.proofs.Table.{copied-row}
+use Rattle.search_ways.proofs.Table.{noted-other, copied-row}
 use Rattle.search_ways.proofs.copy.Goals as goal
 
-pub returns-in-Rule : goal.returns-in-Rule
-returns-in-Rule c =
+pub returns-in_default : goal.returns-in_default
+returns-in_default c =
     let a = c.args in
-    marks-same a.table.now (InRow a.i width.slots (Noted a.c.action a.work.now a.i)) (λ k t q. rw c.in-Rule.is at q.2)
-
-pub returns-in-New : goal.returns-in-New
-returns-in-New c =
-    let a = c.args in
-    marks-same a.table.now (InRow a.i width.slots (Noted a.c.action a.work.now a.i)) (λ k t q. rw c.in-New.is at q.2)
+    marks-same a.table.now (InRow a.i width.slots (Noted a.c.action a.work.now a.i)) (λ k t q. noted-other a.work.now a.i t a.c.action c.in_default.not-Next q.2)
 
 pub returns-in-Next : goal.returns-in-Next
 returns-in-Next c =

@@ -1,21 +1,19 @@
-use lib.ListN.{take}
+use lib.ListN.{length}
+use Rattle.semantics.specs.Facts.{state}
 use Rattle.search_ways.specs.Steps.{Between, Led}
 use Rattle.search_ways.proofs.Marking.{marks-same}
+use Rattle.search_ways.proofs.Stepping.{turns-other}
 use Rattle.search_ways.proofs.lead_clause.Goals as goal
 
 pub lead_next-requires : goal.lead_next-requires
 lead_next-requires c =
-    (c.requires.0, c.requires.1, c.requires.2, c.requires.3, c.requires.4, c.requires.5)
+    (c.requires.0, c.requires.1, c.requires.2, c.requires.3, c.requires.4)
 
-pub returns-in-Rule : goal.returns-in-Rule
-returns-in-Rule c =
+pub returns-in_default : goal.returns-in_default
+returns-in_default c =
     let a = c.args in
-    marks-same a.ways.now (Between a.n (Led a.table.now a.i (take a.n a.states.now) a.c.action)) (λ k t q. rw c.in-Rule.is at q.2.1)
-
-pub returns-in-New : goal.returns-in-New
-returns-in-New c =
-    let a = c.args in
-    marks-same a.ways.now (Between a.n (Led a.table.now a.i (take a.n a.states.now) a.c.action)) (λ k t q. rw c.in-New.is at q.2.1)
+    let S = a.states.now in
+    marks-same a.ways.now (Between (length S) (Led a.table.now a.i S a.c.action)) (λ k t q. turns-other (state S k) (state S t) a.c.action c.in_default.not-Next q.2.1)
 
 pub returns-in-Next : goal.returns-in-Next
 returns-in-Next c = rw c.in-Next.is c.lead_next.ensures

@@ -7,7 +7,4 @@ use Rattle.search_ways.specs.Steps.{Turns}
 use Rattle.search_ways.proofs.line_to.Given as goal
 
 abbrev pub invariant-loop-i : goal.invariant-loop-i
-invariant-loop-i l = (l.i ≤ l.m.clausecount) × ((k : ℕ) → k < l.i → in_row l.table k l.u ≡ true → Turns (clause_at l.m k).action l.from l.to → ⊥)
-
-abbrev pub decreases-loop-i : goal.decreases-loop-i
-decreases-loop-i l = l.m.clausecount - l.i
+invariant-loop-i l = ((k : ℕ) → k < l.i → in_row l.table k l.u ≡ true → Turns (clause_at l.m k).action l.from l.to → ⊥)

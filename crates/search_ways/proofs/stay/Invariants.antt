@@ -6,7 +6,4 @@ use Rattle.search_ways.proofs.Marking.{Upto}
 use Rattle.search_ways.proofs.stay.Given as goal
 
 abbrev pub invariant-loop-e : goal.invariant-loop-e
-invariant-loop-e l = (l.e ≤ l.n) × (length l.ways ≡ matrix_bytes) × Marks l.ways (With l.initial.ways (Upto l.e l.n (λ (k t : ℕ). k ≡ t)))
-
-abbrev pub decreases-loop-e : goal.decreases-loop-e
-decreases-loop-e l = l.n - l.e
+invariant-loop-e l = (length l.ways ≡ matrix_bytes) × Marks l.ways (With l.initial.ways (Upto l.e l.n (λ (k t : ℕ). k ≡ t)))

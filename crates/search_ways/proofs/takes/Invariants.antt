@@ -6,7 +6,4 @@ use Rattle.search_ways.proofs.Table.{Below}
 use Rattle.search_ways.proofs.takes.Given as goal
 
 abbrev pub invariant-loop-i : goal.invariant-loop-i
-invariant-loop-i l = (l.i ≤ l.m.clausecount) × (length l.table ≡ table_bytes) × Marks l.table (Below l.m l.work l.i)
-
-abbrev pub decreases-loop-i : goal.decreases-loop-i
-decreases-loop-i l = l.m.clausecount - l.i
+invariant-loop-i l = (length l.table ≡ table_bytes) × Marks l.table (Below l.m l.work l.i)
