@@ -127,6 +127,3 @@ module _ (n : ℕ) (D : ℕ → ℕ → Type 0) where
         λ q. ⊎_elim (λ x. inl x) (λ x. inr (⊎_elim (λ (z : e ≡ k). inr (z, x.1, (f t x.1).1 (subst (λ (v : ℕ). D v t) z x.2))) (λ (z : e ≢ k). inl (omega (arith, x.0), x.1, x.2)) (same? e k))) q,
       ))
       (marks_then w₀ w w' (Upto k n D) (InRow k n E) a b)
-
-  pub upto_skip : (k : ℕ) → ((t : ℕ) → D k t → ⊥) → (w₀ w : List ℕ) → Marks w (With w₀ (Upto k n D)) → Marks w (With w₀ (Upto (k + 1) n D))
-  upto_skip k f w₀ w a = upto-more k (D k) (λ t l. ((λ x. x), λ x. x)) w₀ w w a (marks-same w (InRow k n (D k)) (λ e t q. f t q.2))

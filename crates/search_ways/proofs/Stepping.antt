@@ -6,7 +6,7 @@ use mathlib.Core.List.{List}
 use Prim.Native.Nat.{ℕ, ◌+◌, ◌*◌, ◌≤◌, ◌<◌}
 use native.Mathlib.Omega.{arith}
 use lib.Dec.{eqb}
-use lib.ListN.{length, take, get_or}
+use lib.ListN.{length, get_or}
 use Rattle.std.specs.Prelude.{Some, None}
 use Rattle.std.specs.List.{position}
 use lib.Seq.{get_or-take}
@@ -52,12 +52,6 @@ module _ (S : Database) (one : Distinct S) (few : length S ≤ limit.listed) (pl
 
   pub led-none : position (eqb led) S ≡ None → Marks w (With w (InRow e (length S) Fits))
   led-none q = marks-same w (InRow e (length S) Fits) (λ k u x. clash (subst (λ (v : ℕ). elem v S ≡ true) x.2 (elem-state S u x.1)) (position-nowhere led S q))
-
--- only a `next` clause turns one
-pub turns-other : (s t : ℕ) (a : Action) → ((plus minus : ℕ) → a ≡ Next plus minus → ⊥) → Turns a s t → ⊥
-turns-other s t (Rule r n) f h = h
-turns-other s t (New u) f h = h
-turns-other s t (Next plus minus) f h = f plus minus refl
 
 -- CLAUSE BY CLAUSE
 module _ (m : Model) (S : Database) (n : ℕ) (table : List ℕ) where

@@ -1,4 +1,4 @@
-use Prim.Native.Nat.{ℕ, ◌-◌, ◌≤◌, ◌<◌}
+use Prim.Native.Nat.{ℕ, ◌<◌}
 use Rattle.search_ways.specs.Shortest.{Joins}
 use Rattle.search_ways.proofs.before.Given as goal
 

@@ -1,5 +1,4 @@
 use mathlib.Core.Path.{◌≡◌}
-use Prim.Native.Nat.{◌-◌, ◌≤◌}
 use lib.ListN.{length}
 use Rattle.search_ways.specs.Moves.{matrix_bytes, Marks}
 use Rattle.search_ways.proofs.Closing.{Via}

@@ -1,6 +1,6 @@
 use mathlib.Core.Path.{◌≡◌}
 use mathlib.Core.Bool.{true}
-use Prim.Native.Nat.{ℕ, ◌-◌, ◌≤◌, ◌<◌}
+use Prim.Native.Nat.{ℕ, ◌<◌}
 use Rattle.model.specs.Records.{clause_at}
 use Rattle.facts_bits.specs.Bits.{in_row}
 use Rattle.search_ways.specs.Steps.{Turns}

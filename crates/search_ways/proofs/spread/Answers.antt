@@ -12,14 +12,9 @@ use Rattle.search_ways.specs.Moves.{Marks, With, InRow}
 use Rattle.search_ways.specs.Shortest.{Joined}
 use Rattle.search_ways.proofs.Marking.{marks-join, row_other}
 use Rattle.search_ways.proofs.Closing.{copied}
-use Rattle.search_ways.proofs.Nearest.{spread_none, spread-more, spread-skip}
+use Rattle.search_ways.proofs.Nearest.{spread-more, spread-skip}
 use Rattle.search_ways.proofs.spread.Goals as goal
 use Rattle.search_ways.proofs.spread.Goals.{else-get, then-get}
-
-pub loop-u-init : goal.loop-u-init
-loop-u-init c =
-    let a = c.args in
-    (c.requires.3, spread_none a.links.now a.layers.now (a.j + 1) a.j)
 
 pub loop-u-preserved : goal.loop-u-preserved
 loop-u-preserved c =
@@ -39,13 +34,3 @@ loop-u-preserved c =
             (spread-skip a.links.now a.layers.now l.layers i a.j l.u l.invariant.1 (⊎_elim (λ (z : in_row a.layers.now a.j l.u ≡ true). clash (p.1 z) (sym g ∙ w.if-get.false)) (λ (z : in_row a.layers.now a.j l.u ≡ false). z) (either (in_row a.layers.now a.j l.u))))
       ],
     )
-
-pub shape_of-layers : goal.shape_of-layers
-shape_of-layers c = c.loop-u.invariant.0 ∙ sym c.requires.3
-
-pub returns : goal.returns
-returns c =
-    let a = c.args in
-    let l = c.loop-u in
-    let e : l.u ≡ a.n = omega arith in
-    subst (λ (k : ℕ). Marks l.layers (With a.layers.now (InRow (a.j + 1) width.slots (Joined a.links.now a.layers.now k a.j)))) e l.invariant.1

@@ -1,5 +1,5 @@
 use mathlib.Core.Path.{◌≡◌}
-use Prim.Native.Nat.{◌+◌, ◌-◌, ◌≤◌}
+use Prim.Native.Nat.{◌+◌}
 use lib.ListN.{length}
 use Rattle.facts_bits.specs.Width as width
 use Rattle.search_ways.specs.Moves.{matrix_bytes, Marks, With, InRow}

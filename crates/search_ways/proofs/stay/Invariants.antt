@@ -1,5 +1,5 @@
 use mathlib.Core.Path.{◌≡◌}
-use Prim.Native.Nat.{ℕ, ◌-◌, ◌≤◌}
+use Prim.Native.Nat.{ℕ}
 use lib.ListN.{length}
 use Rattle.search_ways.specs.Moves.{matrix_bytes, Marks, With}
 use Rattle.search_ways.proofs.Marking.{Upto}

@@ -1,4 +1,4 @@
-use mathlib.Core.Path.{◌≡◌, sym, ◌∙◌, subst}
+use mathlib.Core.Path.{◌≡◌, ◌∙◌, subst}
 use Prim.Native.Nat.{ℕ}
 use native.Mathlib.Omega.{arith}
 use Rattle.search_states.specs.States.{row}
@@ -8,25 +8,10 @@ use Rattle.search_ways.proofs.Marking.{marks-zero}
 use Rattle.search_ways.proofs.Stepping.{LedTo, led-start, led-more, led-all}
 use Rattle.search_ways.proofs.steps.Goals as goal
 
-pub stay-requires : goal.stay-requires
-stay-requires c =
-    (omega (arith, c.requires.1.count), c.fill.ensures.len ∙ c.requires.4)
-
 pub loop-i-init : goal.loop-i-init
 loop-i-init c =
     let a = c.args in
     (c.stay.auto.ways ∙ (c.fill.ensures.len ∙ c.requires.4), led-start a.m (row a.s) a.s.count a.table.now _ _ (marks-zero c.fill.new.self _ c.fill.ensures.len c.fill.ensures.clones) c.stay.ensures)
-
-pub offset_bounds-m-i : goal.offset_bounds-m-i
-offset_bounds-m-i c = record { fits = omega (arith, c.requires.0.clauses) }
-
-pub bounds-m-i : goal.bounds-m-i
-bounds-m-i c = omega (arith, c.requires.0.clauses)
-
-pub lead_clause-requires : goal.lead_clause-requires
-lead_clause-requires c =
-    let l = c.loop-i in
-    (c.requires.1.distinct, omega (arith, length-row c.args.s c.requires.1, c.requires.1.count), omega (arith, c.requires.0.clauses), c.requires.2, l.invariant.0)
 
 pub loop-i-preserved : goal.loop-i-preserved
 loop-i-preserved c =
@@ -35,9 +20,6 @@ loop-i-preserved c =
       c.lead_clause.auto.ways ∙ l.invariant.0,
       led-more a.m (row a.s) a.s.count a.table.now l.i l.ways _ l.invariant.1 (rw (length-row a.s c.requires.1) at c.lead_clause.ensures),
     )
-
-pub shape_of-ways : goal.shape_of-ways
-shape_of-ways c = c.loop-i.invariant.0 ∙ sym c.requires.4
 
 pub returns : goal.returns
 returns c =

@@ -1,5 +1,4 @@
 use mathlib.Core.Path.{◌≡◌}
-use Prim.Native.Nat.{◌-◌, ◌≤◌}
 use lib.ListN.{length}
 use Rattle.search_states.specs.States.{row}
 use Rattle.search_ways.specs.Moves.{matrix_bytes, Marks}
