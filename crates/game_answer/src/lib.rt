@@ -59,11 +59,9 @@ fn arranged(s: States, listing: Listing, ranks: [u32; LISTED]) -> [u32; LISTED]
     ensures { Arranged (row s) listing.states listing.count ranks result }
 {
     let mut moves = [0u32; LISTED];
-    let mut i: usize = 0;
-    while i < listing.count {
-        let slot = search_states::seek(&s.states, s.count, listing.states[i]);
+    for (i, state) in listing.states[..listing.count].iter().enumerate() {
+        let slot = search_states::seek(&s.states, s.count, *state);
         moves[i] = ranks[slot];
-        i += 1;
     }
     moves
 }
@@ -75,18 +73,16 @@ fn tell(m: Model, attacker: &[u32], guardian: &[u32], facts: &[u8], found: Explo
 {
     let s = found.states;
     let listing = found.listing;
-    let moves = found.moves;
-    let table = moves.table;
-    let ours = game_moves::own(m, s, &table, attacker);
-    let theirs = game_moves::own(m, s, &table, guardian);
+    let ours = game_moves::own(m, s, &found.moves.table, attacker);
+    let theirs = game_moves::own(m, s, &found.moves.table, guardian);
     let met = game_stage::meeting(facts, m, s);
     let ranks = game_rounds::solve(&ours, &theirs, met, s.count);
-    let numbers = arranged(s, listing, ranks);
+    let moves = arranged(s, listing, ranks);
     let states = listing.states;
     Game {
         answer: Answer::Told,
         states,
-        moves: numbers,
+        moves,
         count: listing.count,
     }
 }
@@ -110,10 +106,7 @@ pub fn decide(m: Model, attacker: &[u32], guardian: &[u32], work: &mut [u8]) -> 
     requires { WellFormed m × (limit.work ≤ length work.old) }
     ensures { Settles (program_of m) (question_of m) attacker.now guardian.now work.old result work.new }
 {
-    if game_lists::faulty(m, attacker) {
-        return refuse(BAD_LIST, 0);
-    }
-    if game_lists::faulty(m, guardian) {
+    if game_lists::faulty(m, attacker) || game_lists::faulty(m, guardian) {
         return refuse(BAD_LIST, 0);
     }
     if !game_lists::single(m) {

@@ -15,16 +15,7 @@ fn some_sooner(moves: &[u8], e: usize, n: usize, ranks: &[u32], round: u32) -> b
     requires { (n ≤ limit.atomic) × (e ≤ n) × (length moves.now ≡ limit.listed * width.bytes) × (length ranks.now ≡ limit.listed) }
     ensures { result ≡ any (sooner ranks.now round) (slots moves.now e (suc n)) }
 {
-    let mut t: usize = 0;
-    while t <= n {
-        if facts_bits::get(moves, e * WIDTH + t) {
-            if ranks[t] < round {
-                return true;
-            }
-        }
-        t += 1;
-    }
-    false
+    (0..n + 1).any(|t| facts_bits::get(moves, e * WIDTH + t) && ranks[t] < round)
 }
 
 // Has each slot of row e a number below the round's?
@@ -32,16 +23,7 @@ fn all_sooner(moves: &[u8], e: usize, n: usize, ranks: &[u32], round: u32) -> bo
     requires { (n ≤ limit.atomic) × (e ≤ n) × (length moves.now ≡ limit.listed * width.bytes) × (length ranks.now ≡ limit.listed) }
     ensures { result ≡ every (sooner ranks.now round) (slots moves.now e (suc n)) }
 {
-    let mut t: usize = 0;
-    while t <= n {
-        if facts_bits::get(moves, e * WIDTH + t) {
-            if ranks[t] >= round {
-                return false;
-            }
-        }
-        t += 1;
-    }
-    true
+    (0..n + 1).all(|t| !facts_bits::get(moves, e * WIDTH + t) || ranks[t] < round)
 }
 
 // Can the side get a number at slot e in this round? A side without a move passes.
@@ -71,15 +53,11 @@ fn turn(
     ensures { Turned (side_of attacks) moves.now n ranks.old others.now round ranks.new result }
 {
     let mut changed = false;
-    let mut e: usize = 0;
-    while e <= n {
-        if ranks[e] == NONE {
-            if ready(attacks, moves, e, n, others, round) {
-                ranks[e] = round;
-                changed = true;
-            }
+    for e in 0..=n {
+        if ranks[e] == NONE && ready(attacks, moves, e, n, others, round) {
+            ranks[e] = round;
+            changed = true;
         }
-        e += 1;
     }
     changed
 }
@@ -90,12 +68,10 @@ fn outset(met: [u8; BYTES], n: usize) -> [u32; LISTED]
     ensures { Begun met n result }
 {
     let mut ranks = [NONE; LISTED];
-    let mut e: usize = 0;
-    while e <= n {
+    for e in 0..=n {
         if facts_bits::get(&met, e) {
             ranks[e] = 0;
         }
-        e += 1;
     }
     ranks
 }
@@ -111,10 +87,8 @@ pub fn solve(ours: &[u8], theirs: &[u8], met: [u8; BYTES], n: usize) -> [u32; LI
     loop {
         let moved = turn(true, ours, n, &mut first, &second, round);
         let answered = turn(false, theirs, n, &mut second, &first, round);
-        if !moved {
-            if !answered {
-                return first;
-            }
+        if !moved && !answered {
+            return first;
         }
         round += 1;
     }

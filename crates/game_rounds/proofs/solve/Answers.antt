@@ -5,7 +5,7 @@ use native.Mathlib.Omega.{arith}
 use Rattle.game_rounds.specs.Board.{board}
 use Rattle.game_rounds.proofs.Numbers.{Agree, begun, next-round, last-round}
 use Rattle.game_rounds.proofs.solve.Goals as goal
-use Rattle.game_rounds.proofs.solve.Goals.{At-loop-second, else-not-moved, then-not-moved+else-not-answered}
+use Rattle.game_rounds.proofs.solve.Goals.{At-loop-second, else-not-moved-via-then-not-moved+else-not-answered, else-not-moved-via-else-not-moved}
 
 -- after k rounds
 so : (c : At-loop-second) → let a = c.args in (k : ℕ) × (c.loop-second.round ≡ suc k) × (k ≤ 252) × Agree (board a.ours.now a.theirs.now a.met a.n) a.n k c.loop-second.first c.loop-second.second
@@ -62,4 +62,4 @@ loop-second-preserved c =
     λ M f h.
     let k = l.invariant M f h in
     next-round a.ours.now a.theirs.now M a.n f k.0 l.round k.1 k.2 l.first l.second k.3 t.new.ranks t.result t.ensures u.new.ranks u.result u.ensures
-    (elim (c.if-not-moved.branch) [ then-not-moved+else-not-answered w ↦ inr w.if-not-answered.false | else-not-moved w ↦ inl w.if-not-moved.false ])
+    (elim (c.else-not-moved.branch) [ else-not-moved-via-then-not-moved+else-not-answered w ↦ inr w.if-not-answered.false | else-not-moved-via-else-not-moved w ↦ inl w.if-not-moved.false ])

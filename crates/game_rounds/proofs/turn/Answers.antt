@@ -1,59 +1,35 @@
 use mathlib.Core.Path.{sym, ◌∙◌}
+use Prim.Native.Nat.{◌+◌}
 use native.Mathlib.Omega.{arith}
 use Rattle.game_rounds.specs.Board.{side_of}
-use Rattle.game_rounds.proofs.Turning.{partly_none, partly-given, partly-kept, kept-none, kept-own, partly-all}
+use Rattle.game_rounds.proofs.Turning.{Partly, partly_none, partly-given, partly-kept, kept-none, kept-own, partly-all}
 use Rattle.game_rounds.proofs.turn.Goals as goal
-use Rattle.game_rounds.proofs.turn.Goals.{else-ranks-e-eq-NONE, then-ranks-e-eq-NONE+then-ready, then-ranks-e-eq-NONE+else-ready}
+use Rattle.game_rounds.proofs.turn.Goals.{Joined-ranks-e-eq-NONE, then-ranks-e-eq-NONE+then-ready, else-ranks-e-eq-NONE, else-ranks-e-eq-NONE-via-then-ranks-e-eq-NONE+else-ready, else-ranks-e-eq-NONE-via-else-ranks-e-eq-NONE}
 
 pub loop-e-init : goal.loop-e-init
 loop-e-init c =
     let a = c.args in
-    (omega arith, c.requires.2, partly_none (side_of a.attacks) a.moves.now a.n a.ranks.now a.others.now a.round)
+    partly_none (side_of a.attacks) a.moves.now a.n a.ranks.now a.others.now a.round
 
-pub offset_bounds-ranks-e : goal.offset_bounds-ranks-e
-offset_bounds-ranks-e c = record { fits = omega (arith, c.requires.0, c.loop-e-test.true) }
-
-pub bounds-ranks-e : goal.bounds-ranks-e
-bounds-ranks-e c = omega (arith, c.requires.0, c.loop-e-test.true, c.loop-e.invariant.1)
-
-pub ready-requires : goal.ready-requires
-ready-requires c = (c.requires.0, c.loop-e-test.true, c.requires.1, c.requires.3, c.requires.4)
-
-pub offset_bounds-ranks-e-then-ready : goal.offset_bounds-ranks-e-then-ready
-offset_bounds-ranks-e-then-ready c =
-    record { fits = omega (arith, c.requires.0, c.loop-e-test.true) }
-
-pub bounds-ranks-e-then-ready : goal.bounds-ranks-e-then-ready
-bounds-ranks-e-then-ready c =
-    omega (arith, c.requires.0, c.loop-e-test.true, c.loop-e.invariant.1)
-
-pub overflow_add-e : goal.overflow_add-e
-overflow_add-e c = record { fits = omega (arith, c.requires.0, c.loop-e-test.true) }
-
-pub loop-e-smaller : goal.loop-e-smaller
-loop-e-smaller c = omega (arith, c.loop-e-test.true)
-
-pub loop-e-preserved : goal.loop-e-preserved
-loop-e-preserved c =
+-- after slot e
+step : (c : Joined-ranks-e-eq-NONE) → let a = c.args in Partly (side_of a.attacks) a.moves.now a.n a.ranks.now a.others.now a.round (c.loop-e.e + 1) c.if-ranks-e-eq-NONE.ranks c.if-ranks-e-eq-NONE.changed
+step c =
     let a = c.args in
     let l = c.loop-e in
-    let h = c.loop-e-test.true in
-    let p = c.loop-e.invariant.2 in
-    let same = c.loop-e.invariant.2.long in
+    let p = l.invariant in
     let kept = partly-kept (side_of a.attacks) a.moves.now a.n a.ranks.now a.others.now a.round l.e l.ranks l.changed p in
     elim (c.if-ranks-e-eq-NONE.branch) [
-      | then-ranks-e-eq-NONE+then-ready w ↦
-          let g = partly-given (side_of a.attacks) a.moves.now a.n a.ranks.now a.others.now a.round l.e l.ranks l.changed p (omega (arith, c.requires.0, h, l.invariant.1)) w.if-ranks-e-eq-NONE.true (sym w.ready.ensures ∙ w.if-ready.true) in
-          rw (w.ranks-is, w.changed-is) (omega (arith, h), g.long ∙ c.requires.2, g)
-      | then-ranks-e-eq-NONE+else-ready w ↦ rw (w.ranks-is, w.changed-is) (omega (arith, h), l.invariant.1, kept (kept-none (side_of a.attacks) a.moves.now a.n a.ranks.now a.others.now a.round l.e (sym w.ready.ensures ∙ w.if-ready.false)))
-      | else-ranks-e-eq-NONE w ↦ rw (w.ranks-is, w.changed-is) (omega (arith, h), l.invariant.1, kept (kept-own (side_of a.attacks) a.moves.now a.n a.ranks.now a.others.now a.round l.e (λ z. w.if-ranks-e-eq-NONE.false (p.rest l.e (omega arith) ∙ z))))
+      | then-ranks-e-eq-NONE+then-ready w ↦ rw (w.ranks-is, w.changed-is) (partly-given (side_of a.attacks) a.moves.now a.n a.ranks.now a.others.now a.round l.e l.ranks l.changed p (omega arith) w.if-ranks-e-eq-NONE.true (sym w.ready.ensures ∙ w.if-ready.true))
+      | else-ranks-e-eq-NONE w ↦ rw (w.ranks-is, w.changed-is) (kept (elim (w.else-ranks-e-eq-NONE.branch) [
+        | else-ranks-e-eq-NONE-via-then-ranks-e-eq-NONE+else-ready v ↦ kept-none (side_of a.attacks) a.moves.now a.n a.ranks.now a.others.now a.round l.e (sym v.ready.ensures ∙ v.if-ready.false)
+        | else-ranks-e-eq-NONE-via-else-ranks-e-eq-NONE v ↦ kept-own (side_of a.attacks) a.moves.now a.n a.ranks.now a.others.now a.round l.e (λ z. v.if-ranks-e-eq-NONE.false (p.rest l.e (omega arith) ∙ z))
+      ]))
     ]
 
-pub shape_of-ranks : goal.shape_of-ranks
-shape_of-ranks c = c.loop-e.invariant.2.long
+pub loop-e-preserved : goal.loop-e-preserved
+loop-e-preserved c = step (goal.at.loop-e-preserved c).Joined-ranks-e-eq-NONE
 
-pub returns : goal.returns
-returns c =
+pub returns-after-ranks-e-eq-NONE : goal.returns-after-ranks-e-eq-NONE
+returns-after-ranks-e-eq-NONE c =
     let a = c.args in
-    let l = c.loop-e in
-    partly-all (side_of a.attacks) a.moves.now a.n a.ranks.now a.others.now a.round l.e l.ranks l.changed (omega (arith, c.loop-e-test.false, l.invariant.0)) l.invariant.2
+    partly-all (side_of a.attacks) a.moves.now a.n a.ranks.now a.others.now a.round (c.loop-e.e + 1) c.if-ranks-e-eq-NONE.ranks c.if-ranks-e-eq-NONE.changed (omega arith) (step (goal.at.returns-after-ranks-e-eq-NONE c).Joined-ranks-e-eq-NONE)
