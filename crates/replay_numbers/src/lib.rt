@@ -15,29 +15,20 @@ pub const NUMBERS: usize = 552;
 // How many numbers a clause, a stage and the counts have each.
 const PART: usize = 8;
 
-// A number as a place or a count.
-fn wide(x: u32) -> usize
-    ensures { result ≡ x }
-{
-    x as usize
-}
-
 // The action with these three numbers.
 fn action_of(kind: u32, left: u32, right: u32) -> Action
     ensures { result ≡ action_from kind left right }
 {
-    if kind == 0 {
-        return Action::Rule {
+    match kind {
+        0 => Action::Rule {
             relation: left,
             arity: right,
-        };
-    }
-    if kind == 1 {
-        return Action::New { set: left };
-    }
-    Action::Next {
-        plus: left,
-        minus: right,
+        },
+        1 => Action::New { set: left },
+        _ => Action::Next {
+            plus: left,
+            minus: right,
+        },
     }
 }
 
@@ -47,12 +38,11 @@ pub fn clause_at(numbers: &[u32], i: usize) -> Clause
     ensures { result ≡ clause_from numbers.now (clause_place i) }
 {
     let k = 40 + i * 8;
-    let action = action_of(numbers[k], numbers[k + 1], numbers[k + 2]);
     Clause {
-        action,
+        action: action_of(numbers[k], numbers[k + 1], numbers[k + 2]),
         line: numbers[k + 3],
-        first: wide(numbers[k + 4]),
-        count: wide(numbers[k + 5]),
+        first: numbers[k + 4] as usize,
+        count: numbers[k + 5] as usize,
         variables: numbers[k + 6],
     }
 }
@@ -63,12 +53,11 @@ pub fn stage_at(numbers: &[u32], i: usize) -> Stage
     ensures { result ≡ stage_from numbers.now (stage_place i) }
 {
     let k = 8 + i * 8;
-    let asked = [numbers[k + 3], numbers[k + 4], numbers[k + 5]];
     Stage {
-        first: wide(numbers[k]),
-        count: wide(numbers[k + 1]),
+        first: numbers[k] as usize,
+        count: numbers[k + 1] as usize,
         variables: numbers[k + 2],
-        numbers: asked,
+        numbers: [numbers[k + 3], numbers[k + 4], numbers[k + 5]],
     }
 }
 
@@ -79,8 +68,7 @@ fn clause_numbers(c: Clause) -> [u32; PART]
 {
     let first = c.first as u32;
     let count = c.count as u32;
-    let action = c.action;
-    match action {
+    match c.action {
         Action::Rule { relation, arity } => {
             [0, relation, arity, c.line, first, count, c.variables, 0]
         }
@@ -114,11 +102,7 @@ fn write(out: &mut [u32], k: usize, part: [u32; PART])
     requires { k + 8 ≤ length out.old }
     ensures { Written out.old k part 8 out.new }
 {
-    let mut j = 0;
-    while j < PART {
-        out[k + j] = part[j];
-        j += 1;
-    }
+    out[k..k + PART].copy_from_slice(&part);
 }
 
 // Writes the numbers of the stages.
@@ -126,12 +110,8 @@ fn write_stages(m: Model, out: &mut [u32])
     requires { WellFormed m × (552 ≤ length out.old) }
     ensures { StagesIn m m.stagecount out.old out.new }
 {
-    let n = m.stagecount;
-    let mut i = 0;
-    while i < n {
-        let s = m.stages[i];
-        write(out, 8 + i * 8, stage_numbers(s));
-        i += 1;
+    for i in 0..m.stagecount {
+        write(out, 8 + i * 8, stage_numbers(m.stages[i]));
     }
 }
 
@@ -140,12 +120,8 @@ fn write_clauses(m: Model, out: &mut [u32])
     requires { WellFormed m × (552 ≤ length out.old) }
     ensures { ClausesIn m m.clausecount out.old out.new }
 {
-    let n = m.clausecount;
-    let mut i = 0;
-    while i < n {
-        let c = m.clauses[i];
-        write(out, 40 + i * 8, clause_numbers(c));
-        i += 1;
+    for i in 0..m.clausecount {
+        write(out, 40 + i * 8, clause_numbers(m.clauses[i]));
     }
 }
 
