@@ -2,10 +2,10 @@
 // Number 0 is the count of clauses, 1 that of stages, 2 and 3 the carried variables; stage i has the 8 numbers from 8 + 8 i on, clause i those from 40 + 8 i on.
 #![tactic(auto)]
 
-ghost use Rattle.std.specs.Prelude.{◌≡◌, ◌+◌, ◌^◌, ◌≤◌, ◌<◌, length};
+ghost use Rattle.std.specs.Prelude.{◌≡◌, ◌+◌, ◌^◌, ◌≤◌, ◌<◌, length, get_or};
 ghost use Rattle.limits.specs.Limits as limit;
 ghost use Rattle.model.specs.WellFormed.{WellFormed};
-ghost use Rattle.replay_numbers.specs.Numbers.{action_from, clause_from, stage_from, clause_place, stage_place, clause_numbers, stage_numbers, Numbered, Written, StagesIn, ClausesIn};
+ghost use Rattle.replay_numbers.specs.Numbers.{action_from, clause_from, stage_from, clause_place, stage_place, clause_numbers, stage_numbers, OnLine, Numbered, Written, StagesIn, ClausesIn};
 
 use model::{Action, Clause, Model, Stage};
 
@@ -45,6 +45,19 @@ pub fn clause_at(numbers: &[u32], i: usize) -> Clause
         count: numbers[k + 5] as usize,
         variables: numbers[k + 6],
     }
+}
+
+// The clause that stands on a line.
+pub fn clause_on(numbers: &[u32], line: u32) -> Option<Clause>
+    requires { (get_or numbers.now 0 0 ≤ limit.clauses) × (552 ≤ length numbers.now) }
+    ensures { OnLine numbers.now line result }
+{
+    for i in 0..numbers[0] as usize {
+        if numbers[40 + i * 8 + 3] == line {
+            return Some(clause_at(numbers, i));
+        }
+    }
+    None
 }
 
 // Stage i.

@@ -1,7 +1,7 @@
 // The replay's state by value, and whether it fits a text.
 #![tactic(auto)]
 
-ghost use Rattle.std.specs.Prelude.{◌≡◌, ◌⊎◌, true, ℕ, ◌≤◌, ◌<◌, length, take, set, get_or};
+ghost use Rattle.std.specs.Prelude.{◌≡◌, ◌⊎◌, true, ℕ, ◌≤◌, ◌<◌, length, take, get_or};
 ghost use Rattle.limits.specs.Limits as limit;
 ghost use Rattle.semantics.specs.Labels.{has};
 ghost use Rattle.model.specs.WellFormed.{in_class, WellFormed};
@@ -73,17 +73,6 @@ impl Position {
             kept: self.kept,
         }
     }
-}
-
-// The state after a place that gave an object, or none for NONE, a state.
-pub fn proceed(s: Session, at: Position, object: usize, state: u32) -> Session
-    ensures { result ≡ session_in (set s.states object state) at }
-{
-    let mut states = s.states;
-    if object < OBJECTS {
-        states[object] = state;
-    }
-    at.session(states)
 }
 
 // How many state relations are declared.
