@@ -22,7 +22,7 @@ returns-then-same_words-3 c =
     elim c.then-same_words-3.branch [
       | then-same_words-3-via-then-same_words-3 w ↦ verdict-no s yes reached (no ∙ w.if-same_words-3.true)
       | then-same_words-3-via-else-same_words-3+then-same_words-4 w ↦
-        verdict-unreached s yes reached (no ∙ w.if-same_words-3.false) (sym w.same_words-else-same_words-3.ensures ∙ w.if-same_words-4.true)
+          verdict-unreached s yes reached (no ∙ w.if-same_words-3.false) (sym w.same_words-else-same_words-3.ensures ∙ w.if-same_words-4.true)
     ]
 
 pub returns : goal.returns

@@ -36,10 +36,9 @@ loop-i-preserved c =
     let names = names_in a.text.now m a.set l.i in
     elim (c.if-has.branch) [
       | then-has w ↦
-        let e = sym h.ensures ∙ w.if-has.true in (
-          rw (w.out-is, w.next-is, add-one l.i, e, slice-part start end a.text.now ordered) (item [] names l.invariant.0 w.put_name-next.ensures),
-          rw w.next-is (omega (arith, w.put_name-next.ensures.next, l.invariant.0.next, name-room a.text.now m a.set c.ranges.set c.requires.0 c.requires.1 whole l.i inside e, c.requires.1.short l.i inside, length-take (end - start) (drop start a.text.now))),
-        )
+          let e = sym h.ensures ∙ w.if-has.true in (
+            rw (w.out-is, w.next-is, add-one l.i, e, slice-part start end a.text.now ordered) (item [] names l.invariant.0 w.put_name-next.ensures),
+            rw w.next-is (omega (arith, w.put_name-next.ensures.next, l.invariant.0.next, name-room a.text.now m a.set c.ranges.set c.requires.0 c.requires.1 whole l.i inside e, c.requires.1.short l.i inside, length-take (end - start) (drop start a.text.now))),
+          )
       | else-has w ↦ (rw (w.out-is, w.next-is, add-one l.i, sym h.ensures ∙ w.if-has.false, append-nil names) l.invariant.0, rw w.next-is l.invariant.1)
     ]
-
