@@ -10,14 +10,10 @@ use Rattle.facts_bits.specs.Width as width
 use Rattle.facts_bits.specs.Bits.{with_bit, in_row}
 use Rattle.facts_bits.proofs.Laws.{with-bit-length}
 use Rattle.search_ways.specs.Moves.{Marks, With, InRow}
-use Rattle.search_ways.proofs.Marking.{row-none, row_more, row-skip}
+use Rattle.search_ways.proofs.Marking.{row_more, row-skip}
 use Rattle.search_levels.proofs.Rows.{has-row, has-so}
-use borrow.Author.Rules.{rules}
 use Rattle.search_levels.proofs.column.Goals as goal
 use Rattle.search_levels.proofs.column.Goals.{else-get, then-get}
-
-pub loop-u-init : goal.loop-u-init
-loop-u-init c = (search rules, search rules, search rules, row-none _ _ _)
 
 pub loop-u-preserved : goal.loop-u-preserved
 loop-u-preserved c =
