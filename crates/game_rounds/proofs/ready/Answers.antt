@@ -1,3 +1,4 @@
+use mathlib.Core.Path.{◌∙◌}
 use native.Mathlib.Omega.{arith}
 use Rattle.game_rounds.specs.Board.{side_of}
 use Rattle.game_rounds.proofs.Slots.{ready-stuck, ready-some, ready-all}
@@ -17,7 +18,7 @@ returns-then-vacant c =
     let a = c.args in
     let w = c.row in
     let v = c.vacant in
-    ready-stuck a.moves.now a.e a.n c.requires.0 a.ranks.now a.round w.result w.ensures v.result v.ensures c.if-vacant.true (side_of a.attacks)
+    c.sooner.ensures ∙ ready-stuck a.moves.now a.e a.n c.requires.0 a.ranks.now a.round w.result w.ensures v.result v.ensures c.if-vacant.true (side_of a.attacks)
 
 pub some_sooner-requires : goal.some_sooner-requires
 some_sooner-requires c = (c.requires.0, c.requires.1, c.requires.2, c.requires.3)
