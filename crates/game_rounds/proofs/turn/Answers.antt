@@ -3,14 +3,9 @@ use Prim.Native.Nat.{◌+◌}
 use native.Mathlib.Omega.{arith}
 use Rattle.std.specs.Prelude.{is_some}
 use Rattle.game_rounds.specs.Board.{side_of}
-use Rattle.game_rounds.proofs.Turning.{none-so, some-so, Partly, partly_none, partly-given, partly-kept, kept-none, kept-own, partly-all}
+use Rattle.game_rounds.proofs.Turning.{none-so, some-so, Partly, partly-given, partly-kept, kept-none, kept-own, partly-all}
 use Rattle.game_rounds.proofs.turn.Goals as goal
 use Rattle.game_rounds.proofs.turn.Goals.{Joined-is_none, then-is_none+then-ready, else-is_none, else-is_none-via-then-is_none+else-ready, else-is_none-via-else-is_none}
-
-pub loop-e-init : goal.loop-e-init
-loop-e-init c =
-    let a = c.args in
-    partly_none (side_of a.attacks) a.moves.now a.n a.ranks.now a.others.now a.round
 
 -- after slot e
 step : (c : Joined-is_none) → let a = c.args in Partly (side_of a.attacks) a.moves.now a.n a.ranks.now a.others.now a.round (c.loop-e.e + 1) c.if-is_none.ranks c.if-is_none.changed
