@@ -15,7 +15,7 @@ ghost use Rattle.game_answer.specs.Arranging.{Arranged};
 
 use calls::TOO_MANY;
 use facts_heads::ROOM;
-use limits::LISTED;
+use limits::{LISTED, NONE};
 use model::Model;
 use search::Explored;
 use search_states::{Listing, States};
@@ -53,15 +53,15 @@ pub fn refuse(number: u32, line: u32) -> Game
     }
 }
 
-// The numbers in the order of the listing.
-fn arranged(s: States, listing: Listing, ranks: [u32; LISTED]) -> [u32; LISTED]
+// The numbers in the order of the listing, NONE where there is none.
+fn arranged(s: States, listing: Listing, ranks: [Option<u32>; LISTED]) -> [u32; LISTED]
     requires { Proper s × Lists s listing }
     ensures { Arranged (row s) listing.states listing.count ranks result }
 {
     let mut moves = [0u32; LISTED];
     for (i, state) in listing.states[..listing.count].iter().enumerate() {
         let slot = search_states::seek(&s.states, s.count, *state);
-        moves[i] = ranks[slot];
+        moves[i] = ranks[slot].unwrap_or(NONE);
     }
     moves
 }

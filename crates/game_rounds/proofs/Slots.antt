@@ -17,7 +17,7 @@ use Rattle.facts_bits.specs.Bits.{in_row, Copied, Vacant}
 use Rattle.games.specs.Game.{Side, attacker, guardian, or_stay}
 use Rattle.games.specs.Rounds.{any, every}
 use Rattle.games.proofs.Lists.{any-make, any-use, every-make, every-use}
-use Rattle.game_rounds.specs.Board.{slots, up_to, Inside, sooner, ready_by}
+use Rattle.game_rounds.specs.Board.{slots, Number, up_to, Inside, sooner, ready_by}
 
 -- THE SLOTS OF A ROW below k are those whose bits are set
 pub slots-here : (w : List ℕ) (e k t : ℕ) → t < k → in_row w e t ≡ true → elem t (slots w e k) ≡ true
@@ -90,7 +90,7 @@ and_same : (b : Bool) → (b && true) ≡ b
 and_same true = refl
 and_same false = refl
 
-module _ (w : List ℕ) (e n : ℕ) (few : n ≤ limit.atomic) (ranks : List ℕ) (round : ℕ) (row : List ℕ) (copied : Copied w e row) (r : Bool) (vacant : Vacant row r) where
+module _ (w : List ℕ) (e n : ℕ) (few : n ≤ limit.atomic) (ranks : List Number) (round : ℕ) (row : List ℕ) (copied : Copied w e row) (r : Bool) (vacant : Vacant row r) where
   -- without a move the side stays
   pub ready-stuck : r ≡ true → (a : Side) → sooner ranks round e ≡ ready_by a w e n ranks round
   ready-stuck q a = go a

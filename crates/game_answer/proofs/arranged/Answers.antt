@@ -3,11 +3,13 @@ use Prim.Native.Nat.{ℕ, ◌≤◌, ◌<◌}
 use native.Mathlib.Omega.{arith}
 use lib.ListN.{length, get_or, take}
 use lib.Seq.{get_or-take, length-take-le}
+use Rattle.std.specs.Prelude.{unwrap_or}
 use Rattle.limits.specs.Limits as limit
 use Rattle.semantics.specs.Tables.{seat}
 use Rattle.search_states.specs.States.{row}
 use Rattle.search_states.proofs.Laws.{length-row}
 use Rattle.game_moves.proofs.Laws.{seat-most}
+use Rattle.game_rounds.specs.Board.{number_at}
 use Rattle.game_answer.specs.Arranging.{Arranged}
 use Rattle.game_answer.proofs.Ordering.{arranged-none, arranged-more}
 use Rattle.game_answer.proofs.arranged.Goals as goal
@@ -36,10 +38,10 @@ pub loop-i-preserved : goal.loop-i-preserved
 loop-i-preserved c =
     let a = c.args in
     let l = c.loop-i in
-    let h : l.i < a.listing.count = omega (arith, many c) in
+    let h : l.i < a.listing.count = omega (arith, many (goal.at.loop-i-preserved c).After-seek-slot) in
     let count = c.requires.1.count in
     arranged-more (row a.s) a.listing.states a.ranks l.i l.moves l.invariant (omega arith) _
-    (ap (λ (k : ℕ). get_or a.ranks k 0) (c.seek-slot.ensures ∙ ap (λ (x : ℕ). seat x (row a.s)) (get_or-take a.listing.count a.listing.states l.i 0 h)))
+    (c.unwrap_or.ensures ∙ ap (λ (k : ℕ). unwrap_or (number_at a.ranks k) limit.none) (c.seek-slot.ensures ∙ ap (λ (x : ℕ). seat x (row a.s)) (get_or-take a.listing.count a.listing.states l.i 0 h)))
 
 pub returns : goal.returns
 returns c =

@@ -7,7 +7,7 @@ use lib.Seq.{take_all}
 use Rattle.semantics.specs.Labels.{relabel}
 use Rattle.semantics.specs.Tables.{seat}
 use Rattle.search_ways.specs.Moves.{Marks, With}
-use Rattle.game_moves.proofs.Laws.{seat-most, GoesBelow, goes_none, goes-more, goes-skip, goes-all}
+use Rattle.game_moves.proofs.Laws.{seat-most, GoesBelow, goes-more, goes-skip, goes-all}
 use Rattle.game_moves.proofs.lead.Goals as goal
 use Rattle.game_moves.proofs.lead.Goals.{After-seek-t, else-get, then-get}
 
@@ -21,9 +21,6 @@ slot : (c : After-seek-t) → c.seek-t.result ≤ length c.args.states.now
 slot c =
     let a = c.args in
     omega (arith, found c, seat-most (relabel (get_or a.states.now c.loop-e.e 0) a.plus a.minus) a.states.now)
-
-pub loop-e-init : goal.loop-e-init
-loop-e-init c = let a = c.args in goes_none a.table.now a.i a.states.now a.plus a.minus a.moves.now
 
 pub overflow_add-e : goal.overflow_add-e
 overflow_add-e c = record { fits = omega (arith, slot (goal.at.overflow_add-e c).After-seek-t) }

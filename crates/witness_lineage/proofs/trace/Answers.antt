@@ -39,15 +39,6 @@ returns-then-born-i c =
     rw c.number_of.ensures
     (trace-all m a.s.now _ anc a.state a.object a.k a.run.now l.run l.i l.at c.requires.1 (l.invariant.4 m anc h) c.if-born-i.true)
 
-pub overflow_cast-i : goal.overflow_cast-i
-overflow_cast-i c =
-    let w = before (goal.at.overflow_cast-i c).Else-born-i in
-    let p = c.requires.0.1.proper in
-    record { fits = omega (arith, w.0, w.1.inside, p.count) }
-
-pub loop-i-smaller : goal.loop-i-smaller
-loop-i-smaller c = (before (goal.at.loop-i-smaller c).Else-born-i).0
-
 pub loop-i-preserved : goal.loop-i-preserved
 loop-i-preserved c =
     let a = c.args in

@@ -7,9 +7,6 @@ use Rattle.semantics.proofs.Tools.{same?}
 use Rattle.facts_candidates.specs.Choices.{chosen}
 use Rattle.witness_meetings.proofs.behind.Goals as goal
 
-pub overflow_add-base : goal.overflow_add-base
-overflow_add-base c = record { fits = omega (arith, c.requires.1 c.loop-x.x c.loop-x-test.true, c.element-e.ensures) }
-
 pub loop-x-preserved : goal.loop-x-preserved
 loop-x-preserved c =
     let l = c.loop-x in

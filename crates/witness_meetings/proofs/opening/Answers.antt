@@ -8,9 +8,6 @@ use Rattle.witness_meetings.proofs.Laws.{first_below, attempt-none, attempt-foun
 use Rattle.witness_meetings.proofs.opening.Goals as goal
 use Rattle.witness_meetings.proofs.opening.Goals.{else-get, then-get+in_default}
 
-pub loop-u-init : goal.loop-u-init
-loop-u-init c = λ v l. absurd (omega arith)
-
 pub returns-in-At : goal.returns-in-At
 returns-in-At c =
     let p = c.requires in

@@ -1,10 +1,9 @@
-use mathlib.Core.Path.{◌∙◌}
 use Prim.Native.Nat.{suc, ◌+◌, ◌*◌, ◌≤◌}
 use native.Mathlib.Omega.{arith}
 use Rattle.limits.specs.Limits as limit
 use Rattle.search_levels.specs.Levels.{holder, chosen}
 use Rattle.witness_walk.specs.Walk.{Behind}
-use Rattle.witness_walk.proofs.Laws.{written-length, effort-most, came_from, came-met, ready-first, ready-second, behind-index, behind-back}
+use Rattle.witness_walk.proofs.Laws.{written-length, effort-most, came_from, came-met, ready-first, behind-index, behind-back}
 use Rattle.witness_walk.proofs.back.Goals as goal
 use Rattle.witness_walk.proofs.back.Goals.{Start}
 
@@ -36,26 +35,6 @@ meet-met-requires c =
       omega (arith, room (goal.at.meet-met-requires c).Start, p.3),
     )
 
-pub errand-then-requires : goal.errand-then-requires
-errand-then-requires c =
-    let p = c.requires in
-    let a = c.args in
-    let h = behind (goal.at.errand-then-requires c).Start in
-    let few = c.requires.0.known.proper.count in
-    let q = c.previous-q in
-    let t = c.meet-met.ensures in
-    let long = written-length _ _ _ _ _ _ t in (
-      p.0.known.model,
-      p.0.known.proper,
-      p.0.known.found,
-      p.0.mapped,
-      omega arith,
-      h.level,
-      ready-second a.m a.work.now a.s a.rows.now a.table.now a.steps.now a.ways.now p.0 a.k a.p.first a.p.second h.level h.sits q.result.first q.result.second q.ensures,
-      p.2.second,
-      omega (arith, room (goal.at.errand-then-requires c).Start, p.3, t.index, t.few),
-    )
-
 pub errand-at-requires : goal.errand-at-requires
 errand-at-requires c =
     let p = c.requires in
@@ -77,9 +56,6 @@ errand-at-requires c =
       p.2.first,
       omega (arith, room (goal.at.errand-at-requires c).Start, p.3, t.index, t.few, d.index, d.few, effort-most a.s.count (holder a.m 1 a.k) (chosen a.m 1 a.k)),
     )
-
-pub shape_of-run : goal.shape_of-run
-shape_of-run c = written-length _ _ _ _ _ _ c.errand-at.ensures ∙ written-length _ _ _ _ _ _ c.errand-then.ensures ∙ written-length _ _ _ _ _ _ c.meet-met.ensures
 
 pub returns : goal.returns
 returns c =

@@ -1,13 +1,10 @@
-use mathlib.Core.Path.{◌≡◌, refl, sym, ◌∙◌, subst}
+use mathlib.Core.Path.{◌≡◌, sym, ◌∙◌, subst}
 use mathlib.Core.Bool.{true, false}
 use Prim.Native.Nat.{ℕ, suc, ◌+◌, ◌-◌}
 use native.Mathlib.Omega.{arith}
 use Rattle.search_levels.specs.Levels.{chosen}
 use Rattle.witness_walk.proofs.Pairs.{chosen-with, chosen-without, chosen-later}
 use Rattle.witness_walk.proofs.carries.Goals as goal
-
-pub loop-i-init : goal.loop-i-init
-loop-i-init c = refl
 
 pub returns-then-holds : goal.returns-then-holds
 returns-then-holds c =

@@ -4,9 +4,6 @@ use Rattle.witness_walk.proofs.Sources.{said, denied, found-pair, pair_found}
 use Rattle.witness_walk.proofs.previous.Goals as goal
 use Rattle.witness_walk.proofs.previous.Goals.{else-moves, then-moves+in_default}
 
-pub loop-v-init : goal.loop-v-init
-loop-v-init c = λ w l. omega arith
-
 pub returns-in-Some : goal.returns-in-Some
 returns-in-Some c =
     let a = c.args in
