@@ -15,7 +15,12 @@ fn coded(count: Count) -> u64
     ensures { result ≡ code_of count }
 {
     match count {
-        Count::Counted { .. } => 13 * 4_294_967_296,
+        Count::Counted {
+            reached: _,
+            unreached: _,
+            share: _,
+            remainder: _,
+        } => 13 * 4_294_967_296,
         Count::Refused { number, line } => {
             2 * 4_294_967_296 + (number as u64 * 65_536 + line as u64)
         }
@@ -33,7 +38,7 @@ fn counts(count: Count) -> [u32; COUNTS]
             share,
             remainder,
         } => [reached, unreached, share, remainder],
-        Count::Refused { .. } => [0u32; COUNTS],
+        Count::Refused { number: _, line: _ } => [0u32; COUNTS],
     }
 }
 
