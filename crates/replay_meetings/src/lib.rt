@@ -21,7 +21,7 @@ use replay_session::Position;
 use replay_steps::Outcome;
 
 // How many objects a meeting names.
-fn count(first: u32, second: u32, third: u32) -> u32
+pub fn count(first: u32, second: u32, third: u32) -> u32
     ensures { result ≡ length (objects (first ∷ second ∷ third ∷ [])) }
 {
     match (first, second, third) {
