@@ -15,10 +15,8 @@ pub fn analyze(text: &[u8], work: &mut [u8], run: &mut [u32]) -> Analysis
         return analyzer_verdict::refuse(row, 0);
     }
     let reading = text::read(text);
-    let acceptance = reading.answer;
-    if let Acceptance::Refused { number, line } = acceptance {
+    if let Acceptance::Refused { number, line } = reading.answer {
         return analyzer_verdict::refuse(number, line);
     }
-    let m = reading.model;
-    analyzer_verdict::decide(m, work, run)
+    analyzer_verdict::decide(reading.model, work, run)
 }

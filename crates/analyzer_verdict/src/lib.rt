@@ -50,14 +50,18 @@ fn conclude(m: Model, facts: &[u8], run: &mut [u32], found: Found) -> Answer
     if !found.reached {
         return Answer::Unreached;
     }
-    let states = found.states;
-    let levels = found.levels;
-    let rows = levels.rows;
-    let moves = found.moves;
-    let table = moves.table;
-    let steps = moves.steps;
-    let ways = moves.ways;
-    let places = witness::witness(run, facts, m, states, &rows, &table, &steps, &ways);
+    let rows = &found.levels.rows;
+    let moves = &found.moves;
+    let places = witness::witness(
+        run,
+        facts,
+        m,
+        found.states,
+        rows,
+        &moves.table,
+        &moves.steps,
+        &moves.ways,
+    );
     let last = model::place_of(run[places - 1]);
     Answer::Reached { places, last }
 }

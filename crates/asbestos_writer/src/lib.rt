@@ -32,7 +32,7 @@ fn put_level(out: &mut [u8], at: usize, bytes: &[u8], level: u32) -> usize
     ensures { Writes out.old at (levelled bytes.now level) result out.new }
 {
     let next = put_bytes(out, at, bytes);
-    put_byte(out, next, 48 + level as u8)
+    put_byte(out, next, b'0' + level as u8)
 }
 
 // Writes the second list of a `next` line, up to its end.
@@ -41,9 +41,10 @@ fn put_taken(out: &mut [u8], at: usize, a: u32, c: u32) -> usize
     ensures { Writes out.old at (taken a c) result out.new }
 {
     if c == a {
-        return put_bytes(out, at, b") (");
+        put_bytes(out, at, b") (")
+    } else {
+        put_level(out, at, b") (S", a)
     }
-    put_level(out, at, b") (S", a)
 }
 
 // Writes who receives and who sends in a `next` line, from the end of its second list on.
@@ -86,10 +87,8 @@ fn put_row(out: &mut [u8], at: usize, port: u32, a: u32) -> usize
     ensures { Writes out.old at (printed (row_forms port a)) result out.new }
 {
     let mut next = at;
-    let mut b = 0;
-    while b <= port {
+    for b in 0..port + 1 {
         next = put_entry(out, next, a, b);
-        b += 1;
     }
     next
 }
@@ -100,10 +99,8 @@ fn put_table(out: &mut [u8], at: usize, port: u32) -> usize
     ensures { Writes out.old at (printed (table_forms port)) result out.new }
 {
     let mut next = at;
-    let mut a = 0;
-    while a < LEVELS {
+    for a in 0..LEVELS {
         next = put_row(out, next, port, a);
-        a += 1;
     }
     next
 }
@@ -114,10 +111,8 @@ fn put_receiving(out: &mut [u8], at: usize, receive: u32) -> usize
     ensures { Writes out.old at (receiving (suc receive)) result out.new }
 {
     let mut next = at;
-    let mut k = 0;
-    while k <= receive {
+    for k in 0..receive + 1 {
         next = put_level(out, next, b" R", k);
-        k += 1;
     }
     next
 }
@@ -128,9 +123,10 @@ fn put_marked(out: &mut [u8], at: usize, mark: u32) -> usize
     ensures { Writes out.old at (marked (not (eqb mark 0))) result out.new }
 {
     if mark == 0 {
-        return put_bytes(out, at, b"))\n");
+        put_bytes(out, at, b"))\n")
+    } else {
+        put_bytes(out, at, b" M))\n")
     }
-    put_bytes(out, at, b" M))\n")
 }
 
 // Writes the line of a kind.
@@ -149,10 +145,8 @@ fn put_kinds(out: &mut [u8], at: usize, kinds: &[u32; CELLS], count: usize) -> u
     ensures { Writes out.old at (printed (map born_form (kinds_of kinds.now count))) result out.new }
 {
     let mut next = at;
-    let mut i = 0;
-    while i < count {
+    for i in 0..count {
         next = put_kind(out, next, kinds[3 * i], kinds[3 * i + 1], kinds[3 * i + 2]);
-        i += 1;
     }
     next
 }
@@ -183,15 +177,10 @@ fn all_proper(kinds: &[u32; CELLS], count: usize) -> bool
     requires { count ≤ most }
     ensures { result ≡ all_proper (kinds_of kinds.now count) }
 {
-    let mut i = 0;
-    while i < count {
-        if kinds[3 * i] >= LEVELS {
+    for i in 0..count {
+        if kinds[3 * i] >= LEVELS || kinds[3 * i + 1] >= LEVELS {
             return false;
         }
-        if kinds[3 * i + 1] >= LEVELS {
-            return false;
-        }
-        i += 1;
     }
     true
 }

@@ -45,9 +45,5 @@ pub fn wipe(work: &mut [u8])
     requires { limit.work ≤ length work.old }
     ensures { work.new ≡ wiped work.old }
 {
-    let mut i = 0;
-    while i < WORK {
-        work[i] = 0;
-        i += 1;
-    }
+    work[..WORK].fill(0);
 }

@@ -54,10 +54,10 @@ fn size(l: Lines, v: u8, n: u32) -> usize
     ensures { result ≡ size_of (listed l) v n }
 {
     if v == REACHED {
-        return MOST + 1;
+        MOST + 1
+    } else {
+        strike_list::choose(l, n).count
     }
-    let c = strike_list::choose(l, n);
-    c.count
 }
 
 // The number of the smallest unreached choice, the highest of equally small ones; or how many choices there are, if each is reached.
@@ -65,14 +65,10 @@ fn soonest(l: Lines, t: Table) -> usize
     requires { (l.count ≤ most) × (t.total ≤ 1024) }
     ensures { Soonest (size_at (listed l) t.said) t.total result }
 {
-    let said = t.said;
-    let total = t.total;
-    let mut best = total;
+    let mut best = t.total;
     let mut least = MOST + 1;
-    let mut i = total;
-    while 0 < i {
-        i -= 1;
-        let s = size(l, said[i], i as u32);
+    for i in (0..t.total).rev() {
+        let s = size(l, t.said[i], i as u32);
         if s < least {
             best = i;
             least = s;

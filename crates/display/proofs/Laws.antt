@@ -18,14 +18,17 @@ use Rattle.text.specs.declared.Acceptance.TheVariants.{Accepted, Refused}
 use Rattle.text.specs.declared.Reading.{Reading}
 use Rattle.text.specs.Reading.{Reads}
 use Rattle.text.proofs.Laws.{is-accepted, is-refused, read-represents, read_names, read-well-formed}
-use Rattle.display_shapes.specs.Rows.{pick, Stands, Picked, Shows}
+use Rattle.display_shapes.specs.Rows.{pick, Stands, Picked, Shown, Shows}
 use Rattle.display_shapes.proofs.Rows.{pick-in, pick_out}
 use Rattle.display_shapes.specs.declared.Span.{Span}
 use Rattle.display_parts.specs.Parts as parts
 use Rattle.display_parts.specs.Placed.{Gives}
 use Rattle.display_parts.specs.declared.Part.{Part}
 use Rattle.display_variables.specs.Order.{before, Within}
-use Rattle.display.specs.Shown.{relation_at, ShowsRelation}
+use Rattle.std.specs.Prelude as std
+use Rattle.std.specs.Prelude.{Some, None}
+use Rattle.std.proofs.Common.{unwrap_or}
+use Rattle.display.specs.Shown.{relation_at, FindsRelation, ShowsRelation, span_of}
 use Rattle.display.specs.declared.Declaration.{Declaration}
 use Rattle.display.proofs.Printed.{literal-printed}
 
@@ -37,20 +40,20 @@ code_in (d ∷ D) (suc i) h = code_in D i (omega arith)
 
 -- DECLARED RELATIONS
 module _ (text : List ℕ) (r : Reading) (h : Reads (outcome text) text r) (i : ℕ) where
-  pub no_text : (n l : ℕ) → r.answer ≡ Refused n l → ShowsRelation text (relation_at (outcome text) i) (record { from = 0; size = 0; code = 0 })
-  no_text n l e = rw (is-refused text r (outcome text) n l h e) (refl, refl, refl)
+  pub no_text : (n l : ℕ) → r.answer ≡ Refused n l → FindsRelation text (relation_at (outcome text) i) None
+  no_text n l e = rw (is-refused text r (outcome text) n l h e) tt
 
-  pub no-relation : r.answer ≡ Accepted → r.model.relations.count ≤ i → ShowsRelation text (relation_at (outcome text) i) (record { from = 0; size = 0; code = 0 })
+  pub no-relation : r.answer ≡ Accepted → r.model.relations.count ≤ i → FindsRelation text (relation_at (outcome text) i) None
   no-relation e l =
       let (D, P, Q, o) = is-accepted text r (outcome text) h e in
       let m = read-represents text D P Q r o h in
-      rw (o, pick_out D i (let c = m.declared in omega arith)) (refl, refl, refl)
+      rw (o, pick_out D i (let c = m.declared in omega arith)) tt
 
   pub few-relations : r.answer ≡ Accepted → r.model.relations.count ≤ limit.declared
   few-relations e = let (D, P, Q, o) = is-accepted text r (outcome text) h e in (read-well-formed text D P Q r o h).relations.count
 
   pub declared-relation : r.answer ≡ Accepted → i < r.model.relations.count → (d : Declaration) → d.from ≡ get_or r.model.names i 0 → d.size ≡ get_or r.model.lengths i 0 → d.code ≡ get_or r.model.relations.codes i 0
-      → ShowsRelation text (relation_at (outcome text) i) d
+      → FindsRelation text (relation_at (outcome text) i) (Some d)
   declared-relation e l d a b c =
       let (D, P, Q, o) = is-accepted text r (outcome text) h e in
       let m = read-represents text D P Q r o h in
@@ -65,45 +68,57 @@ slice_of text a e w h k z =
     let n : length w ≡ e - a = (let q = ap length z in omega (arith, q, length-drop a text, length-drop e text, length-append w (drop e text))) in
     slice-part text a e h ∙ rw z (take_at w (drop e text) (e - a) n)
 
-literal-shows : (line : List ℕ) (o : Option Literal) (r : Span) → Stands literal line o r → Shows line (o >>= λ l. some (print_literal l)) r
-literal-shows line none r h = h
-literal-shows line (some l) r (a, b, c) = (a, b, slice_of line r.from r.to (print_literal l) (omega arith) b (literal-printed (drop r.from line) c))
+literal-shown : (line : List ℕ) (o : Option Literal) (r : std.Option Span) → Stands literal line o r → Shown line (o >>= λ l. some (print_literal l)) r
+literal-shown line none None h = h
+literal-shown line none (Some r) h = h
+literal-shown line (some l) None h = h
+literal-shown line (some l) (Some r) (a, b, c) = (a, b, slice_of line r.from r.to (print_literal l) (omega arith) b (literal-printed (drop r.from line) c))
+
+-- what is found is shown, or 0 and 0
+pub shown-span : (line : List ℕ) (o : Option (List ℕ)) (r : std.Option Span) → Shown line o r → Shows line o (span_of r)
+shown-span line none None h = (refl, refl)
+shown-span line none (Some r) h = absurd h
+shown-span line (some w) None h = absurd h
+shown-span line (some w) (Some r) h = h
+
+pub shown_relation : (text : List ℕ) (o : Option (Word × ℕ)) (r : std.Option Declaration) → FindsRelation text o r → ShowsRelation text o (unwrap_or r (record { from = 0; size = 0; code = 0 }))
+shown_relation text none None h = (refl, refl, refl)
+shown_relation text none (Some r) h = absurd h
+shown_relation text (some d) None h = absurd h
+shown_relation text (some d) (Some r) h = h
+
+-- no part is given
+pub no_part : (line : List ℕ) (o : Option parts.Part) → Gives line o None → (f : parts.Part → Option (List ℕ)) → Shown line (o >>= f) None
+no_part line none g f = tt
+no_part line (some q) g f = absurd g
 
 -- the part that is given
-module _ (line : List ℕ) (o : Option parts.Part) (p : Part) (g : Gives line o p) where
-  pub no_part : (f : parts.Part → Option (List ℕ)) → p.end ≡ 0 → Shows line (o >>= f) (record { from = 0; to = 0 })
-  no_part f z = go o g
+module _ (line : List ℕ) (o : Option parts.Part) (p : Part) (g : Gives line o (Some p)) where
+  pub body-within : p.body ≤ length line
+  body-within = go o g
     where
-      go : (q : Option parts.Part) → Gives line q p → Shows line (q >>= f) (record { from = 0; to = 0 })
-      go none h = (refl, refl)
-      go (some q) h = absurd (h.0 z)
+      go : (q : Option parts.Part) → Gives line q (Some p) → p.body ≤ length line
+      go none h = absurd h
+      go (some q) h = h.body
 
-  module _ (z : p.end ≡ 0 → ⊥) where
-    pub body-within : p.body ≤ length line
-    body-within = go o g
-      where
-        go : (q : Option parts.Part) → Gives line q p → p.body ≤ length line
-        go none h = absurd (z h)
-        go (some q) h = h.1.body
+  pub literal-found : (k : ℕ) (r : std.Option Span) → Picked literal line p.body k r → Shown line (o >>= λ q. pick q.1 k >>= λ l. some (print_literal l)) r
+  literal-found k r h = go o g
+    where
+      go : (q : Option parts.Part) → Gives line q (Some p) → Shown line (q >>= λ q. pick q.1 k >>= λ l. some (print_literal l)) r
+      go none w = absurd w
+      go (some q) w = literal-shown line (pick q.1 k) r (h q.1 w.row)
 
-    pub literal-found : (k : ℕ) (r : Span) → Picked literal line p.body k r → Shows line (o >>= λ q. pick q.1 k >>= λ l. some (print_literal l)) r
-    literal-found k r h = go o g
-      where
-        go : (q : Option parts.Part) → Gives line q p → Shows line (q >>= λ q. pick q.1 k >>= λ l. some (print_literal l)) r
-        go none w = absurd (z w)
-        go (some q) w = literal-shows line (pick q.1 k) r (h q.1 w.1.row)
+  pub part-within : Within line p
+  part-within = go o g
+    where
+      go : (q : Option parts.Part) → Gives line q (Some p) → Within line p
+      go none h = absurd h
+      go (some q) h = record { head = h.head; from = h.from; end = h.end }
 
-    pub part-within : Within line p
-    part-within = go o g
-      where
-        go : (q : Option parts.Part) → Gives line q p → Within line p
-        go none h = absurd (z h)
-        go (some q) h = record { head = h.1.head; headend = h.1.headend; from = h.1.from; end = h.1.end }
-
-    pub variable-found : (j : ℕ) (r : Span) → Shows line (pick (extend [] (before line p p.end)) j) r → Shows line (o >>= λ q. pick (extend [] (q.0 ++ variables q.1)) j) r
-    unfolding before
-    variable-found j r h = go o g
-      where
-        go : (q : Option parts.Part) → Gives line q p → Shows line (q >>= λ q. pick (extend [] (q.0 ++ variables q.1)) j) r
-        go none w = absurd (z w)
-        go (some q) w = subst (λ (ws : List Word). Shows line (pick (extend [] ws) j) r) w.1.words h
+  pub variable-found : (j : ℕ) (r : std.Option Span) → Shown line (pick (extend [] (before line p p.end)) j) r → Shown line (o >>= λ q. pick (extend [] (q.0 ++ variables q.1)) j) r
+  unfolding before
+  variable-found j r h = go o g
+    where
+      go : (q : Option parts.Part) → Gives line q (Some p) → Shown line (q >>= λ q. pick (extend [] (q.0 ++ variables q.1)) j) r
+      go none w = absurd w
+      go (some q) w = subst (λ (ws : List Word). Shown line (pick (extend [] ws) j) r) w.words h

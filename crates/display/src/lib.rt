@@ -4,10 +4,12 @@
 ghost use Rattle.std.specs.Prelude.{◌≡◌, ◌<◌, get_or};
 ghost use Rattle.limits.specs.Limits as limit;
 ghost use Rattle.grammar.specs.Texts.{outcome};
-ghost use Rattle.display_shapes.specs.Rows.{Shows};
-ghost use Rattle.display.specs.Shown.{relation_at, ShowsRelation, literal_at, variable_at};
+ghost use Rattle.display_shapes.specs.Rows.{Shown, Shows};
+ghost use Rattle.display.specs.Shown.{relation_at, FindsRelation, ShowsRelation, literal_at, variable_at, span_of};
 
-use display_shapes::Span;
+use display_parts::locate;
+use display_shapes::{Literal, Span, item_at};
+use display_variables::variable_of;
 use model::Model;
 use text::Acceptance;
 
@@ -20,62 +22,75 @@ pub struct Declaration {
 }
 
 // Declared relation i of a model.
-fn recorded(m: Model, i: usize) -> Declaration
+fn recorded(m: &Model, i: usize) -> Declaration
     requires { i < limit.declared }
-    ensures { (result.from ≡ get_or m.names i 0) × (result.size ≡ get_or m.lengths i 0) × (result.code ≡ get_or m.relations.codes i 0) }
+    ensures { (result.from ≡ get_or m.now.names i 0) × (result.size ≡ get_or m.now.lengths i 0) × (result.code ≡ get_or m.now.relations.codes i 0) }
 {
-    let relations = m.relations;
     Declaration {
         from: m.names[i] as usize,
         size: m.lengths[i] as usize,
-        code: relations.codes[i],
+        code: m.relations.codes[i],
     }
+}
+
+// Declared relation i of an accepted text, from 0.
+fn relation_in(text: &[u8], i: usize) -> Option<Declaration>
+    ensures { FindsRelation text.now (relation_at (outcome text.now) i) result }
+{
+    let reading = text::read(text);
+    if let Acceptance::Refused { .. } = reading.answer {
+        return None;
+    }
+    if i < reading.model.relations.count {
+        return Some(recorded(&reading.model, i));
+    }
+    None
 }
 
 // Declared relation i of an accepted text, from 0; all 0 where there is none.
 pub fn relation(text: &[u8], i: usize) -> Declaration
     ensures { ShowsRelation text.now (relation_at (outcome text.now) i) result }
 {
-    let reading = text::read(text);
-    let answer = reading.answer;
-    if let Acceptance::Refused { number: _, line: _ } = answer {
-        return Declaration {
-            from: 0,
-            size: 0,
-            code: 0,
-        };
-    }
-    let m = reading.model;
-    let relations = m.relations;
-    if i < relations.count {
-        return recorded(m, i);
-    }
-    Declaration {
+    relation_in(text, i).unwrap_or(Declaration {
         from: 0,
         size: 0,
         code: 0,
-    }
+    })
+}
+
+// What is shown of something found: its span, or 0 and 0.
+fn shown(found: Option<Span>) -> Span
+    ensures { result ≡ span_of found }
+{
+    found.unwrap_or(Span { from: 0, to: 0 })
+}
+
+// Literal k, from 0, of part n of a line.
+fn literal_in(line: &[u8], n: usize, k: usize) -> Option<Span>
+    ensures { Shown line.now (literal_at line.now n k) result }
+{
+    let p = locate(line, n)?;
+    item_at::<Literal>(line, p.body, k)
 }
 
 // Literal k, from 0, of a line's clause, which is part 0, or of stage n of an `ask` line, from 1; 0 and 0 where there is none.
 pub fn literal(line: &[u8], n: usize, k: usize) -> Span
     ensures { Shows line.now (literal_at line.now n k) result }
 {
-    let p = display_parts::locate(line, n);
-    if p.end == 0 {
-        return Span { from: 0, to: 0 };
-    }
-    let b = p.body;
-    display_shapes::literal_at(line, b, k)
+    shown(literal_in(line, n, k))
+}
+
+// Variable j, from 0, of part n of a line.
+fn variable_in(line: &[u8], n: usize, j: usize) -> Option<Span>
+    ensures { Shown line.now (variable_at line.now n j) result }
+{
+    let p = locate(line, n)?;
+    variable_of(line, p, j)
 }
 
 // Variable j, from 0, of that part in order of first appearance, those of a clause's head first; 0 and 0 where there is none.
 pub fn variable(line: &[u8], n: usize, j: usize) -> Span
     ensures { Shows line.now (variable_at line.now n j) result }
 {
-    let p = display_parts::locate(line, n);
-    if p.end == 0 {
-        return Span { from: 0, to: 0 };
-    }
-    display_variables::variable_of(line, p, j)
+    shown(variable_in(line, n, j))
 }

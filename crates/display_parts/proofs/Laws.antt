@@ -17,36 +17,40 @@ use Rattle.grammar.specs.Declarations.{variables}
 use Rattle.grammar.proofs.Tests.{either}
 use Rattle.text_scan.specs.Found.{NameEnd}
 use Rattle.text_scan.proofs.Laws.{next}
-use Rattle.display_shapes.specs.Ends.{Ends}
+use Rattle.std.specs.Prelude as std
+use Rattle.std.specs.Prelude.{Some, None}
+use Rattle.display_shapes.specs.Ends.{EndsAt, Ends}
+use Rattle.display_shapes.proofs.Rows.{same_read, some-none}
 use Rattle.display_shapes.specs.Rows.{pick, Row, Stands}
 use Rattle.display_shapes.specs.declared.Span.{Span}
 use Rattle.display_parts.specs.Parts as parts
 use Rattle.display_parts.specs.Parts.{part_in, part_of}
+use Rattle.display_parts.specs.Closes.{Closes}
 use Rattle.display_parts.specs.Placed.{Placed, Gives, spaced_list}
 use Rattle.display_parts.specs.declared.Part.{Part}
 use Rattle.display_parts.proofs.Inverse.{found, after-inverse}
 use Rattle.display_parts.proofs.Words.{words, words-between, atom-words, body-words, stage-words, rest-row, bracket-row}
 
 -- A SPACE AND A LIST
-module _ {s : List ℕ} {at : ℕ} where
-  pub spaced-missing : after (bytes " ") (drop at s) ≡ none → Ends spaced_list s at 0
-  spaced-missing h = record { found = λ q. absurd (q refl); missing = λ q. rw h }
+module _ (s : List ℕ) (at : ℕ) where
+  pub spaced-missing : after (bytes " ") (drop at s) ≡ none → spaced_list (drop at s) ≡ none
+  spaced-missing h = rw h
 
-  pub spaced-found : {e : ℕ} → after (bytes " ") (drop at s) ≡ some (drop (at + 1) s) → Ends list s (at + 1) e → Ends spaced_list s at e
-  spaced-found h v = record {
-    found = λ q. let (x, a, b, l) = v.found q in (x, omega arith, b, rw h l);
-    missing = λ q. rw h (v.missing q);
-  }
+  pub spaced-found : after (bytes " ") (drop at s) ≡ some (drop (at + 1) s) → (e : std.Option ℕ) → Ends list s (at + 1) e → Ends spaced_list s at e
+  spaced-found h None v = rw h v
+  spaced-found h (Some e) v = record { value = v.value; begins = omega (arith, v.begins); ends = v.ends; found = rw h v.found }
 
 -- WHAT IS GIVEN
-gives-some : (s : List ℕ) (o : Option parts.Part) (p : Part) {hs : List Word} {b : List Literal} → o ≡ some (hs, b) → (p.end ≡ 0 → ⊥) → Placed s p hs b → Gives s o p
-gives-some s o p e z h = subst (λ (q : Option parts.Part). Gives s q p) (sym e) (z, h)
+pub gives_none : (s : List ℕ) (o : Option parts.Part) → o ≡ none → Gives s o None
+gives_none s o e = rw e tt
+
+gives-some : (s : List ℕ) (o : Option parts.Part) (p : Part) {hs : List Word} {b : List Literal} → o ≡ some (hs, b) → Placed s p hs b → Gives s o (Some p)
+gives-some s o p e h = subst (λ (q : Option parts.Part). Gives s q (Some p)) (sym e) h
 
 clause-placed : (s : List ℕ) (a b e n : ℕ) {t : List ℕ} (hs : List Word) (q : List Literal) → a ≤ e → b ≤ length s → e ≤ length s → rest literal n (drop b s) ≡ some (q, t)
-    → words (drop a s) ≡ (hs ++ variables q) ++ words (drop e s) → Placed s (record { head = 0; headend = 0; from = a; body = b; end = e }) hs q
+    → words (drop a s) ≡ (hs ++ variables q) ++ words (drop e s) → Placed s (record { head = None; from = a; body = b; end = e }) hs q
 clause-placed s a b e n hs q h k l r w = record {
-  head = λ z. absurd (z refl);
-  headend = omega arith;
+  head = tt;
   from = h;
   body = k;
   end = l;
@@ -55,15 +59,14 @@ clause-placed s a b e n hs q h k l r w = record {
 }
 
 next-placed : (s : List ℕ) (x b e n : ℕ) (q : List Literal) → 6 < x → x ≤ length s → b < e → e ≤ length s → rest literal n (drop b s) ≡ some (q, drop e s)
-    → Placed s (record { head = 6; headend = x; from = b; body = b; end = e }) (slice 6 x s ∷ []) q
+    → Placed s (record { head = Some (record { from = 6; to = x }); from = b; body = b; end = e }) (slice 6 x s ∷ []) q
 next-placed s x b e n q h k l m r = record {
-  head = λ z. h;
-  headend = k;
+  head = (h, k);
   from = omega arith;
   body = omega arith;
   end = m;
   row = rest-row literal n (drop b s) r;
-  words = rw (ne_eqb x 0 (λ z. absurd (omega arith))) (ap (λ (ws : List Word). slice 6 x s ∷ ws) (words-between s b e (variables q) (omega arith) (body-words n (drop b s) r)));
+  words = ap (λ (ws : List Word). slice 6 x s ∷ ws) (words-between s b e (variables q) (omega arith) (body-words n (drop b s) r));
 }
 
 -- LINES BY THEIR FIRST WORD
@@ -167,17 +170,38 @@ no-clause s h k l =
     (rw (h, k, l) (lacks-bind 0 (after (bytes "(ask ") s) ask_rest ask-lacks)))
 
 -- TO THE LINE'S END
-module _ {A : Type 0} {read : List ℕ → Read A} {s : List ℕ} {b e : ℕ} (v : Ends read s b e) where
-  -- what is read ends with the line
-  to_end : e ≡ length s → 0 < length s → (x : A) × (b < e) × (read (drop b s) ≡ some (x, drop e s)) × (drop e s ≡ [])
-  to_end z l = let (x, a, c, h) = v.found (λ q. absurd (omega arith)) in (x, a, h, (let g : length s ≤ e = omega arith in drop_of_length-le s g))
+module _ {A : Type 0} (read : List ℕ → Read A) (s : List ℕ) (b : ℕ) where
+  closes-end : {e : ℕ} → EndsAt read s b e → e ≡ length s → Closes read s b true
+  closes-end {e} v z = (v.value, omega (arith, v.begins), v.found ∙ rw (let g : length s ≤ e = omega arith in drop_of_length-le s g))
+
+  closes-before : {e : ℕ} → EndsAt read s b e → (e ≡ length s → ⊥) → Closes read s b false
+  closes-before {e} v z x q =
+      let w = sym v.found ∙ q in
+      let t : drop e s ≡ [] = (same_read w).1 in
+      let d = sym t ∙ next s e (omega (arith, v.ends)) in
+      absurd (let y : ◌≡◌ {A = ℕ} 0 1 = cc in omega arith)
+
+  pub closes-eq : {e : ℕ} → EndsAt read s b e → Closes read s b (eqb e (length s))
+  closes-eq {e} v = ⊎_elim
+      (λ (q : eqb e (length s) ≡ true). rw q (closes-end v (eqb-true e (length s) q)))
+      (λ (q : eqb e (length s) ≡ false). rw q (closes-before v (eqb-false e (length s) q)))
+      (either (eqb e (length s)))
+
+  pub closes-none : read (drop b s) ≡ none → Closes read s b false
+  closes-none h x q = some-none q h
 
   -- nothing is read, or something is left
-  not-to-end : (f : A → Form) → (e ≡ length s → ⊥) → whole (read (drop b s) >>= λ r. some (f r.0, r.1)) ≡ none
-  not-to-end f z = ⊎_elim
-      (λ (q : eqb e 0 ≡ true). rw (v.missing (eqb-true e 0 q)))
-      (λ (q : eqb e 0 ≡ false). let (x, a, c, h) = v.found (eqb-false e 0 q) in rw (h, next s e (omega arith)))
-      (either (eqb e 0))
+  not-to-end : Closes read s b false → (f : A → Form) → whole (read (drop b s) >>= λ r. some (f r.0, r.1)) ≡ none
+  not-to-end c f = go (read (drop b s)) refl
+    where
+      go : (o : Read A) → read (drop b s) ≡ o → whole (o >>= λ r. some (f r.0, r.1)) ≡ none
+      go none q = refl
+      go (some (x, [])) q = absurd (c x q)
+      go (some (x, c ∷ t)) q = refl
+
+-- at the line's end no byte is left
+at_end : (s : List ℕ) → drop (length s) s ≡ []
+at_end s = let g : length s ≤ length s = omega arith in drop_of_length-le s g
 
 -- RULES
 module _ (s : List ℕ) (l : 6 ≤ length s) (h : after (bytes "(rule ") s ≡ some (drop 6 s)) where
@@ -185,19 +209,18 @@ module _ (s : List ℕ) (l : 6 ≤ length s) (h : after (bytes "(rule ") s ≡ s
   unfolding part_of rule_rest
   rule-headless k = rw (rule-form s h, k)
 
-  module _ {b e : ℕ} (v : Ends atom s 6 b) (y : b ≡ 0 → ⊥) (w : Ends (rest literal 8) s b e) where
-    pub rule-unended : (e ≡ length s → ⊥) → part_of s 0 ≡ none
+  module _ {b : ℕ} (v : EndsAt atom s 6 b) where
+    pub rule-unended : Closes (rest literal 8) s b false → part_of s 0 ≡ none
     unfolding part_of rule_rest body
-    rule-unended k = let (a, m, n, o) = v.found y in rw (rule-form s h, o, not-to-end w (rule_form a) k)
+    rule-unended k = rw (rule-form s h, v.found, not-to-end (rest literal 8) s b k (rule_form v.value))
 
-    pub rule_found : e ≡ length s → Gives s (part_of s 0) (record { head = 0; headend = 0; from = 6; body = b; end = e })
+    pub rule_found : Closes (rest literal 8) s b true → Gives s (part_of s 0) (Some (record { head = None; from = 6; body = b; end = length s }))
     unfolding part_of rule_rest body
-    rule_found z =
-        let (a, m, n, o) = v.found y in
-        let (q, c, r, d) = to_end w z (omega arith) in
-        gives-some s (part_of s 0) _ {hs = a.variables} {b = q} (rw (rule-form s h, o, r, d)) (λ i. absurd (omega arith))
-        (clause-placed s 6 b e 8 a.variables q (omega arith) n (omega arith) r
-        (atom-words (drop 6 s) o ∙ (ap (λ (ws : List Word). a.variables ++ ws) (body-words 8 (drop b s) r) ∙ sym (append_assoc a.variables (variables q) (words (drop e s))))))
+    rule_found (q, c, r) =
+        let a = v.value in
+        gives-some s (part_of s 0) _ {hs = a.variables} {b = q} (rw (rule-form s h, v.found, r))
+        (clause-placed s 6 b (length s) 8 a.variables q l v.ends (omega arith) r
+        (atom-words (drop 6 s) v.found ∙ (ap (λ (ws : List Word). a.variables ++ ws) (body-words 8 (drop b s) r) ∙ sym (append_assoc a.variables (variables q) (words [])) ∙ rw (at_end s))))
 
 -- `new` LINES
 module _ (s : List ℕ) (l : 5 ≤ length s) (h : after (bytes "(new ") s ≡ some (drop 5 s)) where
@@ -205,18 +228,16 @@ module _ (s : List ℕ) (l : 5 ≤ length s) (h : after (bytes "(new ") s ≡ so
   unfolding part_of new_rest
   new-listless k = rw (new-form s h, k)
 
-  module _ {b e : ℕ} (v : Ends list s 5 b) (y : b ≡ 0 → ⊥) (w : Ends (rest literal 8) s b e) where
-    pub new-unended : (e ≡ length s → ⊥) → part_of s 0 ≡ none
+  module _ {b : ℕ} (v : EndsAt list s 5 b) where
+    pub new-unended : Closes (rest literal 8) s b false → part_of s 0 ≡ none
     unfolding part_of new_rest body
-    new-unended k = let (a, m, n, o) = v.found y in rw (new-form s h, o, not-to-end w (new_form a) k)
+    new-unended k = rw (new-form s h, v.found, not-to-end (rest literal 8) s b k (new_form v.value))
 
-    pub new-found : e ≡ length s → Gives s (part_of s 0) (record { head = 0; headend = 0; from = b; body = b; end = e })
+    pub new-found : Closes (rest literal 8) s b true → Gives s (part_of s 0) (Some (record { head = None; from = b; body = b; end = length s }))
     unfolding part_of new_rest body
-    new-found z =
-        let (a, m, n, o) = v.found y in
-        let (q, c, r, d) = to_end w z (omega arith) in
-        gives-some s (part_of s 0) _ {hs = []} {b = q} (rw (new-form s h, o, r, d)) (λ i. absurd (omega arith))
-        (clause-placed s b b e 8 [] q (omega arith) n (omega arith) r (body-words 8 (drop b s) r))
+    new-found (q, c, r) =
+        gives-some s (part_of s 0) _ {hs = []} {b = q} (rw (new-form s h, v.found, r))
+        (clause-placed s b b (length s) 8 [] q v.ends v.ends (omega arith) r (rw (at_end s) (body-words 8 (drop b s) r)))
 
 -- `next` LINES
 spaced-list : (t : List ℕ) {A : Type 0} (f : List Word × List ℕ → Read A) → (after (bytes " ") t >>= λ u. list u >>= f) ≡ (spaced_list t >>= f)
@@ -237,71 +258,77 @@ module _ (s : List ℕ) (l : 6 ≤ length s) (h : after (bytes "(next ") s ≡ s
   unfolding part_of next_rest
   next-nameless k = rw (next-form s h, k)
 
-  module _ {x : ℕ} (v : NameEnd s 6 x) (y : x ≡ 0 → ⊥) where
+  module _ {x : ℕ} (v : NameEnd s 6 x) where
     next-rest : next_rest (drop 6 s) ≡ next_tail (slice 6 x s) (drop x s)
     unfolding next_rest
-    next-rest = rw (v.found y).2 (next-tail (slice 6 x s) (drop x s))
+    next-rest = rw v.read (next-tail (slice 6 x s) (drop x s))
 
     pub next-listless : spaced_list (drop x s) ≡ none → part_of s 0 ≡ none
     unfolding part_of
     next-listless k = rw (next-form s h, next-rest, k)
 
-    module _ {i : ℕ} (pl : Ends spaced_list s x i) (yi : i ≡ 0 → ⊥) where
+    module _ {i : ℕ} (pl : EndsAt spaced_list s x i) where
       pub next-half : spaced_list (drop i s) ≡ none → part_of s 0 ≡ none
       unfolding part_of
-      next-half k = let (a, m, n, o) = pl.found yi in rw (next-form s h, next-rest, o, k)
+      next-half k = rw (next-form s h, next-rest, pl.found, k)
 
-      module _ {b e : ℕ} (mi : Ends spaced_list s i b) (yb : b ≡ 0 → ⊥) (w : Ends (rest literal 8) s b e) where
-        pub next-unended : (e ≡ length s → ⊥) → part_of s 0 ≡ none
+      module _ {b : ℕ} (mi : EndsAt spaced_list s i b) where
+        pub next-unended : Closes (rest literal 8) s b false → part_of s 0 ≡ none
         unfolding part_of body
-        next-unended k =
-            let (a, m, n, o) = pl.found yi in
-            let (c, f, g, r) = mi.found yb in
-            rw (next-form s h, next-rest, o, r, not-to-end w (next_form (slice 6 x s) a c) k)
+        next-unended k = rw (next-form s h, next-rest, pl.found, mi.found, not-to-end (rest literal 8) s b k (next_form (slice 6 x s) pl.value mi.value))
 
-        pub next-found : e ≡ length s → Gives s (part_of s 0) (record { head = 6; headend = x; from = b; body = b; end = e })
+        pub next-found : Closes (rest literal 8) s b true → Gives s (part_of s 0) (Some (record { head = Some (record { from = 6; to = x }); from = b; body = b; end = length s }))
         unfolding part_of body
-        next-found z =
-            let (a, m, n, o) = pl.found yi in
-            let (c, f, g, r) = mi.found yb in
-            let (q, j, u, d) = to_end w z (omega arith) in
-            gives-some s (part_of s 0) _ {hs = slice 6 x s ∷ []} {b = q} (rw (next-form s h, next-rest, o, r, u, d)) (λ t. absurd (omega arith))
-            (next-placed s x b e 8 q (v.found y).0 (v.found y).1 j (omega arith) u)
+        next-found (q, j, u) =
+            gives-some s (part_of s 0) _ {hs = slice 6 x s ∷ []} {b = q} (rw (next-form s h, next-rest, pl.found, mi.found, u))
+            (next-placed s x b (length s) 8 q v.begins v.ends j (omega arith) (rw (at_end s) u))
 
 -- STAGES
-stage-gives : (s : List ℕ) (o : Option (List Literal)) (r : Span) → Stands stage s o r → Gives s (o >>= λ q. some ([], q)) (record { head = 0; headend = 0; from = r.from; body = r.from; end = r.to })
+abbrev stage_at : Span → Part
+stage_at r = record { head = None; from = r.from; body = r.from; end = r.to }
+
+stage-gives : (s : List ℕ) (o : Option (List Literal)) (r : Span) → Stands stage s o (Some r) → Gives s (o >>= λ q. some ([], q)) (Some (stage_at r))
 unfolding stage
-stage-gives s none r h = h.1
-stage-gives s (some q) r (a, b, c) = (
-  λ z. absurd (omega arith),
-  record {
-    head = λ z. absurd (z refl);
-    headend = omega arith;
-    from = omega arith;
-    body = omega arith;
-    end = b;
-    row = bracket-row literal 7 (drop r.from s) c;
-    words = words-between s r.from r.to (variables q) (omega arith) (stage-words 7 (drop r.from s) c);
-  },
-)
+stage-gives s none r h = h
+stage-gives s (some q) r (a, b, c) = record {
+  head = tt;
+  from = omega arith;
+  body = omega arith;
+  end = b;
+  row = bracket-row literal 7 (drop r.from s) c;
+  words = words-between s r.from r.to (variables q) (omega arith) (stage-words 7 (drop r.from s) c);
+}
+
+stage-none : (s : List ℕ) (o : Option (List Literal)) → Stands stage s o None → ◌>>=◌ {B = parts.Part} o (λ q. some ([], q)) ≡ none
+stage-none s none h = refl
+stage-none s (some q) h = absurd h
 
 module _ (s : List ℕ) {n : ℕ} (y : n ≡ 0 → ⊥) (l : 5 ≤ length s) (h : after (bytes "(ask ") s ≡ some (drop 5 s)) where
   pub ask-stageless : stage (drop 5 s) ≡ none → part_of s n ≡ none
   unfolding part_of ask_rest
   ask-stageless k = rw (ask-form s h, k)
 
-  module _ {i e : ℕ} (v : Ends stage s 5 i) (yi : i ≡ 0 → ⊥) (w : Ends (rest stage 3) s i e) where
-    pub ask-unended : (e ≡ length s → ⊥) → part_of s n ≡ none
+  module _ {i : ℕ} (v : EndsAt stage s 5 i) where
+    pub ask-unended : Closes (rest stage 3) s i false → part_of s n ≡ none
     unfolding part_of ask_rest
-    ask-unended k = let (a, m, j, o) = v.found yi in rw (ask-form s h, o, not-to-end w (λ qs. ask_form (a ∷ qs)) k)
+    ask-unended k = rw (ask-form s h, v.found, not-to-end (rest stage 3) s i k (λ qs. ask_form (v.value ∷ qs)))
 
-    pub ask-found : {r : Span} → e ≡ length s → ((qs : List (List Literal)) → Row stage (drop 4 s) qs → Stands stage s (pick qs (n - 1)) r)
-        → Gives s (part_of s n) (record { head = 0; headend = 0; from = r.from; body = r.from; end = r.to })
-    unfolding part_of ask_rest
-    ask-found {r} z g =
-        let (a, m, j, o) = v.found yi in
-        let (qs, c, u, d) = to_end w z (omega arith) in
-        let front : drop 4 s ≡ 32 ∷ drop 5 s = ap (drop 4) (after-inverse (bytes "(ask ") s h) in
-        let row : Row stage (drop 4 s) (a ∷ qs) = (32, drop 5 s, drop i s, front, subst (λ (t : List ℕ). after (bytes ")") t ≡ none) (sym front) refl, o, rest-row stage 3 (drop i s) u) in
-        let part : part_of s n ≡ (pick (a ∷ qs) (n - 1) >>= λ q. some ([], q)) = rw (ask-form s h, o, u, d, ne_eqb n 0 y) in
-        subst (λ (t : Option parts.Part). Gives s t (record { head = 0; headend = 0; from = r.from; body = r.from; end = r.to })) (sym part) (stage-gives s (pick (a ∷ qs) (n - 1)) r (g (a ∷ qs) row))
+    module _ (w : Closes (rest stage 3) s i true) where
+      stages : List (List Literal)
+      stages = v.value ∷ w.0
+
+      row : Row stage (drop 4 s) stages
+      unfolding stages
+      row =
+          let front : drop 4 s ≡ 32 ∷ drop 5 s = ap (drop 4) (after-inverse (bytes "(ask ") s h) in
+          (32, drop 5 s, drop i s, front, subst (λ (t : List ℕ). after (bytes ")") t ≡ none) (sym front) refl, v.found, rest-row stage 3 (drop i s) w.2)
+
+      part : part_of s n ≡ (pick stages (n - 1) >>= λ q. some ([], q))
+      unfolding part_of ask_rest stages
+      part = rw (ask-form s h, v.found, w.2, ne_eqb n 0 y)
+
+      pub ask-few : ((qs : List (List Literal)) → Row stage (drop 4 s) qs → Stands stage s (pick qs (n - 1)) None) → part_of s n ≡ none
+      ask-few g = part ∙ stage-none s (pick stages (n - 1)) (g stages row)
+
+      pub ask-found : {r : Span} → ((qs : List (List Literal)) → Row stage (drop 4 s) qs → Stands stage s (pick qs (n - 1)) (Some r)) → Gives s (part_of s n) (Some (stage_at r))
+      ask-found {r} g = subst (λ (t : Option parts.Part). Gives s t (Some (stage_at r))) (sym part) (stage-gives s (pick stages (n - 1)) r (g stages row))

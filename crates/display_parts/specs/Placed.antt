@@ -1,5 +1,6 @@
 -- WHERE A PART OF A LINE STANDS.
-use Rattle.std.specs.Prelude.{◌≡◌, cond, List, [], ◌∷◌, ◌++◌, ℕ, zero, suc, ◌-◌, ◌≤◌, ◌<◌, eqb, length, drop}
+use Rattle.std.specs.Prelude as std
+use Rattle.std.specs.Prelude.{◌≡◌, Some, None, cond, List, [], ◌∷◌, ◌++◌, ℕ, zero, suc, ◌-◌, ◌≤◌, ◌<◌, eqb, length, drop}
 use Rattle.std.proofs.Math.Option.{Option, none, some}
 use Rattle.std.proofs.Math.Seq.{slice}
 use Rattle.grammar.specs.Bytes.{bytes, Word}
@@ -8,6 +9,7 @@ use Rattle.grammar.specs.Shapes.{Read, ◌>>=◌, after, name, literal, list}
 use Rattle.grammar.specs.Declarations.{variables}
 use Rattle.display_shapes.specs.Rows.{Row}
 use Rattle.display_parts.specs.Parts as parts
+use Rattle.display_shapes.specs.declared.Span.{Span}
 use Rattle.display_parts.specs.declared.Part.{Part}
 
 -- the name that is read, if there is one
@@ -26,23 +28,33 @@ spaced (suc n) [] = []
 spaced (suc n) (b ∷ s) = behind b s ++ spaced n s
 
 -- a `next` line's own variable, which the record gives by itself
+abbrev pub heading : List ℕ → std.Option Span → List Word
+heading line None = []
+heading line (Some h) = slice h.from h.to line ∷ []
+
 abbrev pub leading : List ℕ → Part → List Word
-leading line p = cond (eqb p.headend 0) [] (slice p.head p.headend line ∷ [])
+leading line p = heading line p.head
+
+-- it stands in the line
+abbrev pub Heads : List ℕ → std.Option Span → Type 0
+Heads line None = Unit {0}
+Heads line (Some h) = (h.from < h.to) × (h.to ≤ length line)
 
 -- the record gives the part with the variables hs before its body b
 pub record Placed (line : List ℕ) (p : Part) (hs : List Word) (b : List Literal) : Type 0 where
-  pub head : (p.headend ≡ 0 → ⊥) → p.head < p.headend
-  pub headend : p.headend ≤ length line
+  pub head : Heads line p.head
   pub from : p.from ≤ p.end
   pub body : p.body ≤ length line
   pub end : p.end ≤ length line
   pub row : Row literal (drop p.body line) b
   pub words : leading line p ++ spaced (p.end - p.from) (drop p.from line) ≡ hs ++ variables b
 
--- the record gives the part, or ends at 0 if there is none
-abbrev pub Gives : List ℕ → Option parts.Part → Part → Type 0
-Gives line none p = p.end ≡ 0
-Gives line (some q) p = (p.end ≡ 0 → ⊥) × Placed line p q.0 q.1
+-- the record gives the part, if there is one
+abbrev pub Gives : List ℕ → Option parts.Part → std.Option Part → Type 0
+Gives line none None = Unit {0}
+Gives line none (Some p) = ⊥
+Gives line (some q) None = ⊥
+Gives line (some q) (Some p) = Placed line p q.0 q.1
 
 -- a list after a space
 abbrev pub spaced_list : List ℕ → Read (List Word)

@@ -5,25 +5,23 @@ use mathlib.Core.Option.{none, some}
 use Prim.Native.Nat.{ℕ, ◌+◌, ◌-◌, ◌≤◌, ◌<◌}
 use native.Mathlib.Omega.{arith}
 use lib.ListN.{length, drop, length-drop}
-use lib.Seq.{slice}
 use Rattle.limits.specs.Limits as limit
 use Rattle.grammar.specs.Bytes.{bytes}
 use Rattle.grammar.specs.Forms.{plain, negated}
 use Rattle.grammar.specs.Shapes.{Read, after, name, rest, bracket, atom, literal, list, stage}
 use Rattle.grammar.proofs.Reading.{Reading, reading-start, reading-more, reading-closed, reading-full, reading-ends, reading-fails}
 use Rattle.text_scan.specs.Found.{NameEnd}
-use Rattle.display_shapes.specs.Ends.{Ends}
+use Rattle.display_shapes.specs.Ends.{EndsAt, Ends}
+use Rattle.std.specs.Prelude as std
+use Rattle.std.specs.Prelude.{Some, None}
+use lib.Seq.{slice}
 
-module _ {A : Type 0} {read : List ℕ → Read A} {text : List ℕ} {at : ℕ} where
-  pub ends-none : read (drop at text) ≡ none → Ends read text at 0
-  ends-none h = record { found = λ q. absurd (q refl); missing = λ q. h }
-
-  pub ends_some : {e : ℕ} {x : A} → at < e → e ≤ length text → read (drop at text) ≡ some (x, drop e text) → Ends read text at e
-  ends_some {e} {x} a b h = record { found = λ q. (x, a, b, h); missing = λ q. absurd (omega arith) }
+pub ends_some : {A : Type 0} {read : List ℕ → Read A} {text : List ℕ} {at e : ℕ} {x : A} → at < e → e ≤ length text → read (drop at text) ≡ some (x, drop e text) → EndsAt read text at e
+ends_some {x} a b h = record { value = x; begins = a; ends = b; found = h }
 
 -- a name
-pub ends-name : {text : List ℕ} {at e : ℕ} → NameEnd text at e → Ends name text at e
-ends-name {text} {at} {e} h = record { found = λ q. let f = h.found q in (slice at e text, f.0, f.1, f.2); missing = h.missing }
+pub ends-name : {text : List ℕ} {at e : ℕ} → NameEnd text at e → EndsAt name text at e
+ends-name h = ends_some h.begins h.ends h.read
 
 -- ITEMS, one after the other
 pub record Going {A : Type 0} (item : List ℕ → Read A) (text : List ℕ) (at n i k : ℕ) : Type 0 where
@@ -35,94 +33,86 @@ going_start h = record { more = []; so = reading-start h }
 
 module _ {A : Type 0} {item : List ℕ → Read A} {text : List ℕ} {at n i k : ℕ} (go : Going item text at n i k) where
   pub going_more : {e : ℕ} → 0 < k → after (bytes ")") (drop i text) ≡ none → after (bytes " ") (drop i text) ≡ some (drop (i + 1) text)
-      → Ends item text (i + 1) e → (e ≡ 0 → ⊥) → Going item text at n e (k - 1)
-  going_more h p q v z = let (x, a, b, r) = v.found z in record { more = _; so = reading-more go.so {x = x} h p q a b r }
+      → EndsAt item text (i + 1) e → Going item text at n e (k - 1)
+  going_more h p q v = record { more = _; so = reading-more go.so {x = v.value} h p q v.begins v.ends v.found }
 
-  pub going-closed : i < length text → after (bytes ")") (drop i text) ≡ some (drop (i + 1) text) → Ends (rest item n) text at (i + 1)
+  pub going-closed : i < length text → after (bytes ")") (drop i text) ≡ some (drop (i + 1) text) → EndsAt (rest item n) text at (i + 1)
   going-closed h p = ends_some (omega (arith, go.so.begins)) (omega arith) (reading-closed go.so p)
 
-  pub going-fails : after (bytes ")") (drop i text) ≡ none → after (bytes " ") (drop i text) ≡ some (drop (i + 1) text) → item (drop (i + 1) text) ≡ none → Ends (rest item n) text at 0
-  going-fails p q r = ends-none (reading-fails go.so p q r)
+  pub going-fails : after (bytes ")") (drop i text) ≡ none → after (bytes " ") (drop i text) ≡ some (drop (i + 1) text) → item (drop (i + 1) text) ≡ none → rest item n (drop at text) ≡ none
+  going-fails p q r = reading-fails go.so p q r
 
-  pub going-ends : after (bytes ")") (drop i text) ≡ none → after (bytes " ") (drop i text) ≡ none → Ends (rest item n) text at 0
-  going-ends p q = ends-none (reading-ends go.so p q)
+  pub going-ends : after (bytes ")") (drop i text) ≡ none → after (bytes " ") (drop i text) ≡ none → rest item n (drop at text) ≡ none
+  going-ends p q = reading-ends go.so p q
 
-  pub going-full : k ≤ 0 → after (bytes ")") (drop i text) ≡ none → Ends (rest item n) text at 0
-  going-full h p = ends-none (reading-full go.so h p)
+  pub going-full : k ≤ 0 → after (bytes ")") (drop i text) ≡ none → rest item n (drop at text) ≡ none
+  going-full h p = reading-full go.so h p
 
 -- BRACKETS
-module _ {text : List ℕ} {at : ℕ} where
-  pub list-empty : at + 2 ≤ length text → after (bytes "()") (drop at text) ≡ some (drop (at + 2) text) → Ends list text at (at + 2)
+module _ (text : List ℕ) (at : ℕ) where
+  pub list-empty : at + 2 ≤ length text → after (bytes "()") (drop at text) ≡ some (drop (at + 2) text) → EndsAt list text at (at + 2)
   unfolding list
   list-empty h k = ends_some {x = []} (omega arith) h (rw k)
 
   module _ (no : after (bytes "()") (drop at text) ≡ none) where
-    pub list-unopened : after (bytes "(") (drop at text) ≡ none → Ends list text at 0
+    pub list-unopened : after (bytes "(") (drop at text) ≡ none → list (drop at text) ≡ none
     unfolding list bracket
-    list-unopened h = ends-none (rw (no, h))
+    list-unopened h = rw (no, h)
 
     module _ (h : after (bytes "(") (drop at text) ≡ some (drop (at + 1) text)) where
-      pub list-nameless : name (drop (at + 1) text) ≡ none → Ends list text at 0
+      pub list-nameless : name (drop (at + 1) text) ≡ none → list (drop at text) ≡ none
       unfolding list bracket
-      list-nameless k = ends-none (rw (no, h, k))
+      list-nameless k = rw (no, h, k)
 
-      pub list-found : {e r : ℕ} → Ends name text (at + 1) e → (e ≡ 0 → ⊥) → Ends (rest name (limit.list - 1)) text e r → Ends list text at r
+      pub list-found : {e : ℕ} → NameEnd text (at + 1) e → (r : std.Option ℕ) → Ends (rest name (limit.list - 1)) text e r → Ends list text at r
       unfolding list bracket
-      list-found v z w = let (x, a, b, k) = v.found z in record {
-        found = λ q. let (xs, c, d, l) = w.found q in (x ∷ xs, omega arith, d, rw (no, h, k, l));
-        missing = λ q. rw (no, h, k, w.missing q);
-      }
+      list-found v None w = rw (no, h, v.read, w)
+      list-found {e} v (Some r) w = ends_some {x = slice (at + 1) e text ∷ w.value} (omega (arith, v.begins, w.begins)) w.ends (rw (no, h, v.read, w.found))
 
-  pub atom-unopened : after (bytes "(") (drop at text) ≡ none → Ends atom text at 0
+  pub atom-unopened : after (bytes "(") (drop at text) ≡ none → atom (drop at text) ≡ none
   unfolding atom
-  atom-unopened h = ends-none (rw h)
+  atom-unopened h = rw h
 
-  pub stage-unopened : after (bytes "(") (drop at text) ≡ none → Ends stage text at 0
+  pub stage-unopened : after (bytes "(") (drop at text) ≡ none → stage (drop at text) ≡ none
   unfolding stage bracket
-  stage-unopened h = ends-none (rw h)
+  stage-unopened h = rw h
 
   module _ (h : after (bytes "(") (drop at text) ≡ some (drop (at + 1) text)) where
-    pub atom-nameless : name (drop (at + 1) text) ≡ none → Ends atom text at 0
+    pub atom-nameless : name (drop (at + 1) text) ≡ none → atom (drop at text) ≡ none
     unfolding atom
-    atom-nameless k = ends-none (rw (h, k))
+    atom-nameless k = rw (h, k)
 
-    pub atom-found : {e r : ℕ} → Ends name text (at + 1) e → (e ≡ 0 → ⊥) → Ends (rest name (length text - at)) text e r → Ends atom text at r
+    pub atom-found : {e : ℕ} → NameEnd text (at + 1) e → (r : std.Option ℕ) → Ends (rest name (length text - at)) text e r → Ends atom text at r
     unfolding atom
-    atom-found v z w = let (x, a, b, k) = v.found z in record {
-      found = λ q. let (xs, c, d, l) = w.found q in (record { name = x; variables = xs }, omega arith, d, rw (h, k, length-drop, l));
-      missing = λ q. rw (h, k, length-drop, w.missing q);
-    }
+    atom-found v None w = rw (h, v.read, length-drop, w)
+    atom-found {e} v (Some r) w =
+        ends_some {x = record { name = slice (at + 1) e text; variables = w.value }} (omega (arith, v.begins, w.begins)) w.ends (rw (h, v.read, length-drop, w.found))
 
-    pub stage-empty : literal (drop (at + 1) text) ≡ none → Ends stage text at 0
+    pub stage-empty : literal (drop (at + 1) text) ≡ none → stage (drop at text) ≡ none
     unfolding stage bracket
-    stage-empty k = ends-none (rw (h, k))
+    stage-empty k = rw (h, k)
 
-    pub stage-found : {e r : ℕ} → Ends literal text (at + 1) e → (e ≡ 0 → ⊥) → Ends (rest literal (limit.body - 1)) text e r → Ends stage text at r
+    pub stage-found : {e : ℕ} → EndsAt literal text (at + 1) e → (r : std.Option ℕ) → Ends (rest literal (limit.body - 1)) text e r → Ends stage text at r
     unfolding stage bracket
-    stage-found v z w = let (x, a, b, k) = v.found z in record {
-      found = λ q. let (xs, c, d, l) = w.found q in (x ∷ xs, omega arith, d, rw (h, k, l));
-      missing = λ q. rw (h, k, w.missing q);
-    }
+    stage-found v None w = rw (h, v.found, w)
+    stage-found v (Some r) w = ends_some {x = v.value ∷ w.value} (omega (arith, v.begins, w.begins)) w.ends (rw (h, v.found, w.found))
 
--- LITERALS
-module _ {text : List ℕ} {at e : ℕ} where
-  module _ (h : after (bytes "(not ") (drop at text) ≡ some (drop (at + 5) text)) (v : Ends atom text (at + 5) e) where
-    pub not-missing : e ≡ 0 → Ends literal text at 0
+  -- LITERALS
+  module _ (h : after (bytes "(not ") (drop at text) ≡ some (drop (at + 5) text)) where
+    pub not-missing : atom (drop (at + 5) text) ≡ none → literal (drop at text) ≡ none
     unfolding literal
-    not-missing z = ends-none (rw (h, v.missing z))
+    not-missing z = rw (h, z)
 
-    module _ (z : e ≡ 0 → ⊥) where
-      pub not-unclosed : after (bytes ")") (drop e text) ≡ none → Ends literal text at 0
+    module _ {e : ℕ} (v : EndsAt atom text (at + 5) e) where
+      pub not-unclosed : after (bytes ")") (drop e text) ≡ none → literal (drop at text) ≡ none
       unfolding literal
-      not-unclosed k = let (x, a, b, l) = v.found z in ends-none (rw (h, l, k))
+      not-unclosed k = rw (h, v.found, k)
 
-      pub not_found : e < length text → after (bytes ")") (drop e text) ≡ some (drop (e + 1) text) → Ends literal text at (e + 1)
+      pub not_found : e < length text → after (bytes ")") (drop e text) ≡ some (drop (e + 1) text) → EndsAt literal text at (e + 1)
       unfolding literal
-      not_found g k = let (x, a, b, l) = v.found z in ends_some {x = negated x} (omega arith) (omega arith) (rw (h, l, k))
+      not_found g k = ends_some {x = negated v.value} (omega (arith, v.begins)) (omega arith) (rw (h, v.found, k))
 
-  pub plain-found : after (bytes "(not ") (drop at text) ≡ none → Ends atom text at e → Ends literal text at e
+  pub plain-found : after (bytes "(not ") (drop at text) ≡ none → (e : std.Option ℕ) → Ends atom text at e → Ends literal text at e
   unfolding literal
-  plain-found h v = record {
-    found = λ q. let (x, a, b, l) = v.found q in (plain x, a, b, rw (h, l));
-    missing = λ q. rw (h, v.missing q);
-  }
+  plain-found h None v = rw (h, v)
+  plain-found h (Some e) v = ends_some {x = plain v.value} v.begins v.ends (rw (h, v.found))

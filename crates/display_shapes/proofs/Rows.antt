@@ -9,8 +9,10 @@ use lib.ListN.{length, drop, get_or}
 use Rattle.grammar.specs.Bytes.{bytes}
 use Rattle.grammar.specs.Shapes.{Read, after}
 use Rattle.text_scan.proofs.Laws.{next, nothing}
-use Rattle.display_shapes.specs.Ends.{Ends}
-use Rattle.display_shapes.specs.Rows.{pick, Row, Stands, Picked}
+use Rattle.display_shapes.specs.Rows.{pick, Row, BehindAt, Behind, Picked}
+use Rattle.display_shapes.specs.declared.Span.{Span}
+use Rattle.std.specs.Prelude as std
+use Rattle.std.specs.Prelude.{Some, None}
 
 pub some-none : {A B : Type 0} {o : Option A} {x : A} → o ≡ some x → o ≡ none → B
 some-none p q = absurd (let z : ◌≡◌ {A = ℕ} 0 1 = cc in omega arith)
@@ -64,33 +66,43 @@ module _ {A : Type 0} (read : List ℕ → Read A) where
       let z : t ≡ drop (i + 1) text = cc in
       some-none (subst (λ (s : List ℕ). read s ≡ some (y, v)) z g) k
 
+-- NO ITEM BEHIND BYTE i
+module _ {A : Type 0} (read : List ℕ → Read A) (text : List ℕ) (i : ℕ) where
+  pub none-out : length text ≤ i → (xs : List A) → Row read (drop i text) xs → xs ≡ []
+  none-out h xs r = no_row read (drop i text) xs (nothing text i h) r
+
+  pub none-closed : {t : List ℕ} → after (bytes ")") (drop i text) ≡ some t → (xs : List A) → Row read (drop i text) xs → xs ≡ []
+  none-closed h [] r = refl
+  none-closed h (x ∷ xs) (c, t, u, z, f, g, r) = some-none h f
+
+  pub none-fails : i < length text → after (bytes ")") (drop i text) ≡ none → read (drop (i + 1) text) ≡ none → (xs : List A) → Row read (drop i text) xs → xs ≡ []
+  none-fails l h e xs r = no_front read text i xs l h e r
+
 module _ {A : Type 0} {read : List ℕ → Read A} {text : List ℕ} {at k i n : ℕ} (so : Walking read text at k i n) where
-  pub walking-out : length text ≤ i → Picked read text at k (record { from = 0; to = 0 })
-  walking-out h xs r = let (ys, q, e) = so.left xs r in no_row read (drop i text) ys (nothing text i h) q
+  pub walking-ends : ((xs : List A) → Row read (drop i text) xs → xs ≡ []) → Picked read text at k None
+  walking-ends h xs r = let (ys, q, e) = so.left xs r in rw (e, h ys q) tt
 
-  pub walking-closed : {t : List ℕ} → after (bytes ")") (drop i text) ≡ some t → Picked read text at k (record { from = 0; to = 0 })
-  walking-closed h xs r = let (ys, q, e) = so.left xs r in rw (e, closed-row read (drop i text) n ys h q) (refl, refl)
+  module _ {s : Span} (b : BehindAt read text i s) where
+    pub walking-found : n ≡ 0 → Picked read text at k (Some s)
+    walking-found y xs r =
+        let (ys, q, p) = so.left xs r in
+        let v = b.item in
+        let (zs, o, w) = front read text i ys b.inside b.open_ v.found q in
+        let m : pick xs k ≡ some v.value = p ∙ (ap (pick ys) y ∙ ap (λ (bs : List A). pick bs 0) o) in
+        rw m (omega (arith, b.begins, v.begins), v.ends, rw b.begins v.found)
 
-  module _ (l : i < length text) (h : after (bytes ")") (drop i text) ≡ none) where
-    pub walking-fails : {e : ℕ} → Ends read text (i + 1) e → e ≡ 0 → Picked read text at k (record { from = 0; to = 0 })
-    walking-fails v z xs r = let (ys, q, p) = so.left xs r in no_front read text i ys l h (v.missing z) q
+    pub walking-more : 0 < n → Walking read text at k s.to (n - 1)
+    walking-more y = record { ends = b.item.ends; left = λ xs r. go n y xs (so.left xs r) }
+      where
+        go : (m : ℕ) → 0 < m → (xs : List A) → ((ys : List A) × Row read (drop i text) ys × (pick xs k ≡ pick ys m)) → (ys : List A) × Row read (drop s.to text) ys × (pick xs k ≡ pick ys (m - 1))
+        go zero c xs r = absurd (omega arith)
+        go (suc m) c xs (ys, q, p) =
+            let v = b.item in
+            let (zs, o, w) = front read text i ys b.inside b.open_ v.found q in
+            let d : suc m - 1 ≡ m = omega arith in
+            (zs, w, rw d (p ∙ ap (λ (bs : List A). pick bs (suc m)) o))
 
-    module _ {e : ℕ} (v : Ends read text (i + 1) e) (z : e ≡ 0 → ⊥) where
-      pub walking-found : n ≡ 0 → Picked read text at k (record { from = i + 1; to = e })
-      walking-found y xs r =
-          let (ys, q, p) = so.left xs r in
-          let (x, a, b, f) = v.found z in
-          let (zs, o, w) = front read text i ys l h f q in
-          let m : pick xs k ≡ some x = p ∙ (ap (pick ys) y ∙ ap (λ (bs : List A). pick bs 0) o) in
-          subst (λ (a : Option A). Stands read text a (record { from = i + 1; to = e })) (sym m) (a, b, f)
-
-      pub walking-more : 0 < n → Walking read text at k e (n - 1)
-      walking-more y = record { ends = (v.found z).2; left = λ xs r. go n y xs (so.left xs r) }
-        where
-          go : (m : ℕ) → 0 < m → (xs : List A) → ((ys : List A) × Row read (drop i text) ys × (pick xs k ≡ pick ys m)) → (ys : List A) × Row read (drop e text) ys × (pick xs k ≡ pick ys (m - 1))
-          go zero c xs r = absurd (omega arith)
-          go (suc m) c xs (ys, q, p) =
-              let (x, a, b, f) = v.found z in
-              let (zs, o, w) = front read text i ys l h f q in
-              let d : suc m - 1 ≡ m = omega arith in
-              (zs, w, rw d (p ∙ ap (λ (bs : List A). pick bs (suc m)) o))
+-- the item behind the byte where the walk ends, or none
+pub walking-last : {A : Type 0} {read : List ℕ → Read A} {text : List ℕ} {at k i n : ℕ} → Walking read text at k i n → n ≡ 0 → (r : std.Option Span) → Behind read text i r → Picked read text at k r
+walking-last so z None b = walking-ends so b
+walking-last so z (Some s) b = walking-found so b z

@@ -1,12 +1,15 @@
 // Where the parts of a line end, whatever is declared.
 #![tactic(auto)]
 
-ghost use Rattle.std.specs.Prelude.{◌≤◌, length};
-ghost use Rattle.grammar.specs.Shapes.{name, rest, atom, literal, list, stage};
+ghost use Rattle.std.specs.Prelude.{◌≤◌, length, List, ℕ};
+ghost use Rattle.grammar.specs.Bytes.{Word};
+ghost use Rattle.grammar.specs.Forms as form;
+ghost use Rattle.grammar.specs.Shapes.{Read, name, rest, atom, literal, list, stage};
 ghost use Rattle.display_shapes.specs.Ends.{Ends};
-ghost use Rattle.display_shapes.specs.Rows.{Picked};
+ghost use Rattle.display_shapes.specs.Rows.{Behind, Picked};
 
 use limits::{BODY, LIST};
+use text_scan::{at_byte, at_bytes};
 
 // The bytes from `from` up to, not including, `to`.
 #[derive(Clone, Copy)]
@@ -21,200 +24,140 @@ const NAMES: usize = LIST - 1;
 // The literals of a stage behind its first.
 const LITERALS: usize = BODY - 1;
 
-// Where at most n names, each after a space, end with the closing bracket.
-fn names_end(text: &[u8], at: usize, n: usize) -> usize
-    requires { at ≤ length text.now }
-    ensures { Ends (rest name n) text.now at result }
-{
-    let mut i = at;
-    let mut k = n;
-    while 0 < k {
-        if text_scan::at_byte(text, i, 41) {
-            return i + 1;
-        }
-        if text_scan::at_byte(text, i, 32) {
-            let e = text_scan::name_end(text, i + 1);
-            if e == 0 {
-                return 0;
-            }
-            i = e;
-            k -= 1;
-        } else {
-            return 0;
-        }
-    }
-    if text_scan::at_byte(text, i, 41) {
-        return i + 1;
-    }
-    0
+// What can stand in a row: how it is read, and where one ends.
+pub trait Item {
+    ghost Value: { Type 0 };
+
+    ghost read: { List ℕ → Read Value };
+
+    // Where the item that is next ends.
+    fn end(text: &[u8], at: usize) -> Option<usize>
+        requires { at ≤ length text.now }
+        ensures { Ends read text.now at result };
 }
 
-// Where the list that is next ends, or 0.
-pub fn list_end(text: &[u8], at: usize) -> usize
+pub struct Name;
+
+impl Item for Name {
+    ghost Value = { Word };
+
+    ghost read = { name };
+
+    fn end(text: &[u8], at: usize) -> Option<usize> {
+        text_scan::name_end(text, at)
+    }
+}
+
+pub struct Literal;
+
+impl Item for Literal {
+    ghost Value = { form.Literal };
+
+    ghost read = { literal };
+
+    fn end(text: &[u8], at: usize) -> Option<usize> {
+        if at_bytes(text, at, b"(not ") {
+            let e = atom_end(text, at + 5)?;
+            if at_byte(text, e, b')') {
+                Some(e + 1)
+            } else {
+                None
+            }
+        } else {
+            atom_end(text, at)
+        }
+    }
+}
+
+pub struct Stage;
+
+impl Item for Stage {
+    ghost Value = { List form.Literal };
+
+    ghost read = { stage };
+
+    fn end(text: &[u8], at: usize) -> Option<usize> {
+        if at_byte(text, at, b'(') {
+            let e = Literal::end(text, at + 1)?;
+            items_end::<Literal>(text, e, LITERALS)
+        } else {
+            None
+        }
+    }
+}
+
+// Where at most n items, each after a space, end with the closing bracket.
+pub fn items_end<T: Item>(text: &[u8], at: usize, n: usize) -> Option<usize>
+    requires { at ≤ length text.now }
+    ensures { Ends (rest T.read n) text.now at result }
+{
+    let mut i = at;
+    for _turn in 0..n {
+        if at_byte(text, i, b')') {
+            return Some(i + 1);
+        }
+        if !at_byte(text, i, b' ') {
+            return None;
+        }
+        i = T::end(text, i + 1)?;
+    }
+    if at_byte(text, i, b')') {
+        Some(i + 1)
+    } else {
+        None
+    }
+}
+
+// Where the list that is next ends.
+pub fn list_end(text: &[u8], at: usize) -> Option<usize>
     requires { at ≤ length text.now }
     ensures { Ends list text.now at result }
 {
-    if text_scan::at_bytes(text, at, b"()") {
-        return at + 2;
+    if at_bytes(text, at, b"()") {
+        return Some(at + 2);
     }
-    if text_scan::at_byte(text, at, 40) {
-        let e = text_scan::name_end(text, at + 1);
-        if e == 0 {
-            return 0;
-        }
-        return names_end(text, e, NAMES);
+    if !at_byte(text, at, b'(') {
+        return None;
     }
-    0
+    let e = text_scan::name_end(text, at + 1)?;
+    items_end::<Name>(text, e, NAMES)
 }
 
-// Where the atom that is next ends, or 0.
-pub fn atom_end(text: &[u8], at: usize) -> usize
+// Where the atom that is next ends.
+pub fn atom_end(text: &[u8], at: usize) -> Option<usize>
     requires { at ≤ length text.now }
     ensures { Ends atom text.now at result }
 {
-    if text_scan::at_byte(text, at, 40) {
-        let e = text_scan::name_end(text, at + 1);
-        if e == 0 {
-            return 0;
-        }
-        return names_end(text, e, text.len() - at);
+    if !at_byte(text, at, b'(') {
+        return None;
     }
-    0
+    let e = text_scan::name_end(text, at + 1)?;
+    items_end::<Name>(text, e, text.len() - at)
 }
 
-// Where the literal that is next ends, or 0.
-pub fn literal_end(text: &[u8], at: usize) -> usize
-    requires { at ≤ length text.now }
-    ensures { Ends literal text.now at result }
+// The item behind byte i, unless that closes the row.
+fn item_behind<T: Item>(text: &[u8], i: usize) -> Option<Span>
+    requires { i ≤ length text.now }
+    ensures { Behind T.read text.now i result }
 {
-    if text_scan::at_bytes(text, at, b"(not ") {
-        let e = atom_end(text, at + 5);
-        if e == 0 {
-            return 0;
-        }
-        if text_scan::at_byte(text, e, 41) {
-            return e + 1;
-        }
-        return 0;
+    if i == text.len() {
+        return None;
     }
-    atom_end(text, at)
+    if at_byte(text, i, b')') {
+        return None;
+    }
+    let to = T::end(text, i + 1)?;
+    Some(Span { from: i + 1, to })
 }
 
-// Where at most n literals, each after a space, end with the closing bracket.
-pub fn literals_end(text: &[u8], at: usize, n: usize) -> usize
+// Item k of the row of them that is next.
+pub fn item_at<T: Item>(text: &[u8], at: usize, k: usize) -> Option<Span>
     requires { at ≤ length text.now }
-    ensures { Ends (rest literal n) text.now at result }
+    ensures { Picked T.read text.now at k result }
 {
     let mut i = at;
-    let mut k = n;
-    while 0 < k {
-        if text_scan::at_byte(text, i, 41) {
-            return i + 1;
-        }
-        if text_scan::at_byte(text, i, 32) {
-            let e = literal_end(text, i + 1);
-            if e == 0 {
-                return 0;
-            }
-            i = e;
-            k -= 1;
-        } else {
-            return 0;
-        }
+    for _turn in 0..k {
+        i = item_behind::<T>(text, i)?.to;
     }
-    if text_scan::at_byte(text, i, 41) {
-        return i + 1;
-    }
-    0
-}
-
-// Where the stage that is next ends, or 0.
-pub fn stage_end(text: &[u8], at: usize) -> usize
-    requires { at ≤ length text.now }
-    ensures { Ends stage text.now at result }
-{
-    if text_scan::at_byte(text, at, 40) {
-        let e = literal_end(text, at + 1);
-        if e == 0 {
-            return 0;
-        }
-        return literals_end(text, e, LITERALS);
-    }
-    0
-}
-
-// Where at most n stages, each after a space, end with the closing bracket.
-pub fn stages_end(text: &[u8], at: usize, n: usize) -> usize
-    requires { at ≤ length text.now }
-    ensures { Ends (rest stage n) text.now at result }
-{
-    let mut i = at;
-    let mut k = n;
-    while 0 < k {
-        if text_scan::at_byte(text, i, 41) {
-            return i + 1;
-        }
-        if text_scan::at_byte(text, i, 32) {
-            let e = stage_end(text, i + 1);
-            if e == 0 {
-                return 0;
-            }
-            i = e;
-            k -= 1;
-        } else {
-            return 0;
-        }
-    }
-    if text_scan::at_byte(text, i, 41) {
-        return i + 1;
-    }
-    0
-}
-
-// Literal k of the row of them that is next.
-pub fn literal_at(text: &[u8], at: usize, k: usize) -> Span
-    requires { at ≤ length text.now }
-    ensures { Picked literal text.now at k result }
-{
-    let mut i = at;
-    let mut n = k;
-    while i < text.len() {
-        if text_scan::at_byte(text, i, 41) {
-            return Span { from: 0, to: 0 };
-        }
-        let e = literal_end(text, i + 1);
-        if e == 0 {
-            return Span { from: 0, to: 0 };
-        }
-        if n == 0 {
-            return Span { from: i + 1, to: e };
-        }
-        i = e;
-        n -= 1;
-    }
-    Span { from: 0, to: 0 }
-}
-
-// Stage k of the row of them that is next.
-pub fn stage_at(text: &[u8], at: usize, k: usize) -> Span
-    requires { at ≤ length text.now }
-    ensures { Picked stage text.now at k result }
-{
-    let mut i = at;
-    let mut n = k;
-    while i < text.len() {
-        if text_scan::at_byte(text, i, 41) {
-            return Span { from: 0, to: 0 };
-        }
-        let e = stage_end(text, i + 1);
-        if e == 0 {
-            return Span { from: 0, to: 0 };
-        }
-        if n == 0 {
-            return Span { from: i + 1, to: e };
-        }
-        i = e;
-        n -= 1;
-    }
-    Span { from: 0, to: 0 }
+    item_behind::<T>(text, i)
 }

@@ -11,17 +11,20 @@ use lib.ListN.{length, take, drop, get_or, length-append}
 use lib.Seq.{slice, drop-drop}
 use borrow.Author.Tests.{eqb-true, eq-eqb, ne_eqb}
 use Rattle.grammar.specs.Bytes.{bytes, Word, same}
-use Rattle.grammar.specs.Shapes.{after}
+use Rattle.grammar.specs.Shapes.{after, name}
 use Rattle.grammar.specs.Declarations.{member, extend}
 use Rattle.grammar.proofs.Tests.{either}
 use Rattle.grammar.proofs.Words.{same-eq, member-append, extend-append}
 use Rattle.text_scan.specs.Found.{NameEnd}
 use Rattle.text_scan.proofs.Laws.{next, slice-part}
-use Rattle.display_shapes.specs.Rows.{pick, Shows}
-use Rattle.display_parts.specs.Placed.{behind, spaced, leading}
+use Rattle.std.specs.Prelude as std
+use Rattle.std.specs.Prelude.{Some, None, MatchOption}
+use Rattle.display_shapes.specs.declared.Span.{Span}
+use Rattle.display_shapes.specs.Rows.{pick, Shown}
+use Rattle.display_parts.specs.Placed.{behind, spaced, leading, heading, Heads}
 use Rattle.display_parts.specs.declared.Part.{Part}
 use Rattle.display_shapes.proofs.Rows.{some-none, pick_out}
-use Rattle.display_variables.specs.Order.{behind_at, before, Within, BehindEnd, FreshEnd}
+use Rattle.display_variables.specs.Order.{behind_at, before, Within, BehindEnd, IsStale, FreshEnd}
 
 -- THE NAME BEHIND A BYTE
 module _ (line : List ℕ) (i : ℕ) (l : i < length line) where
@@ -30,18 +33,16 @@ module _ (line : List ℕ) (i : ℕ) (l : i < length line) where
       (λ (q : eqb 32 (get_or line i 0) ≡ true). eq-eqb (get_or line i 0) 32 (sym (eqb-true 32 (get_or line i 0) q)))
       (λ (q : eqb 32 (get_or line i 0) ≡ false). some-none h (rw (next line i l, q))) (either (eqb 32 (get_or line i 0)))
 
-  pub behind-name : {t : List ℕ} {e : ℕ} → after (bytes " ") (drop i line) ≡ some t → NameEnd line (i + 1) e → BehindEnd line i e
+  pub behind-found : {t : List ℕ} → after (bytes " ") (drop i line) ≡ some t → (e : std.Option ℕ) → MatchOption e (name (drop (i + 1) line) ≡ none) (NameEnd line (i + 1)) → MatchOption e (behind_at line i ≡ []) (BehindEnd line i)
   unfolding behind_at
-  behind-name h v = record {
-    found = λ q. let (a, b, c) = v.found q in (a, b, rw (space h, c));
-    missing = λ q. rw (space h, v.missing q);
-  }
+  behind-found h None v = rw (space h, v)
+  behind-found h (Some e) v = record { begins = v.begins; ends = v.ends; read = rw (space h, v.read) }
 
-  pub behind-other : after (bytes " ") (drop i line) ≡ none → BehindEnd line i 0
+  pub behind-other : after (bytes " ") (drop i line) ≡ none → behind_at line i ≡ []
   unfolding behind_at
   behind-other h =
       let z : eqb (get_or line i 0) 32 ≡ false = ne_eqb (get_or line i 0) 32 (λ e. some-none {o = after (bytes " ") (drop i line)} {x = drop (i + 1) line} (rw (next line i l, e)) h) in
-      record { found = λ q. absurd (q refl); missing = λ q. rw z }
+      rw z
 
 -- a word among one
 member-one : (x y : Word) → member x (y ∷ []) ≡ same x y
@@ -67,10 +68,11 @@ spaced-first : (line : List ℕ) (i e : ℕ) → i < e → i < length line → s
 unfolding behind_at
 spaced-first line i e h l = let z : e - i ≡ suc (e - (i + 1)) = omega arith in rw (z, next line i l)
 
-pub same-behind : (line : List ℕ) (i a e x : ℕ) → a ≤ e → BehindEnd line i x → (x ≡ 0 → ⊥) → same (take (e - a) (drop a line)) (take (x - (i + 1)) (drop (i + 1) line)) ≡ member (slice a e line) (behind_at line i)
-same-behind line i a e x h v z =
-    let (p, q, d) = v.found z in
-    rw (d, member-one (slice a e line) (slice (i + 1) x line), slice-part line a e h, slice-part line (i + 1) x (omega arith))
+pub same-behind : (line : List ℕ) (i x : ℕ) (w : Word) → BehindEnd line i x → same w (take (x - (i + 1)) (drop (i + 1) line)) ≡ member w (behind_at line i)
+same-behind line i x w v = rw (v.read, member-one w (slice (i + 1) x line), slice-part line (i + 1) x (omega (arith, v.begins)))
+
+pub same-head : (line : List ℕ) (h : Span) (w : Word) → h.from < h.to → same w (take (h.to - h.from) (drop h.from line)) ≡ member w (heading line (Some h))
+same-head line h w k = rw (member-one w (slice h.from h.to line), slice-part line h.from h.to (omega arith))
 
 pub stands-step : (line : List ℕ) (i to : ℕ) (w : Word) → i < to → to ≤ length line
     → member w (spaced (to - i) (drop i line)) ≡ (member w (behind_at line i) || member w (spaced (to - (i + 1)) (drop (i + 1) line)))
@@ -93,26 +95,9 @@ module _ (line : List ℕ) (p : Part) where
       before_split i (i + 1) h (omega arith) ∙ ap (λ (ws : List Word). before line p i ++ ws) (spaced-first line i (i + 1) (omega arith) l ∙ rw z (append-nil (behind_at line i)))
 
   -- whether a word stands before byte i
-  module _ (i a e : ℕ) where
-    pub before-plain : p.headend ≡ 0 → member (slice a e line) (spaced (i - p.from) (drop p.from line)) ≡ member (slice a e line) (before line p i)
-    unfolding before
-    before-plain h = rw h
-
-    module _ (w : Within line p) (k : a ≤ e) (h : p.headend ≡ 0 → ⊥) where
-      headed : member (slice a e line) (before line p i) ≡ (same (take (e - a) (drop a line)) (take (p.headend - p.head) (drop p.head line)) || member (slice a e line) (spaced (i - p.from) (drop p.from line)))
-      unfolding before
-      headed =
-          let g = w.head h in
-          let z : same (slice a e line) (slice p.head p.headend line) ≡ same (take (e - a) (drop a line)) (take (p.headend - p.head) (drop p.head line))
-          = rw (slice-part line a e k, slice-part line p.head p.headend (omega arith)) in
-          rw (ne_eqb p.headend 0 h) (ap (λ (t : Bool). t || member (slice a e line) (spaced (i - p.from) (drop p.from line))) z)
-
-      pub before-true : same (take (e - a) (drop a line)) (take (p.headend - p.head) (drop p.head line)) ≡ true → true ≡ member (slice a e line) (before line p i)
-      before-true q = sym (headed ∙ rw q)
-
-      pub before-false : same (take (e - a) (drop a line)) (take (p.headend - p.head) (drop p.head line)) ≡ false
-          → member (slice a e line) (spaced (i - p.from) (drop p.from line)) ≡ member (slice a e line) (before line p i)
-      before-false q = sym (headed ∙ rw q)
+  pub before-member : (i : ℕ) (w : Word) → member w (before line p i) ≡ (member w (heading line p.head) || member w (spaced (i - p.from) (drop p.from line)))
+  unfolding before
+  before-member i w = member-append w (heading line p.head) (spaced (i - p.from) (drop p.from line))
 
 -- WHAT IS KNOWN
 member-extend : (x : Word) (vs xs : List Word) → member x (extend vs xs) ≡ (member x vs || member x xs)
@@ -136,19 +121,19 @@ extend-fresh : (vs : List Word) (x : Word) → member x vs ≡ false → extend 
 unfolding extend
 extend-fresh vs x h = rw h
 
-module _ {line : List ℕ} {p : Part} {i : ℕ} where
-  pub fresh-none : behind_at line i ≡ [] → FreshEnd line p i 0
+module _ (line : List ℕ) (p : Part) (i : ℕ) where
+  pub stale-none : behind_at line i ≡ [] → IsStale line p i
   unfolding extend
-  fresh-none h = record { found = λ q. absurd (q refl); missing = λ q. rw h }
+  stale-none h = rw h
 
-  pub fresh-known : {e : ℕ} → BehindEnd line i e → (e ≡ 0 → ⊥) → member (slice (i + 1) e line) (before line p i) ≡ true → FreshEnd line p i 0
-  fresh-known {e} v z h = record {
-    found = λ q. absurd (q refl);
-    missing = λ q. rw (v.found z).2 (extend-old (extend [] (before line p i)) (slice (i + 1) e line) (member-firsts (slice (i + 1) e line) (before line p i) ∙ h));
-  }
+  pub stale-known : {e : ℕ} → BehindEnd line i e → true ≡ member (take (e - (i + 1)) (drop (i + 1) line)) (before line p i) → IsStale line p i
+  stale-known {e} v h =
+      let x = slice (i + 1) e line in
+      let k : member x (before line p i) ≡ true = rw (slice-part line (i + 1) e (omega (arith, v.begins))) (sym h) in
+      rw v.read (extend-old (extend [] (before line p i)) x (member-firsts x (before line p i) ∙ k))
 
-  pub fresh-found : {e : ℕ} → BehindEnd line i e → (e ≡ 0 → ⊥) → member (slice (i + 1) e line) (before line p i) ≡ false → FreshEnd line p i e
-  fresh-found v z h = record { found = λ q. let (a, b, c) = v.found q in (a, b, c, h); missing = λ q. absurd (z q) }
+  pub fresh-found : {e : ℕ} → BehindEnd line i e → false ≡ member (take (e - (i + 1)) (drop (i + 1) line)) (before line p i) → FreshEnd line p i e
+  fresh-found {e} v h = record { behind = v; fresh = rw (slice-part line (i + 1) e (omega (arith, v.begins))) (sym h) }
 
 -- COUNTING
 pick-kept : (j : ℕ) (vs xs : List Word) → j < length vs → pick (vs ++ xs) j ≡ pick vs j
@@ -175,20 +160,24 @@ pub record Counted (line : List ℕ) (p : Part) (j i c : ℕ) : Type 0 where
   pub count : length (extend [] (before line p i)) ≡ c
   pub few : c ≤ j
 
-pub counted_start : {line : List ℕ} {p : Part} {j n : ℕ} → Within line p → length (leading line p) ≡ n → n ≤ j → Counted line p j p.from n
+pub counted_start : {line : List ℕ} {p : Part} {j n : ℕ} → Within line p → length (heading line p.head) ≡ n → n ≤ j → Counted line p j p.from n
 unfolding before extend
 counted_start {line} {p} {j} {n} w h k =
     let z : p.from - p.from ≡ 0 = omega arith in
     record { begins = omega arith; ends = w.from; count = rw (z, append-nil (leading line p)) (lead ∙ h); few = k }
   where
-    lead : length (extend [] (leading line p)) ≡ length (leading line p)
-    lead = ⊎_elim (λ (q : eqb p.headend 0 ≡ true). rw q) (λ (q : eqb p.headend 0 ≡ false). rw q) (either (eqb p.headend 0))
+    lead : length (extend [] (heading line p.head)) ≡ length (heading line p.head)
+    lead = go p.head
+      where
+        go : (h : std.Option Span) → length (extend [] (heading line h)) ≡ length (heading line h)
+        go None = refl
+        go (Some h) = refl
 
 module _ {line : List ℕ} {p : Part} {j i c : ℕ} (so : Counted line p j i c) (w : Within line p) where
-  pub counted-end : p.end ≤ i → Shows line (pick (extend [] (before line p p.end)) j) (record { from = 0; to = 0 })
+  pub counted-end : p.end ≤ i → Shown line (pick (extend [] (before line p p.end)) j) None
   counted-end h =
       let z : i ≡ p.end = omega (arith, so.ends) in
-      rw (pick_out (extend [] (before line p p.end)) j (omega (arith, so.few, subst (λ (k : ℕ). length (extend [] (before line p k)) ≡ c) z so.count))) (refl, refl)
+      rw (pick_out (extend [] (before line p p.end)) j (omega (arith, so.few, subst (λ (k : ℕ). length (extend [] (before line p k)) ≡ c) z so.count))) tt
 
   module _ (l : i < p.end) where
     inside : i < length line
@@ -197,19 +186,18 @@ module _ {line : List ℕ} {p : Part} {j i c : ℕ} (so : Counted line p j i c) 
     more : extend [] (before line p (i + 1)) ≡ extend (extend [] (before line p i)) (behind_at line i)
     more = ap (extend []) (before_more line p i so.begins inside) ∙ extend-append [] (before line p i) (behind_at line i)
 
-    pub counted-old : {e : ℕ} → FreshEnd line p i e → e ≡ 0 → Counted line p j (i + 1) c
-    counted-old v z = record {
+    pub counted-old : IsStale line p i → Counted line p j (i + 1) c
+    counted-old v = record {
       begins = omega (arith, so.begins);
       ends = omega arith;
-      count = ap length (more ∙ v.missing z) ∙ so.count;
+      count = ap length (more ∙ v) ∙ so.count;
       few = so.few;
     }
 
-    module _ {e : ℕ} (v : FreshEnd line p i e) (z : e ≡ 0 → ⊥) where
+    module _ {e : ℕ} (v : FreshEnd line p i e) where
       fresh : extend [] (before line p (i + 1)) ≡ extend [] (before line p i) ++ (slice (i + 1) e line ∷ [])
       fresh =
-          let (a, b, d, m) = v.found z in
-          more ∙ rw d (extend-fresh (extend [] (before line p i)) (slice (i + 1) e line) (member-firsts (slice (i + 1) e line) (before line p i) ∙ m))
+          more ∙ rw v.behind.read (extend-fresh (extend [] (before line p i)) (slice (i + 1) e line) (member-firsts (slice (i + 1) e line) (before line p i) ∙ v.fresh))
 
       pub counted-new : (c ≡ j → ⊥) → Counted line p j (i + 1) (c + 1)
       counted-new h = record {
@@ -219,9 +207,8 @@ module _ {line : List ℕ} {p : Part} {j i c : ℕ} (so : Counted line p j i c) 
         few = omega (arith, so.few);
       }
 
-      pub counted-found : c ≡ j → Shows line (pick (extend [] (before line p p.end)) j) (record { from = i + 1; to = e })
+      pub counted-found : c ≡ j → Shown line (pick (extend [] (before line p p.end)) j) (Some (record { from = i + 1; to = e }))
       counted-found h =
-          let (a, b, d, m) = v.found z in
           let vs = extend [] (before line p i) in
           let x = slice (i + 1) e line in
           let tail = spaced (p.end - (i + 1)) (drop (i + 1) line) in
@@ -230,16 +217,11 @@ module _ {line : List ℕ} {p : Part} {j i c : ℕ} (so : Counted line p j i c) 
           let n : length vs ≡ j = so.count ∙ h in
           let found : pick (extend [] (before line p p.end)) j ≡ some x
           = ap (λ (us : List Word). pick us j) whole ∙ (pick-extend j (vs ++ (x ∷ [])) tail (omega (arith, length-append vs (x ∷ []))) ∙ subst (λ (k : ℕ). pick (vs ++ (x ∷ [])) k ≡ some x) n (pick-last vs x)) in
-          rw found (a, b, refl)
+          rw found (v.behind.begins, v.behind.ends, refl)
 
 -- THE HEAD
-pub head-none : (line : List ℕ) (p : Part) → p.headend ≡ 0 → length (leading line p) ≡ 0
-head-none line p h = rw h
-
-pub head-one : (line : List ℕ) (p : Part) → (p.headend ≡ 0 → ⊥) → length (leading line p) ≡ 1
-head-one line p h = rw (ne_eqb p.headend 0 h)
-
-pub head_first : (line : List ℕ) (p : Part) (j : ℕ) → Within line p → (p.headend ≡ 0 → ⊥) → j ≡ 0 → Shows line (pick (extend [] (before line p p.end)) j) (record { from = p.head; to = p.headend })
+pub head_first : (line : List ℕ) (p : Part) (h : Span) (j : ℕ) → Within line p → p.head ≡ Some h → j ≡ 0 → Shown line (pick (extend [] (before line p p.end)) j) (Some h)
 unfolding before extend
-head_first line p j w h z =
-    rw (ne_eqb p.headend 0 h, z, pick-extend 0 (slice p.head p.headend line ∷ []) (spaced (p.end - p.from) (drop p.from line)) (omega arith)) (w.head h, w.headend, refl)
+head_first line p h j w e z =
+    let within : Heads line (Some h) = rw e at w.head in
+    rw (e, z, pick-extend 0 (slice h.from h.to line ∷ []) (spaced (p.end - p.from) (drop p.from line)) (omega arith)) (within.0, within.1, refl)

@@ -1,119 +1,110 @@
 // The variables of a part of a line, in order of first appearance.
 #![tactic(auto)]
 
-ghost use Rattle.std.specs.Prelude.{◌≡◌, [], ◌-◌, ◌≤◌, ◌<◌, length, drop};
-ghost use Rattle.std.proofs.Math.Seq.{slice};
+ghost use Rattle.std.specs.Prelude.{◌≡◌, [], ◌-◌, ◌≤◌, ◌<◌, length, drop, MatchOption};
 ghost use Rattle.grammar.specs.Declarations.{member, extend};
-ghost use Rattle.display_shapes.specs.Rows.{pick, Shows};
-ghost use Rattle.display_parts.specs.Placed.{spaced, leading};
-ghost use Rattle.display_variables.specs.Order.{behind_at, before, Within, BehindEnd, FreshEnd};
+ghost use Rattle.display_shapes.specs.Rows.{pick, Shown};
+ghost use Rattle.display_parts.specs.Placed.{spaced, heading, Heads};
+ghost use Rattle.display_variables.specs.Order.{behind_at, before, Within, BehindEnd, IsStale, FreshEnd};
 
 use display_parts::Part;
 use display_shapes::Span;
+use text_scan::{at_byte, name_end, same_words};
 
-// Where the name behind byte i ends, if that is a space; 0 if there is none.
-fn behind_end(line: &[u8], i: usize) -> usize
+// Where the name behind byte i ends, if that byte is a space.
+fn behind_end(line: &[u8], i: usize) -> Option<usize>
     requires { i < length line.now }
-    ensures { BehindEnd line.now i result }
+    ensures { MatchOption result (behind_at line.now i ≡ []) (BehindEnd line.now i) }
 {
-    if text_scan::at_byte(line, i, 32) {
-        return text_scan::name_end(line, i + 1);
+    if at_byte(line, i, b' ') {
+        name_end(line, i + 1)
+    } else {
+        None
     }
-    0
 }
 
-// Whether the name from a to e stands behind byte i.
-fn is_behind(line: &[u8], i: usize, a: usize, e: usize) -> bool
-    requires { (i < length line.now) × (a ≤ e) × (e ≤ length line.now) }
-    ensures { result ≡ member (slice a e line.now) (behind_at line.now i) }
+// Whether the name stands behind byte i.
+fn is_behind(line: &[u8], i: usize, name: &[u8]) -> bool
+    requires { i < length line.now }
+    ensures { result ≡ member name.now (behind_at line.now i) }
 {
-    let x = behind_end(line, i);
-    if x == 0 {
-        return false;
+    match behind_end(line, i) {
+        Some(end) => same_words(name, &line[i + 1..end]),
+        None => false,
     }
-    text_scan::same_words(&line[a..e], &line[i + 1..x])
 }
 
-// Whether the name from a to e stands behind a space that is among the bytes from `from` to `to`.
-fn stands(line: &[u8], from: usize, to: usize, a: usize, e: usize) -> bool
-    requires { (from ≤ to) × (to ≤ length line.now) × (a ≤ e) × (e ≤ length line.now) }
-    ensures { result ≡ member (slice a e line.now) (spaced (to - from) (drop from line.now)) }
+// Whether the name stands behind a space that is among the bytes from `from` to `to`.
+fn stands(line: &[u8], from: usize, to: usize, name: &[u8]) -> bool
+    requires { (from ≤ to) × (to ≤ length line.now) }
+    ensures { result ≡ member name.now (spaced (to - from) (drop from line.now)) }
 {
-    let mut i = from;
-    while i < to {
-        if is_behind(line, i, a, e) {
+    for i in from..to {
+        if is_behind(line, i, name) {
             return true;
         }
-        i += 1;
     }
     false
 }
 
-// Whether the name from a to e stands in the part before byte i.
-fn known(line: &[u8], p: Part, i: usize, a: usize, e: usize) -> bool
-    requires { Within line.now p × (p.from ≤ i) × (i ≤ length line.now) × (a ≤ e) × (e ≤ length line.now) }
-    ensures { result ≡ member (slice a e line.now) (before line.now p i) }
+// Whether the name is the head.
+fn is_head(line: &[u8], head: Option<Span>, name: &[u8]) -> bool
+    requires { Heads line.now head }
+    ensures { result ≡ member name.now (heading line.now head) }
 {
-    let from = p.from;
-    let h = p.head;
-    let t = p.headend;
-    if t == 0 {
-        return stands(line, from, i, a, e);
+    match head {
+        Some(h) => same_words(name, &line[h.from..h.to]),
+        None => false,
     }
-    if text_scan::same_words(&line[a..e], &line[h..t]) {
-        return true;
-    }
-    stands(line, from, i, a, e)
 }
 
-// Where the name behind byte i ends, if it does not stand in the part before; 0 if there is no such name.
-fn fresh_end(line: &[u8], p: Part, i: usize) -> usize
-    requires { Within line.now p × (p.from ≤ i) × (i < length line.now) }
-    ensures { FreshEnd line.now p i result }
+// Whether the name stands in the part before byte i.
+fn is_known(line: &[u8], p: Part, i: usize, name: &[u8]) -> bool
+    requires { Within line.now p × (p.from ≤ i) × (i ≤ length line.now) }
+    ensures { result ≡ member name.now (before line.now p i) }
 {
-    let e = behind_end(line, i);
-    if e == 0 {
-        return 0;
+    is_head(line, p.head, name) || stands(line, p.from, i, name)
+}
+
+// Where the name behind byte i ends, if it does not stand in the part before.
+fn fresh_end(line: &[u8], p: Part, i: usize) -> Option<usize>
+    requires { Within line.now p × (p.from ≤ i) × (i < length line.now) }
+    ensures { MatchOption result (IsStale line.now p i) (FreshEnd line.now p i) }
+{
+    let end = behind_end(line, i)?;
+    if is_known(line, p, i, &line[i + 1..end]) {
+        return None;
     }
-    if known(line, p, i, i + 1, e) {
-        return 0;
-    }
-    e
+    Some(end)
 }
 
 // Variable j of a part, of which n variables stand in its head and j is none.
-fn later(line: &[u8], p: Part, n: usize, j: usize) -> Span
-    requires { Within line.now p × (length (leading line.now p) ≡ n) × (n ≤ j) }
-    ensures { Shows line.now (pick (extend [] (before line.now p p.end)) j) result }
+fn later(line: &[u8], p: Part, n: usize, j: usize) -> Option<Span>
+    requires { Within line.now p × (length (heading line.now p.head) ≡ n) × (n ≤ j) }
+    ensures { Shown line.now (pick (extend [] (before line.now p p.end)) j) result }
 {
-    let to = p.end;
-    let mut i = p.from;
-    let mut c = n;
-    while i < to {
-        let e = fresh_end(line, p, i);
-        if e != 0 {
-            if c == j {
-                return Span { from: i + 1, to: e };
+    let mut count = n;
+    for i in p.from..p.end {
+        if let Some(to) = fresh_end(line, p, i) {
+            if count == j {
+                return Some(Span { from: i + 1, to });
             }
-            c += 1;
+            count += 1;
         }
-        i += 1;
     }
-    Span { from: 0, to: 0 }
+    None
 }
 
-// Variable j of a part, from 0; 0 and 0 where there is none.
-pub fn variable_of(line: &[u8], p: Part, j: usize) -> Span
+// Variable j of a part, from 0.
+pub fn variable_of(line: &[u8], p: Part, j: usize) -> Option<Span>
     requires { Within line.now p }
-    ensures { Shows line.now (pick (extend [] (before line.now p p.end)) j) result }
+    ensures { Shown line.now (pick (extend [] (before line.now p p.end)) j) result }
 {
-    let h = p.head;
-    let t = p.headend;
-    if t == 0 {
+    let Some(head) = p.head else {
         return later(line, p, 0, j);
-    }
+    };
     if j == 0 {
-        return Span { from: h, to: t };
+        return Some(head);
     }
     later(line, p, 1, j)
 }

@@ -1,7 +1,7 @@
 // What a line makes of an object: the state that a `new` line creates it with, or that a `next` line gives it.
 #![tactic(auto)]
 
-ghost use Rattle.std.specs.Prelude.{◌≡◌, ◌≢◌, ℕ, ◌≤◌, ◌<◌};
+ghost use Rattle.std.specs.Prelude.{◌≡◌, ◌≢◌, ℕ, ◌<◌, MatchOption};
 ghost use Rattle.semantics.specs.Models.{line as line_in};
 ghost use Rattle.model.specs.Records.{clause_at, program_of};
 ghost use Rattle.model.specs.WellFormed.{WellFormed};
@@ -11,21 +11,17 @@ ghost use Rattle.effects.specs.Effects.{action_made, made as made_on, effect_at}
 use model::{Action, Model};
 use text::Acceptance;
 
-// The clause that stands on a line, or the number of clauses where none does.
-fn clause_on(m: Model, line: u32) -> usize
-    requires { WellFormed m }
-    ensures { (result ≤ m.clausecount) × (result < m.clausecount → (clause_at m result).line ≡ line) × ((k : ℕ) → k < result → (clause_at m k).line ≢ line) }
+// Which clause stands on a line.
+fn clause_on(m: &Model, line: u32) -> Option<usize>
+    requires { WellFormed m.now }
+    ensures { MatchOption result ((k : ℕ) → k < m.now.clausecount → (clause_at m.now k).line ≢ line) (λ i. (i < m.now.clausecount) × ((clause_at m.now i).line ≡ line) × ((k : ℕ) → k < i → (clause_at m.now k).line ≢ line)) }
 {
-    let n = m.clausecount;
-    let mut i = 0;
-    while i < n {
-        let c = m.clauses[i];
-        if c.line == line {
-            return i;
+    for i in 0..m.clausecount {
+        if m.clauses[i].line == line {
+            return Some(i);
         }
-        i += 1;
     }
-    i
+    None
 }
 
 // The number of what a clause makes of an object in a state.
@@ -33,10 +29,7 @@ fn made(action: Action, state: u32) -> u64
     ensures { result ≡ action_made action state }
 {
     match action {
-        Action::Rule {
-            relation: _,
-            arity: _,
-        } => 0,
+        Action::Rule { .. } => 0,
         Action::New { set } => 2 * 4_294_967_296 + set as u64,
         Action::Next { plus, minus } => {
             3 * 4_294_967_296 + labels::relabel(state, plus, minus) as u64
@@ -45,17 +38,14 @@ fn made(action: Action, state: u32) -> u64
 }
 
 // The number of what a line of a model makes of an object in a state.
-fn on_line(m: Model, line: u32, state: u32) -> u64
-    requires { WellFormed m }
-    ensures { result ≡ made_on (line_in (program_of m) line) state }
+fn on_line(m: &Model, line: u32, state: u32) -> u64
+    requires { WellFormed m.now }
+    ensures { result ≡ made_on (line_in (program_of m.now) line) state }
 {
-    let i = clause_on(m, line);
-    if i < m.clausecount {
-        let c = m.clauses[i];
-        let action = c.action;
-        return made(action, state);
+    match clause_on(m, line) {
+        Some(i) => made(m.clauses[i].action, state),
+        None => 0,
     }
-    0
 }
 
 // What a line of an accepted text makes of an object in a state: 2 × 2^32 and the state of an object that a `new` line creates, 3 × 2^32 and the state that a `next` line gives it; 0 otherwise.
@@ -63,10 +53,8 @@ pub fn effect(text: &[u8], line: u32, state: u32) -> u64
     ensures { result ≡ effect_at (outcome text.now) line state }
 {
     let reading = text::read(text);
-    let answer = reading.answer;
-    if let Acceptance::Refused { number: _, line: _ } = answer {
+    if let Acceptance::Refused { .. } = reading.answer {
         return 0;
     }
-    let m = reading.model;
-    on_line(m, line, state)
+    on_line(&reading.model, line, state)
 }

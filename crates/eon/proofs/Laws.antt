@@ -9,6 +9,7 @@ use lib.Dec.{eqb, ltb, leb}
 use lib.ListN.{length, take, get_or, replicate, length-replicate}
 use lib.Seq.{get_or-take, length-slice, length-take-le}
 use borrow.Author.Tests.{leb-true, le-ltb}
+use Rattle.std.proofs.lemmas.List.{length-take}
 use Rattle.limits.specs.Limits as limit
 use Rattle.semantics.specs.Models.{Program, Question}
 use Rattle.model.specs.declared.Model.{Model}
@@ -60,20 +61,22 @@ module _ (text : List ℕ) (D : Declared) (P : Program) (Q : Question) (m : Mode
   }
 
   -- an analysis of it can be listed
-  listable : (states : List ℕ) (k : ℕ) (run : List ℕ) (n : ℕ) → k ≤ limit.listed → length states ≡ limit.listed → n ≤ limit.shown → limit.run ≤ length run → Listable text m states k run n
-  listable states k run n few whole short long = record {
+  listable : (states run : List ℕ) → length states ≤ limit.listed → length run ≤ limit.run → Listable text m states run
+  listable states run few short = record {
     relations = (accepted-well-formed text D P Q m ok rep).relations;
     names = named;
-    count = omega arith;
     few = few;
-    places = omega arith;
-    short = omega arith;
+    short = short;
   }
 
   module _ (states : List ℕ) (k : ℕ) (run run' : List ℕ) (whole : length states ≡ limit.listed) where
     pub ready : (a : Answer) → Answered P Q run run' a → Beside P states k a → limit.run ≤ length run' → Ready text m states k run' a
-    ready (Reached n last) h l long = listable states k run' n l.count whole h.2.fits long
-    ready Unreached h l long = listable states k run' 0 l.count whole (omega arith) long
+    ready (Reached n last) h l long = (
+      omega (arith, l.count),
+      omega (arith, h.2.fits),
+      listable (take k states) (take n run') (simp length-take (omega (arith, l.count))) (simp length-take (omega (arith, h.2.fits))),
+    )
+    ready Unreached h l long = (omega (arith, l.count), listable (take k states) [] (simp length-take (omega (arith, l.count))) (omega arith))
     ready (Refused n ℓ) h l long = tt
 
     -- and what is written of it is the output

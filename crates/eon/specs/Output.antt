@@ -20,13 +20,6 @@ use Rattle.analyzer.specs.Analyzing.{Analyzes}
 use Rattle.listing_bytes.specs.Writing.{WritesLine}
 use Rattle.listing_lines.specs.Lines.{refused_line, listing_of}
 use Rattle.listing.specs.Report.{Listable, WritesListing}
-use Rattle.eon.specs.declared.Input.{Input}
-use Rattle.eon.specs.declared.Input.TheVariants.{Bytes, Failed}
-
--- INPUT: what was read is the front of the buffer
-abbrev pub Front : ℕ → Input → Type 0
-Front n (Bytes k) = k ≤ n
-Front n Failed = Unit {0}
 
 -- OUTPUT: a count of bytes that the buffer has
 abbrev pub IsPrefixLen : ℕ → List ℕ → Type 0
@@ -34,13 +27,13 @@ IsPrefixLen n out = (n ≤ length out) × (n ≡ length (take n out))
 
 -- AN ANALYSIS that can be listed, and its listing: the first k states, and of a reached question the run
 abbrev pub Ready : List ℕ → Model → List ℕ → ℕ → List ℕ → Answer → Type 0
-Ready text m states k run (Reached n last) = Listable text m states k run n
-Ready text m states k run Unreached = Listable text m states k run 0
+Ready text m states k run (Reached n last) = (k ≤ length states) × (n ≤ length run) × Listable text m (take k states) (take n run)
+Ready text m states k run Unreached = (k ≤ length states) × Listable text m (take k states) []
 Ready text m states k run (Refused n l) = Unit {0}
 
 abbrev pub Shows : List ℕ → Model → List ℕ → ℕ → List ℕ → Answer → List ℕ → ℕ → List ℕ → Type 0
-Shows text m states k run (Reached n last) d r e = WritesListing d text m true states k run n r e
-Shows text m states k run Unreached d r e = WritesListing d text m false states k run 0 r e
+Shows text m states k run (Reached n last) d r e = WritesListing d text m true (take k states) (take n run) r e
+Shows text m states k run Unreached d r e = WritesListing d text m false (take k states) [] r e
 Shows text m states k run (Refused n l) d r e = WritesLine d (refused_line n l) r e
 
 -- WHAT AN ANALYSIS TELLS with the run table that it leaves: the verdict, and the run that the first n numbers of the table stand for

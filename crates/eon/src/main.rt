@@ -1,10 +1,10 @@
 // The program: reads a text from standard input and writes its listing to standard output.
 #![tactic(auto)]
 
-ghost use Rattle.std.specs.Prelude.{◌≤◌, length, take};
+ghost use Rattle.std.specs.Prelude.{◌≤◌, length, take, IfOk};
 ghost use Rattle.limits.specs.Limits as limit;
 ghost use Rattle.listing.specs.Report.{size};
-ghost use Rattle.eon.specs.Output.{Front, IsPrefixLen, Ready, Shows, Output};
+ghost use Rattle.eon.specs.Output.{IsPrefixLen, Ready, Shows, Output};
 
 use analyzer_verdict::{Analysis, Answer};
 use limits::{RUN, TEXT, WORK};
@@ -15,41 +15,38 @@ use std::io::{ErrorKind, Print, Read, Write};
 // One byte more than a text may have, so that a longer one is refused by its first bytes.
 const INPUT: usize = TEXT + 1;
 
-// How many bytes were read, or that reading failed.
-#[derive(Clone, Copy)]
-enum Input {
-    Bytes { count: usize },
-    Failed,
-}
-
-// Reads until the buffer is full or the input ends.
-fn read_input<R: Read>(source: &mut R, text: &mut [u8]) -> Input
-    ensures { Front (length text.new) result }
+// Reads until the buffer is full or the input ends, and says how many bytes were read.
+fn read_input<R: Read>(source: &mut R, text: &mut [u8]) -> io::Result<usize>
+    ensures { IfOk result (λ count. count ≤ length text.new) }
 {
     let mut done = 0;
     while done < text.len() {
         match source.read(&mut text[done..]) {
-            Err(_) => return Input::Failed,
-            Ok(0) => return Input::Bytes { count: done },
+            Err(_) => return Err(io::Error::new(ErrorKind::Other, "read")),
+            Ok(0) => return Ok(done),
             Ok(n) => done += n,
         }
     }
-    Input::Bytes { count: done }
+    Ok(done)
 }
 
 // Writes the listing of an analysis into the slice, and says how many bytes it has.
-fn list(out: &mut [u8], text: &[u8], m: Model, a: Analysis, run: &[u32]) -> usize
-    requires { Ready text.now m a.states a.count run.now a.answer × (size ≤ length out.old) }
-    ensures { Shows text.now m a.states a.count run.now a.answer out.old result out.new }
+fn list(out: &mut [u8], text: &[u8], m: &Model, a: &Analysis, run: &[u32]) -> usize
+    requires { Ready text.now m.now a.now.states a.now.count run.now a.now.answer × (size ≤ length out.old) }
+    ensures { Shows text.now m.now a.now.states a.now.count run.now a.now.answer out.old result out.new }
 {
-    let answer = a.answer;
-    let states = a.states;
-    let k = a.count;
-    match answer {
-        Answer::Reached { places, last: _ } => {
-            listing::put_listing(out, text, m, true, &states, k, run, places)
+    match a.answer {
+        Answer::Reached { places, .. } => listing::put_listing(
+            out,
+            text,
+            m,
+            true,
+            &a.states[..a.count],
+            &run[..places],
+        ),
+        Answer::Unreached => {
+            listing::put_listing(out, text, m, false, &a.states[..a.count], &[])
         }
-        Answer::Unreached => listing::put_listing(out, text, m, false, &states, k, run, 0),
         Answer::Refused { number, line } => listing::put_refusal(out, number, line),
     }
 }
@@ -61,8 +58,7 @@ fn mark(text: &[u8], work: &mut [u8], run: &mut [u32], out: &mut [u8]) -> usize
 {
     let reading = text::read(text);
     let analysis = analyzer::analyze(text, work, run);
-    let m = reading.model;
-    list(out, text, m, analysis, run)
+    list(out, text, &reading.model, &analysis, run)
 }
 
 // Writes the listing of the text.
@@ -76,9 +72,6 @@ fn answer(rt: &impl Print, text: &[u8]) -> io::Result<()> {
 
 fn main(rt: HostRuntime) -> io::Result<()> {
     let mut text = [0u8; INPUT];
-    let input = read_input(&mut rt.reader(), &mut text);
-    match input {
-        Input::Bytes { count } => answer(&rt, &text[..count]),
-        Input::Failed => Err(io::Error::new(ErrorKind::Other, "read")),
-    }
+    let count = read_input(&mut rt.reader(), &mut text)?;
+    answer(&rt, &text[..count])
 }

@@ -25,7 +25,7 @@ use limits::RUN;
 use model::Model;
 use reasons::Reason;
 use replay_runs::Ending;
-use replay_session::{Answer, Position, Session};
+use replay_session::{Answer, Session};
 use text::Acceptance;
 
 // What is said of a run: a refusal with its number and line, that it is kept, or that it is broken at a place, and why.
@@ -41,20 +41,12 @@ fn why(m: Model, s: Session, n: u32, work: &mut [u8]) -> Reason
     requires { WellFormed m × Fits m s × (s.kept < limit.run) × (room ≤ length work.old) }
     ensures { ((p : runs.Place) → place_of n ≡ some p → Explains m s p result) × (length work.new ≡ length work.old) }
 {
-    let count = s.objects;
-    let v = replay_view::arrange(&s.states, count, work);
+    let v = replay_view::arrange(&s.states, s.objects, work);
     let numbers = replay_numbers::numbers(m);
     let literals = m.literals;
     let need = replay_places::needs(&numbers, &literals, n);
     replay_runs::derive(m, need, v.count, work);
-    let carried = s.carried;
-    let at = Position {
-        objects: count,
-        met: s.met,
-        carried,
-        kept: s.kept,
-    };
-    reasons::why_place(&numbers, &literals, &v.slots, work, at, n)
+    reasons::why_place(&numbers, &literals, &v.slots, work, s.position(), n)
 }
 
 // Why a run breaks at a place, in the state to which the places before it lead.
@@ -73,8 +65,7 @@ fn tell(m: Model, ending: Ending, run: &[u32], work: &mut [u8]) -> Explanation
     requires { WellFormed m × (length run.now ≤ limit.run) × (room ≤ length work.old) × Replays (program_of m) (question_of m) (start []) run.now 0 ending.answer × Ends m run.now ending.answer ending.session }
     ensures { Tells (program_of m) (question_of m) run.now ending.answer result × (length work.new ≡ length work.old) }
 {
-    let answer = ending.answer;
-    match answer {
+    match ending.answer {
         Answer::Kept => Explanation::Kept,
         Answer::Broken { place } => {
             let session = ending.session;

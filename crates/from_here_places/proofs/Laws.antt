@@ -2,6 +2,7 @@
 use mathlib.Core.Path.{◌≡◌, sym, ◌∙◌, subst}
 use mathlib.Core.Logic.{inl, inr, ⊎_elim}
 use mathlib.Core.Bool.{true, false}
+use Rattle.std.specs.Bool.{then_some}
 use mathlib.Core.List.{List, [], ◌∷◌}
 use mathlib.Core.Option.{some-injective}
 use Prim.Native.Nat.{ℕ, suc, ◌+◌}
@@ -38,7 +39,7 @@ module _ (P : Program) (Q : Question) where
   never-refused s (n ∷ ns) i number line (inr (never, e)) = absurd (let z : ◌≡◌ {A = ℕ} 0 1 = cc in omega arith)
 
 module _ (m : Model) (ns : List ℕ) (s : Session) where
-  pub stands : (a : Answer) → Replays (program_of m) (question_of m) (start []) ns 0 a → Ends m ns a s → Stands m ns (unbroken a (length ns)) s
+  pub stands : (a : Answer) → Replays (program_of m) (question_of m) (start []) ns 0 a → Ends m ns a s → Stands m ns (then_some (unbroken a (length ns)) s)
   stands Kept h e = e
   stands (Broken k) h e = ⊎_elim
       (λ (q : eqb k (length ns) ≡ true). rw q (subst (λ (i : ℕ). Stopped m ns i s) (eqb-true k (length ns) q) e))

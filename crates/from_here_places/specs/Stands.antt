@@ -1,5 +1,5 @@
 -- WHERE PLACES LEAD from the empty database, wherever they end.
-use Rattle.std.specs.Prelude.{Bool, true, false, List, [], ℕ, eqb, length}
+use Rattle.std.specs.Prelude.{Bool, true, false, Option, Some, None, List, [], ℕ, eqb, length}
 use Rattle.semantics.specs.Runs as runs
 use Rattle.semantics.specs.Runs.{start}
 use Rattle.model.specs.declared.Model.{Model}
@@ -15,7 +15,7 @@ unbroken Kept n = true
 unbroken (Broken k) n = eqb k n
 unbroken (Refused number line) n = true
 
--- all places are allowed, and lead to the state s; or they lead nowhere, since one of them is broken
-abbrev pub Stands : Model → List ℕ → Bool → Session → Type 0
-Stands m ns true s = Stopped m ns (length ns) s
-Stands m ns false s = (t : runs.Session) → Leads (program_of m) (question_of m) (start []) ns (length ns) t → ⊥
+-- all places are allowed, and lead to the state; or they lead nowhere, since one of them is broken
+abbrev pub Stands : Model → List ℕ → Option Session → Type 0
+Stands m ns (Some s) = Stopped m ns (length ns) s
+Stands m ns None = (t : runs.Session) → Leads (program_of m) (question_of m) (start []) ns (length ns) t → ⊥

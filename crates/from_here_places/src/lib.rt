@@ -11,13 +11,6 @@ use limits::RUN;
 use model::Model;
 use replay_session::{Answer, Session};
 
-// Whether all places are allowed, and then where they lead.
-#[derive(Clone, Copy)]
-pub struct Standing {
-    pub kept: bool,
-    pub session: Session,
-}
-
 // Whether the answer to a run of n places says that all of them are allowed: a run that merely ends early is broken at its length.
 fn whole(answer: Answer, n: usize) -> bool
     ensures { result ≡ unbroken answer n }
@@ -25,22 +18,18 @@ fn whole(answer: Answer, n: usize) -> bool
     match answer {
         Answer::Kept => true,
         Answer::Broken { place } => place == n,
-        Answer::Refused { number: _, line: _ } => true,
+        Answer::Refused { .. } => true,
     }
 }
 
-// Plays the places from the empty database.
-pub fn stand(m: Model, places: &[u32]) -> Standing
+// Plays the places from the empty database: where they lead, if all of them are allowed.
+pub fn stand(m: Model, places: &[u32]) -> Option<Session>
     requires { WellFormed m × (length places.now ≤ limit.run) }
-    ensures { Stands m places.now result.kept result.session }
+    ensures { Stands m places.now result }
 {
     let mut facts = [0u8; ROOM];
     let mut stood = [0u32; RUN];
     let ending = replay_runs::play_run(m, places, &mut facts, &mut stood);
-    let answer = ending.answer;
     let session = ending.session;
-    Standing {
-        kept: whole(answer, places.len()),
-        session,
-    }
+    whole(ending.answer, places.len()).then_some(session)
 }

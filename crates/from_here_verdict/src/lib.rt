@@ -101,11 +101,9 @@ fn judge(m: Model, places: &[u32], object: u32, run: &mut [u32]) -> Analysis
     requires { WellFormed m × (length places.now ≤ limit.run) × (limit.run ≤ length run.old) }
     ensures { Put run.old result run.new (program_of m) (question_of m) places.now object }
 {
-    let standing = from_here_places::stand(m, places);
-    if !standing.kept {
+    let Some(s) = from_here_places::stand(m, places) else {
         return analyzer_verdict::refuse(NOT_THERE, 0);
-    }
-    let s = standing.session;
+    };
     if object as usize >= s.objects {
         return analyzer_verdict::refuse(NOT_THERE, 0);
     }

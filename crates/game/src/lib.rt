@@ -16,10 +16,8 @@ pub fn play(text: &[u8], attacker: &[u32], guardian: &[u32], work: &mut [u8]) ->
         return game_answer::refuse(row, 0);
     }
     let reading = text::read(text);
-    let acceptance = reading.answer;
-    if let Acceptance::Refused { number, line } = acceptance {
+    if let Acceptance::Refused { number, line } = reading.answer {
         return game_answer::refuse(number, line);
     }
-    let m = reading.model;
-    game_answer::decide(m, attacker, guardian, work)
+    game_answer::decide(reading.model, attacker, guardian, work)
 }

@@ -3,7 +3,7 @@ use mathlib.Core.Path.{◌≡◌, sym, ap, ◌∙◌, subst}
 use mathlib.Core.Logic.{◌⊎◌, inl, inr, ⊎_elim, ◌↔◌}
 use mathlib.Core.Bool.{true, false}
 use mathlib.Core.List.{List, ◌∷◌}
-use mathlib.Core.Option.{Option}
+use mathlib.Core.Option.{Option, some}
 use Prim.Native.Nat.{ℕ, suc, ◌≤◌, ◌<◌}
 use native.Mathlib.Omega.{arith}
 use lib.ListN.{length, take, get_or}
@@ -31,10 +31,10 @@ use Rattle.search.specs.declared.Explored.{Explored}
 use Rattle.search.specs.Search.{Surveyed}
 use Rattle.helpers.specs.Helpers.{Helpers}
 use Rattle.helpers.proofs.Beside.{some-helpers, moves-takes, asked-own}
-use Rattle.games.specs.Game.{Side, attacker, guardian, Arena, CanForce, HoldsOut, Fewest, Tells}
+use Rattle.games.specs.Game.{Side, attacker, guardian, Arena, at, CanForce, HoldsOut, Fewest, Tells}
 use Rattle.games.specs.Rounds.{Closed}
 use Rattle.games.specs.Sides.{Moves, Asked, Hosts}
-use Rattle.games.proofs.Rounds.{rounds-tell}
+use Rattle.games.proofs.Rounds.{dated, rounds-tell}
 use Rattle.games.proofs.Sides.{within-elem, elem-within, spoken, hosts-closed, hosts-one}
 use Rattle.games.proofs.Same.{tells-same, hosts-same}
 use Rattle.game_lists.specs.Lists.{OneVariable}
@@ -43,11 +43,12 @@ use Rattle.game_moves.specs.Own.{Own}
 use Rattle.game_moves.proofs.Laws.{seat-most, state-seat, seat-state}
 use Rattle.game_stage.specs.Meeting.{Meeting}
 use Rattle.game_stage.proofs.Laws.{own-variable, met-below}
-use Rattle.game_rounds.specs.Board.{slots, of, told, Fits, Solves}
+use Rattle.game_rounds.specs.Board.{slots, of, Number, number_at, rank_of, board, Fits, Solves}
 use Rattle.game_rounds.proofs.Slots.{slots-here, slots_set}
 use Rattle.game_answer.specs.declared.Game.{Game}
-use Rattle.game_answer.specs.Telling.{owned, Played, Telling}
+use Rattle.game_answer.specs.Telling.{owned, told, Played, Telling}
 use Rattle.game_answer.specs.Arranging.{Arranged}
+use Rattle.game_answer.proofs.Numbers.{told-number}
 use Rattle.game_answer.proofs.States.{arena, table_at, saturated-same}
 
 module _ (m : Model) (wf : WellFormed m) (one : OneVariable m) (w : List ℕ) (r : Explored) (h : Surveyed m w r) where
@@ -140,13 +141,17 @@ module _ (m : Model) (wf : WellFormed m) (one : OneVariable m) (w : List ℕ) (r
       closed : Closed G (0 ∷ S)
       closed = hosts-closed P wf.safe S listed reached H helpers h.whole (owned A B) b x safe-stage G hosts
 
-      module _ (ranks : List ℕ) (fit : Fits MA MB M (length S)) (solves : Solves MA MB M (length S) ranks) where
+      module _ (ranks : List Number) (fit : Fits MA MB M (length S)) (solves : Solves MA MB M (length S) ranks) where
+        -- a number is that of one of the rounds
+        dating : (e : ℕ) → e ≤ length S → (v : ℕ) → rank_of (number_at ranks e) ≡ some v → v ≤ solves.rounds
+        dating e l v q = (dated (board MA MB M (length S)) solves.rounds (at attacker e) v (sym (solves.same e l) ∙ q)).0
+
         -- WHAT THE NUMBERS TELL, in each arena of the game
-        tells : (F : Arena) → Hosts P H (owned A B) b x F → (s : ℕ) → Reachable P s → Tells F s (told (get_or ranks (seat s S) 0))
+        tells : (F : Arena) → Hosts P H (owned A B) b x F → (s : ℕ) → Reachable P s → Tells F s (rank_of (number_at ranks (seat s S)))
         tells F f s q =
             let v = reached s q in
             let u = within-elem S s v in
-            tells-same G F (0 ∷ S) (hosts-same P H (owned A B) b x G F hosts f (0 ∷ S) (spoken P wf.safe S listed reached H helpers)) closed s u (told (get_or ranks (seat s S) 0))
+            tells-same G F (0 ∷ S) (hosts-same P H (owned A B) b x G F hosts f (0 ∷ S) (spoken P wf.safe S listed reached H helpers)) closed s u (rank_of (number_at ranks (seat s S)))
             (subst (λ (o : Option ℕ). Tells G s o) (table_at MA MB M S h.proper.distinct full fit solves.rounds attacker s v ∙ sym (solves.same (seat s S) (seat-most s S)))
             (rounds-tell G (0 ∷ S) closed solves.rounds (saturated-same MA MB M S h.proper.distinct full fit solves.rounds solves.saturated) s u))
 
@@ -155,7 +160,9 @@ module _ (m : Model) (wf : WellFormed m) (one : OneVariable m) (w : List ℕ) (r
             record {
               arena = G;
               hosts = hosts;
-              tells = λ F f i l. subst (λ (v : ℕ). Tells F (get_or r.listing.states i 0) (told v)) (sym (a.each i l)) (tells F f (get_or r.listing.states i 0) (shown i l));
+              tells = λ F f i l.
+                  let s = get_or r.listing.states i 0 in
+                  subst (λ (o : Option ℕ). Tells F s o) (sym (ap told (a.each i l) ∙ told-number (number_at ranks (seat s S)) solves.rounds solves.few (dating (seat s S) (seat-most s S)))) (tells F f s (shown i l));
             }
           where
             -- a state of the listing is reachable
@@ -165,7 +172,7 @@ module _ (m : Model) (wf : WellFormed m) (one : OneVariable m) (w : List ℕ) (r
                 (elem-get_or (take r.listing.count r.listing.states) i (rw (length-take-le r.listing.count r.listing.states (omega (arith, h.listing.long, h.listing.count))) l))))
 
     -- THE GAME over the explored states
-    pub telling : (ranks : List ℕ) → Fits MA MB M r.states.count → Solves MA MB M r.states.count ranks → (g : Game) → Arranged S r.listing.states r.listing.count ranks g.moves
+    pub telling : (ranks : List Number) → Fits MA MB M r.states.count → Solves MA MB M r.states.count ranks → (g : Game) → Arranged S r.listing.states r.listing.count ranks g.moves
         → g.states ≡ r.listing.states → g.count ≡ r.listing.count → Telling P (question_of m) A B g
     telling ranks fit solves g a e c =
         let H = some-helpers P S r.states.empty h.proper.distinct full h.reachable in

@@ -1,4 +1,5 @@
 pub mod States
+pub mod Numbers
 pub mod Ordering
 pub mod Laws
 pub mod Settled

@@ -18,11 +18,10 @@ use Rattle.games.specs.Sides.{Hosts}
 use Rattle.games.proofs.Holding.{tells-one}
 use Rattle.search_states.proofs.Listed.{states-settled}
 use Rattle.game_lists.specs.Lists.{Form}
-use Rattle.game_rounds.specs.Board.{told}
 use Rattle.game_answer.specs.declared.Answer.{Answer}
 use Rattle.game_answer.specs.declared.Answer.TheVariants.{Told, Refused}
 use Rattle.game_answer.specs.declared.Game.{Game}
-use Rattle.game_answer.specs.Telling.{owned, Telling, Refusing, refusal, Answers, Settles}
+use Rattle.game_answer.specs.Telling.{owned, told, Telling, Refusing, refusal, Answers, Settles}
 
 -- what a number tells says which number it is
 told-one : (v w : ℕ) → told v ≡ told w → v ≡ w

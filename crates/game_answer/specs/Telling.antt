@@ -1,5 +1,6 @@
 -- ATTACKER AND GUARDIAN (document 02, R-12): what is answered for a program, a question and the lines of the two sides, and what is left in the work area.
-use Rattle.std.specs.Prelude.{◌≡◌, ◌⊎◌, Bool, true, false, ◌||◌, List, ℕ, ◌-◌, ◌<◌, drop, get_or, replicate}
+use Rattle.std.specs.Prelude.{◌≡◌, ◌⊎◌, Bool, true, false, cond, ◌||◌, List, ℕ, ◌-◌, ◌<◌, eqb, drop, get_or, replicate}
+use Rattle.std.proofs.Math.Option.{Option, none, some}
 use Rattle.limits.specs.Limits as limit
 use Rattle.semantics.specs.Models.{Body, Program, Question}
 use Rattle.semantics.specs.Facts.{Database}
@@ -10,7 +11,6 @@ use Rattle.games.specs.Game.{Side, attacker, guardian, Arena, Tells}
 use Rattle.games.specs.Sides.{Hosts}
 use Rattle.search_states.specs.Listed.{Listed}
 use Rattle.game_lists.specs.Lists.{faulty, Form}
-use Rattle.game_rounds.specs.Board.{told}
 use Rattle.game_answer.specs.declared.Answer.{Answer}
 use Rattle.game_answer.specs.declared.Answer.TheVariants.{Told, Refused}
 use Rattle.game_answer.specs.declared.Game.{Game}
@@ -19,6 +19,10 @@ use Rattle.game_answer.specs.declared.Game.{Game}
 abbrev pub owned : List ℕ → List ℕ → Side → List ℕ
 owned A B attacker = A
 owned A B guardian = B
+
+-- WHAT A NUMBER TELLS: 255 stands for none
+unfoldable pub told : ℕ → Option ℕ
+told v = cond (eqb v limit.none) none (some v)
 
 -- THE GAME IS TOLD beside the helpers H: it has an arena, and in each arena of it, in whatever order that has the moves, each of the first n states has the number of moves within which the attacker
 -- can force the outcome, and with no fewer; or 255, and the guardian can hold out

@@ -15,7 +15,7 @@ ghost use Rattle.game_answer.specs.Arranging.{Arranged};
 
 use calls::TOO_MANY;
 use facts_heads::ROOM;
-use limits::LISTED;
+use limits::{LISTED, NONE};
 use model::Model;
 use search::Explored;
 use search_states::{Listing, States};
@@ -53,17 +53,15 @@ pub fn refuse(number: u32, line: u32) -> Game
     }
 }
 
-// The numbers in the order of the listing.
-fn arranged(s: States, listing: Listing, ranks: [u32; LISTED]) -> [u32; LISTED]
+// The numbers in the order of the listing, NONE where there is none.
+fn arranged(s: States, listing: Listing, ranks: [Option<u32>; LISTED]) -> [u32; LISTED]
     requires { Proper s × Lists s listing }
     ensures { Arranged (row s) listing.states listing.count ranks result }
 {
     let mut moves = [0u32; LISTED];
-    let mut i: usize = 0;
-    while i < listing.count {
-        let slot = search_states::seek(&s.states, s.count, listing.states[i]);
-        moves[i] = ranks[slot];
-        i += 1;
+    for (i, state) in listing.states[..listing.count].iter().enumerate() {
+        let slot = search_states::seek(&s.states, s.count, *state);
+        moves[i] = ranks[slot].unwrap_or(NONE);
     }
     moves
 }
@@ -75,18 +73,16 @@ fn tell(m: Model, attacker: &[u32], guardian: &[u32], facts: &[u8], found: Explo
 {
     let s = found.states;
     let listing = found.listing;
-    let moves = found.moves;
-    let table = moves.table;
-    let ours = game_moves::own(m, s, &table, attacker);
-    let theirs = game_moves::own(m, s, &table, guardian);
+    let ours = game_moves::own(m, s, &found.moves.table, attacker);
+    let theirs = game_moves::own(m, s, &found.moves.table, guardian);
     let met = game_stage::meeting(facts, m, s);
     let ranks = game_rounds::solve(&ours, &theirs, met, s.count);
-    let numbers = arranged(s, listing, ranks);
+    let moves = arranged(s, listing, ranks);
     let states = listing.states;
     Game {
         answer: Answer::Told,
         states,
-        moves: numbers,
+        moves,
         count: listing.count,
     }
 }
@@ -110,10 +106,7 @@ pub fn decide(m: Model, attacker: &[u32], guardian: &[u32], work: &mut [u8]) -> 
     requires { WellFormed m × (limit.work ≤ length work.old) }
     ensures { Settles (program_of m) (question_of m) attacker.now guardian.now work.old result work.new }
 {
-    if game_lists::faulty(m, attacker) {
-        return refuse(BAD_LIST, 0);
-    }
-    if game_lists::faulty(m, guardian) {
+    if game_lists::faulty(m, attacker) || game_lists::faulty(m, guardian) {
         return refuse(BAD_LIST, 0);
     }
     if !game_lists::single(m) {

@@ -1,15 +1,14 @@
 -- What a clause's line is, what a list names, and the form of the question by its record.
 use mathlib.Core.Path.{◌≡◌, refl, sym, ap, ◌∙◌}
 use mathlib.Core.Logic.{⊎_elim, ◌≢◌}
-use mathlib.Core.Bool.{Bool, true, false, not}
+use mathlib.Core.Bool.{Bool, true, false, not, ◌||◌}
+use Rattle.std.specs.List.{list_any}
 use mathlib.Core.List.{List, [], ◌∷◌, map}
-use Prim.Native.Nat.{ℕ, zero, suc, ◌<◌}
+use Prim.Native.Nat.{ℕ, ◌<◌}
 use native.Mathlib.Omega.{arith}
-use native.Mathlib.Nat.{not-suc-le-zero}
 use borrow.Author.Tests.{le-ltb, lt-ltb}
 use lib.ListN.{length, get_or}
 use Rattle.semantics.specs.Models.{Body, Program, line, Question, names}
-use Rattle.semantics.proofs.Tools.{or_right}
 use Rattle.model.specs.declared.Model.{Model}
 use Rattle.model.specs.Records.{program_of, number_in, stage_of, question_of, clause_at, stage_at, up_from}
 use Rattle.model.specs.WellFormed.{WellFormed}
@@ -22,14 +21,9 @@ pub no-clause : (m : Model) (ℓ : ℕ) → ((i : ℕ) → i < m.clausecount →
 no-clause m ℓ h = ⊎_elim (λ c. absurd (h c.0 c.1 c.2)) (λ c. ap is_next c.1) (clause-or-other m ℓ)
 
 -- THE LIST, line by line
-pub strange-some : (P : Program) (ls : List ℕ) (j : ℕ) → j < length ls → is_next (line P (get_or ls j 0)) ≡ false → strange P ls ≡ true
-strange-some P [] j l e = absurd (not-suc-le-zero l)
-strange-some P (ℓ ∷ ls) zero l e = rw e refl
-strange-some P (ℓ ∷ ls) (suc j) l e = or_right (not (is_next (line P ℓ))) (strange P ls) (strange-some P ls j (omega arith) e)
-
-pub strange-none : (P : Program) (ls : List ℕ) → ((j : ℕ) → j < length ls → is_next (line P (get_or ls j 0)) ≡ true) → strange P ls ≡ false
-strange-none P [] h = refl
-strange-none P (ℓ ∷ ls) h = rw (h 0 (omega arith)) (strange-none P ls (λ j l. h (suc j) (omega arith)))
+pub list_any-strange : (P : Program) (ls : List ℕ) → list_any (λ (ℓ : ℕ). not (is_next (line P ℓ))) ls ≡ strange P ls
+list_any-strange P [] = refl
+list_any-strange P (ℓ ∷ ls) = ap (λ (b : Bool). not (is_next (line P ℓ)) || b) (list_any-strange P ls)
 
 pub faulty-long : (P : Program) (ls : List ℕ) → most < length ls → true ≡ faulty P ls
 unfolding faulty

@@ -16,14 +16,7 @@ const MOST: usize = 10;
 fn relabels(action: Action) -> bool
     ensures { (b : Body) → result ≡ is_next (line_of action b) }
 {
-    match action {
-        Action::Rule {
-            relation: _,
-            arity: _,
-        } => false,
-        Action::New { set: _ } => false,
-        Action::Next { plus: _, minus: _ } => true,
-    }
+    matches!(action, Action::Next { .. })
 }
 
 // Does a `next` line stand on the line of that number?
@@ -31,14 +24,11 @@ fn next_line(m: Model, line: u32) -> bool
     requires { WellFormed m }
     ensures { result ≡ is_next (line_at (program_of m) line) }
 {
-    let mut i: usize = 0;
-    while i < m.clausecount {
+    for i in 0..m.clausecount {
         let c = m.clauses[i];
-        let action = c.action;
         if c.line == line {
-            return relabels(action);
+            return relabels(c.action);
         }
-        i += 1;
     }
     false
 }
@@ -48,15 +38,7 @@ fn strange(m: Model, list: &[u32]) -> bool
     requires { WellFormed m }
     ensures { result ≡ names_strange (program_of m) list.now }
 {
-    let n = list.len();
-    let mut j: usize = 0;
-    while j < n {
-        if !next_line(m, list[j]) {
-            return true;
-        }
-        j += 1;
-    }
-    false
+    list.iter().any(|line| !next_line(m, *line))
 }
 
 // Is the list of a side's lines refused?
@@ -64,10 +46,7 @@ pub fn faulty(m: Model, list: &[u32]) -> bool
     requires { WellFormed m }
     ensures { result ≡ is_faulty (program_of m) list.now }
 {
-    if list.len() > MOST {
-        return true;
-    }
-    strange(m, list)
+    list.len() > MOST || strange(m, list)
 }
 
 // Has the question one stage with one variable?
@@ -75,9 +54,5 @@ pub fn single(m: Model) -> bool
     requires { WellFormed m }
     ensures { (result ≡ true) ↔ OneVariable m }
 {
-    if m.stagecount != 1 {
-        return false;
-    }
-    let stage = m.stages[0];
-    stage.variables == 1
+    m.stagecount == 1 && m.stages[0].variables == 1
 }

@@ -1,7 +1,7 @@
 // The moves of a side between the found states and the empty one, by the lines that it has.
 #![tactic(auto)]
 
-ghost use Rattle.std.specs.Prelude.{◌≡◌, ◌≤◌, ◌<◌, length, take};
+ghost use Rattle.std.specs.Prelude.{◌≡◌, ◌≤◌, ◌<◌, length};
 ghost use Rattle.limits.specs.Limits as limit;
 ghost use Rattle.semantics.specs.Walkers.{Whole};
 ghost use Rattle.model.specs.declared.Action.TheVariants as action;
@@ -16,36 +16,28 @@ use model::{Action, Clause, Model};
 use search_states::States;
 use search_ways::MATRIX;
 
-// Marks where a `next` clause leads from each slot of its row of the table; a state without a slot is the empty one, whose slot is n.
-fn lead(states: &[u32], n: usize, plus: u32, minus: u32, table: &[u8], i: usize, moves: &mut [u8])
-    requires { (n ≤ length states.now) × (n ≤ limit.atomic) × (i < limit.clauses) × (length table.now ≡ table_bytes) × (length moves.old ≡ matrix_bytes) }
-    ensures { Marks moves.new (With moves.old (Goes table.now i (take n states.now) (action.Next plus minus))) }
+// Marks where a `next` clause leads from each slot of its row of the table; a state without a slot is the empty one, whose slot is the one behind the last.
+fn lead(states: &[u32], plus: u32, minus: u32, table: &[u8], i: usize, moves: &mut [u8])
+    requires { (length states.now ≤ limit.atomic) × (i < limit.clauses) × (length table.now ≡ table_bytes) × (length moves.old ≡ matrix_bytes) }
+    ensures { Marks moves.new (With moves.old (Goes table.now i states.now (action.Next plus minus))) }
 {
-    let mut e: usize = 0;
-    while e < n {
+    for (e, state) in states.iter().enumerate() {
         if facts_bits::get(table, i * WIDTH + e) {
-            let t = search_states::seek(states, n, labels::relabel(states[e], plus, minus));
+            let t = search_states::seek(states, states.len(), labels::relabel(*state, plus, minus));
             facts_bits::put(moves, e * WIDTH + t);
         }
-        e += 1;
     }
 }
 
 // Marks where a clause leads.
-fn lead_clause(states: &[u32], n: usize, c: Clause, table: &[u8], i: usize, moves: &mut [u8])
-    requires { (n ≤ length states.now) × (n ≤ limit.atomic) × (i < limit.clauses) × (length table.now ≡ table_bytes) × (length moves.old ≡ matrix_bytes) }
-    ensures { Marks moves.new (With moves.old (Goes table.now i (take n states.now) c.action)) }
+fn lead_clause(states: &[u32], c: Clause, table: &[u8], i: usize, moves: &mut [u8])
+    requires { (length states.now ≤ limit.atomic) × (i < limit.clauses) × (length table.now ≡ table_bytes) × (length moves.old ≡ matrix_bytes) }
+    ensures { Marks moves.new (With moves.old (Goes table.now i states.now c.action)) }
 {
-    let action = c.action;
-    match action {
-        Action::Rule {
-            relation: _,
-            arity: _,
-        } => {}
-        Action::New { set: _ } => {}
-        Action::Next { plus, minus } => {
-            lead(states, n, plus, minus, table, i, moves);
-        }
+    match c.action {
+        Action::Rule { .. } => {}
+        Action::New { .. } => {}
+        Action::Next { plus, minus } => lead(states, plus, minus, table, i, moves),
     }
 }
 
@@ -54,16 +46,13 @@ pub fn own(m: Model, s: States, table: &[u8], list: &[u32]) -> [u8; MATRIX]
     requires { WellFormed m × Proper s × Whole (program_of m) (row s) × (length table.now ≡ table_bytes) × Marks table.now (CanTake m s) }
     ensures { Marks result (OwnMoves (program_of m) (row s) list.now) }
 {
-    let n = s.count;
-    let count = list.len();
+    let states = &s.states[..s.count];
     let mut moves = [0u8; MATRIX];
-    let mut i: usize = 0;
-    while i < m.clausecount {
+    for i in 0..m.clausecount {
         let c = m.clauses[i];
-        if search_states::among(list, count, c.line) {
-            lead_clause(&s.states, n, c, table, i, &mut moves);
+        if search_states::among(list, list.len(), c.line) {
+            lead_clause(states, c, table, i, &mut moves);
         }
-        i += 1;
     }
     moves
 }

@@ -1,3 +1,4 @@
 pub mod Slots
 pub mod Turning
 pub mod Numbers
+pub mod Ranges

@@ -3,12 +3,13 @@ use mathlib.Core.Path.{◌≡◌, refl, sym, ap, ◌∙◌, subst}
 use mathlib.Core.Logic.{⊎_elim, ◌≢◌}
 use mathlib.Core.Bool.{Bool, true, false, ◌&&◌, ◌||◌, false≢true}
 use mathlib.Core.List.{List, [], ◌∷◌}
-use Prim.Native.Nat.{ℕ, zero, suc, ◌≤◌, ◌<◌}
+use Prim.Native.Nat.{ℕ, zero, suc, ◌+◌, ◌≤◌, ◌<◌}
 use native.Mathlib.Omega.{arith}
 use native.Mathlib.Nat.{not-suc-le-zero}
 use borrow.Author.Tests.{eqb-true, eq-eqb}
 use lib.Dec.{eqb}
 use lib.ListN.{length}
+use Rattle.std.specs.Bool.{MatchBool}
 use Rattle.limits.specs.Limits as limit
 use Rattle.semantics.specs.Models.{elem}
 use Rattle.semantics.proofs.Tools.{either, same?, clash, or-true-cases, or_right}
@@ -16,7 +17,7 @@ use Rattle.facts_bits.specs.Bits.{in_row, Copied, Vacant}
 use Rattle.games.specs.Game.{Side, attacker, guardian, or_stay}
 use Rattle.games.specs.Rounds.{any, every}
 use Rattle.games.proofs.Lists.{any-make, any-use, every-make, every-use}
-use Rattle.game_rounds.specs.Board.{slots, up_to, Inside, sooner, ready_by}
+use Rattle.game_rounds.specs.Board.{slots, Number, up_to, Inside, sooner, ready_by}
 
 -- THE SLOTS OF A ROW below k are those whose bits are set
 pub slots-here : (w : List ℕ) (e k t : ℕ) → t < k → in_row w e t ≡ true → elem t (slots w e k) ≡ true
@@ -58,23 +59,23 @@ length_up (suc k) = ap suc (length_up k)
 
 -- SOME AND EACH of the slots of a row
 module _ (f : ℕ → Bool) (w : List ℕ) (e n : ℕ) where
-  pub some-found : (t : ℕ) → t ≤ n → in_row w e t ≡ true → f t ≡ true → true ≡ any f (slots w e (suc n))
-  some-found t l b q = sym (any-make f t (slots w e (suc n)) (slots-here w e (suc n) t (omega (arith, l)) b) q)
-
-  pub none_found : (k : ℕ) → suc n ≤ k → ((t : ℕ) → t < k → in_row w e t ≡ true → f t ≡ false) → false ≡ any f (slots w e (suc n))
-  none_found k l h = ⊎_elim
-      (λ (q : any f (slots w e (suc n)) ≡ true). let r = any-use f (slots w e (suc n)) q in let s = slots_set w e (suc n) r.0 r.1 in clash r.2 (h r.0 (omega (arith, l, s.0)) s.1))
+  pub any-slots : (r : Bool)
+      → MatchBool r ((t : ℕ) × (0 ≤ t) × (t < n + 1) × (in_row w e t ≡ true × f t ≡ true)) ((t : ℕ) → 0 ≤ t → t < n + 1 → in_row w e t ≡ true → f t ≡ false)
+      → r ≡ any f (slots w e (suc n))
+  any-slots true h = sym (any-make f h.0 (slots w e (suc n)) (slots-here w e (suc n) h.0 (omega (arith, h.2)) h.3.0) h.3.1)
+  any-slots false h = ⊎_elim
+      (λ (q : any f (slots w e (suc n)) ≡ true). let r = any-use f (slots w e (suc n)) q in let s = slots_set w e (suc n) r.0 r.1 in clash r.2 (h r.0 (omega arith) (omega (arith, s.0)) s.1))
       (λ (q : any f (slots w e (suc n)) ≡ false). sym q)
       (either (any f (slots w e (suc n))))
 
-  pub one-fails : (t : ℕ) → t ≤ n → in_row w e t ≡ true → f t ≡ false → false ≡ every f (slots w e (suc n))
-  one-fails t l b q = ⊎_elim
-      (λ (z : every f (slots w e (suc n)) ≡ true). clash (every-use f t (slots w e (suc n)) z (slots-here w e (suc n) t (omega (arith, l)) b)) q)
+  pub every-slots : (r : Bool)
+      → MatchBool r ((t : ℕ) → 0 ≤ t → t < n + 1 → in_row w e t ≡ true → f t ≡ true) ((t : ℕ) × (0 ≤ t) × (t < n + 1) × (in_row w e t ≡ true × f t ≡ false))
+      → r ≡ every f (slots w e (suc n))
+  every-slots true h = sym (every-make f (slots w e (suc n)) (λ t i. let s = slots_set w e (suc n) t i in h t (omega arith) (omega (arith, s.0)) s.1))
+  every-slots false h = ⊎_elim
+      (λ (z : every f (slots w e (suc n)) ≡ true). clash (every-use f h.0 (slots w e (suc n)) z (slots-here w e (suc n) h.0 (omega (arith, h.2)) h.3.0)) h.3.1)
       (λ (z : every f (slots w e (suc n)) ≡ false). sym z)
       (either (every f (slots w e (suc n))))
-
-  pub all_found : (k : ℕ) → suc n ≤ k → ((t : ℕ) → t < k → in_row w e t ≡ true → f t ≡ true) → true ≡ every f (slots w e (suc n))
-  all_found k l h = sym (every-make f (slots w e (suc n)) (λ t i. let s = slots_set w e (suc n) t i in h t (omega (arith, l, s.0)) s.1))
 
 -- READY, by whether the side has a move
 stay-same : (e t : ℕ) (xs : List ℕ) → elem t xs ≡ true → or_stay e xs ≡ xs
@@ -89,7 +90,7 @@ and_same : (b : Bool) → (b && true) ≡ b
 and_same true = refl
 and_same false = refl
 
-module _ (w : List ℕ) (e n : ℕ) (few : n ≤ limit.atomic) (ranks : List ℕ) (round : ℕ) (row : List ℕ) (copied : Copied w e row) (r : Bool) (vacant : Vacant row r) where
+module _ (w : List ℕ) (e n : ℕ) (few : n ≤ limit.atomic) (ranks : List Number) (round : ℕ) (row : List ℕ) (copied : Copied w e row) (r : Bool) (vacant : Vacant row r) where
   -- without a move the side stays
   pub ready-stuck : r ≡ true → (a : Side) → sooner ranks round e ≡ ready_by a w e n ranks round
   ready-stuck q a = go a

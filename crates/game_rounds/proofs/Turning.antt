@@ -1,32 +1,41 @@
 -- A side's part of a round, and the numbers before the first round, slot by slot.
 use mathlib.Core.Path.{◌≡◌, refl, sym, ◌∙◌}
-use mathlib.Core.Logic.{⊎_elim, ◌≢◌}
-use mathlib.Core.Bool.{Bool, true, false, cond, false≢true, true≢false}
+use mathlib.Core.Bool.{Bool, true, false, not, cond, false≢true, true≢false}
 use mathlib.Core.List.{List}
 use Prim.Native.Nat.{ℕ, suc, ◌+◌, ◌≤◌, ◌<◌}
 use native.Mathlib.Omega.{arith}
 use borrow.Author.Count.{below_more}
-use borrow.Author.Tests.{eq-eqb, ne_eqb}
-use lib.ListN.{length, get_or, set, replicate, length-set, length-replicate, get_or-replicate}
+use lib.ListN.{length, set, replicate, length-set, length-replicate, get_or-replicate}
 use lib.Seq.{get_or-set_same, get_or-set_other}
+use Rattle.std.specs.Prelude as prelude
+use Rattle.std.specs.Prelude.{is_some}
 use Rattle.limits.specs.Limits as limit
-use Rattle.semantics.proofs.Tools.{same?}
 use Rattle.facts_bits.specs.Bits.{bit_at}
 use Rattle.games.specs.Game.{Side}
-use Rattle.game_rounds.specs.Board.{ready_by, given, Turned, Begun}
+use Rattle.game_rounds.specs.Board.{Number, number_at, ready_by, given, Turned, Begun}
+
+-- what the test for none says
+pub none-so : (v : Number) (r : Bool) → is_some v ≡ not r → r ≡ true → v ≡ prelude.None
+none-so (prelude.Some v) true h q = absurd (true≢false h)
+none-so (prelude.Some v) false h q = absurd (false≢true q)
+none-so prelude.None r h q = refl
+
+pub some-so : (v : Number) (r : Bool) → is_some v ≡ not r → r ≡ false → is_some v ≡ true
+some-so v true h q = absurd (true≢false q)
+some-so v false h q = h
 
 -- THE SLOTS BELOW e have had their turn, and the others have not
-module _ (a : Side) (w : List ℕ) (n : ℕ) (ranks₀ others : List ℕ) (round : ℕ) where
+module _ (a : Side) (w : List ℕ) (n : ℕ) (ranks₀ others : List Number) (round : ℕ) where
   -- whether slot k can get a number
   abbrev can : ℕ → Bool
   can k = ready_by a w k n others round
 
-  pub record Partly (e : ℕ) (ranks : List ℕ) (changed : Bool) : Type 0 where
+  pub record Partly (e : ℕ) (ranks : List Number) (changed : Bool) : Type 0 where
     pub long : length ranks ≡ length ranks₀
-    pub done : (k : ℕ) → k < e → get_or ranks k 0 ≡ given (get_or ranks₀ k 0) (can k) round
-    pub rest : (k : ℕ) → e ≤ k → get_or ranks k 0 ≡ get_or ranks₀ k 0
-    pub some : changed ≡ true → (k : ℕ) × (k < e) × (get_or ranks₀ k 0 ≡ limit.none) × (can k ≡ true)
-    pub same : changed ≡ false → (k : ℕ) → k < e → get_or ranks k 0 ≡ get_or ranks₀ k 0
+    pub done : (k : ℕ) → k < e → number_at ranks k ≡ given (number_at ranks₀ k) (can k) round
+    pub rest : (k : ℕ) → e ≤ k → number_at ranks k ≡ number_at ranks₀ k
+    pub some : changed ≡ true → (k : ℕ) × (k < e) × (number_at ranks₀ k ≡ prelude.None) × (can k ≡ true)
+    pub same : changed ≡ false → (k : ℕ) → k < e → number_at ranks k ≡ number_at ranks₀ k
 
   pub partly_none : Partly 0 ranks₀ false
   partly_none =
@@ -38,21 +47,21 @@ module _ (a : Side) (w : List ℕ) (n : ℕ) (ranks₀ others : List ℕ) (round
         same = λ q k l. absurd (omega (arith, l));
       }
 
-  module _ (e : ℕ) (ranks : List ℕ) (changed : Bool) (p : Partly e ranks changed) where
+  module _ (e : ℕ) (ranks : List Number) (changed : Bool) (p : Partly e ranks changed) where
     -- slot e gets the round's number
-    pub partly-given : e < length ranks → get_or ranks e 0 ≡ limit.none → can e ≡ true → Partly (e + 1) (set ranks e round) true
+    pub partly-given : e < length ranks → number_at ranks e ≡ prelude.None → can e ≡ true → Partly (e + 1) (set ranks e (prelude.Some round)) true
     partly-given l z q =
         let z₀ = sym (p.rest e (omega arith)) ∙ z in
         record {
-          long = length-set ranks e round ∙ p.long;
-          done = below_more _ _ (λ k h. get_or-set_other ranks e k round 0 (λ y. omega (arith, h, y)) ∙ p.done k h) (get_or-set_same ranks e round 0 l ∙ rw (eq-eqb (get_or ranks₀ e 0) limit.none z₀, q) refl);
-          rest = λ k h. get_or-set_other ranks e k round 0 (λ y. omega (arith, h, y)) ∙ p.rest k (omega (arith, h));
+          long = length-set ranks e (prelude.Some round) ∙ p.long;
+          done = below_more _ _ (λ k h. get_or-set_other ranks e k (prelude.Some round) prelude.None (λ y. omega (arith, h, y)) ∙ p.done k h) (get_or-set_same ranks e (prelude.Some round) prelude.None l ∙ rw (z₀, q) refl);
+          rest = λ k h. get_or-set_other ranks e k (prelude.Some round) prelude.None (λ y. omega (arith, h, y)) ∙ p.rest k (omega (arith, h));
           some = λ y. (e, omega arith, z₀, q);
           same = λ y. absurd (true≢false y);
         }
 
     -- slot e stays as it is
-    pub partly-kept : get_or ranks₀ e 0 ≡ given (get_or ranks₀ e 0) (can e) round → Partly (e + 1) ranks changed
+    pub partly-kept : number_at ranks₀ e ≡ given (number_at ranks₀ e) (can e) round → Partly (e + 1) ranks changed
     partly-kept q =
         record {
           long = p.long;
@@ -63,17 +72,22 @@ module _ (a : Side) (w : List ℕ) (n : ℕ) (ranks₀ others : List ℕ) (round
         }
 
   -- it cannot get one, or has one
-  pub kept-none : (e : ℕ) → can e ≡ false → get_or ranks₀ e 0 ≡ given (get_or ranks₀ e 0) (can e) round
-  kept-none e q = ⊎_elim
-      (λ (z : get_or ranks₀ e 0 ≡ limit.none). rw (eq-eqb (get_or ranks₀ e 0) limit.none z, q) refl)
-      (λ (z : get_or ranks₀ e 0 ≢ limit.none). rw (ne_eqb (get_or ranks₀ e 0) limit.none z) refl)
-      (same? (get_or ranks₀ e 0) limit.none)
+  pub kept-none : (e : ℕ) → can e ≡ false → number_at ranks₀ e ≡ given (number_at ranks₀ e) (can e) round
+  kept-none e q = rw q (unready (number_at ranks₀ e))
+    where
+      unready : (v : Number) → v ≡ given v false round
+      unready (prelude.Some v) = refl
+      unready prelude.None = refl
 
-  pub kept-own : (e : ℕ) → get_or ranks₀ e 0 ≢ limit.none → get_or ranks₀ e 0 ≡ given (get_or ranks₀ e 0) (can e) round
-  kept-own e z = rw (ne_eqb (get_or ranks₀ e 0) limit.none z) refl
+  pub kept-own : (e : ℕ) → is_some (number_at ranks₀ e) ≡ true → number_at ranks₀ e ≡ given (number_at ranks₀ e) (can e) round
+  kept-own e z = own (number_at ranks₀ e) (can e) z
+    where
+      own : (v : Number) (b : Bool) → is_some v ≡ true → v ≡ given v b round
+      own (prelude.Some v) b h = refl
+      own prelude.None b h = absurd (false≢true h)
 
   -- all have had their turn
-  pub partly-all : (e : ℕ) (ranks : List ℕ) (changed : Bool) → e ≡ suc n → Partly e ranks changed → Turned a w n ranks₀ others round ranks changed
+  pub partly-all : (e : ℕ) (ranks : List Number) (changed : Bool) → e ≡ suc n → Partly e ranks changed → Turned a w n ranks₀ others round ranks changed
   partly-all e ranks changed z p =
       record {
         long = p.long;
@@ -84,26 +98,26 @@ module _ (a : Side) (w : List ℕ) (n : ℕ) (ranks₀ others : List ℕ) (round
 
 -- BEFORE THE FIRST ROUND
 module _ (M : List ℕ) where
-  pub record Beginning (e : ℕ) (ranks : List ℕ) : Type 0 where
+  pub record Beginning (e : ℕ) (ranks : List Number) : Type 0 where
     pub long : length ranks ≡ limit.listed
-    pub done : (k : ℕ) → k < e → get_or ranks k 0 ≡ cond (bit_at M k) 0 limit.none
-    pub rest : (k : ℕ) → e ≤ k → k < limit.listed → get_or ranks k 0 ≡ limit.none
+    pub done : (k : ℕ) → k < e → number_at ranks k ≡ cond (bit_at M k) (prelude.Some 0) prelude.None
+    pub rest : (k : ℕ) → e ≤ k → k < limit.listed → number_at ranks k ≡ prelude.None
 
-  pub beginning-none : Beginning 0 (replicate limit.listed limit.none)
+  pub beginning-none : Beginning 0 (replicate limit.listed prelude.None)
   beginning-none =
-      record { long = length-replicate limit.listed limit.none; done = λ k l. absurd (omega (arith, l)); rest = λ k l h. get_or-replicate limit.listed k limit.none 0 h }
+      record { long = length-replicate {A = Number} limit.listed prelude.None; done = λ k l. absurd (omega (arith, l)); rest = λ k l h. get_or-replicate limit.listed k prelude.None prelude.None h }
 
-  module _ (e : ℕ) (ranks : List ℕ) (p : Beginning e ranks) (l : e < limit.listed) where
-    pub beginning-met : bit_at M e ≡ true → Beginning (e + 1) (set ranks e 0)
+  module _ (e : ℕ) (ranks : List Number) (p : Beginning e ranks) (l : e < limit.listed) where
+    pub beginning-met : bit_at M e ≡ true → Beginning (e + 1) (set ranks e (prelude.Some 0))
     beginning-met q =
         record {
-          long = length-set ranks e 0 ∙ p.long;
-          done = below_more _ _ (λ k h. get_or-set_other ranks e k 0 0 (λ y. omega (arith, h, y)) ∙ p.done k h) (get_or-set_same ranks e 0 0 (omega (arith, l, p.long)) ∙ rw q refl);
-          rest = λ k h g. get_or-set_other ranks e k 0 0 (λ y. omega (arith, h, y)) ∙ p.rest k (omega (arith, h)) g;
+          long = length-set ranks e (prelude.Some 0) ∙ p.long;
+          done = below_more _ _ (λ k h. get_or-set_other ranks e k (prelude.Some 0) prelude.None (λ y. omega (arith, h, y)) ∙ p.done k h) (get_or-set_same ranks e (prelude.Some 0) prelude.None (omega (arith, l, p.long)) ∙ rw q refl);
+          rest = λ k h g. get_or-set_other ranks e k (prelude.Some 0) prelude.None (λ y. omega (arith, h, y)) ∙ p.rest k (omega (arith, h)) g;
         }
 
     pub beginning-kept : bit_at M e ≡ false → Beginning (e + 1) ranks
     beginning-kept q = record { long = p.long; done = below_more _ _ p.done (p.rest e (omega arith) l ∙ rw q refl); rest = λ k h g. p.rest k (omega (arith, h)) g }
 
-  pub beginning-all : (n e : ℕ) (ranks : List ℕ) → suc n ≤ e → Beginning e ranks → Begun M n ranks
+  pub beginning-all : (n e : ℕ) (ranks : List Number) → suc n ≤ e → Beginning e ranks → Begun M n ranks
   beginning-all n e ranks z p = record { long = p.long; each = λ k l. p.done k (omega (arith, l, z)) }

@@ -1,11 +1,12 @@
 -- THE BOARD: a game on the slots 0 to n, by matrices of moves, and the numbers that rounds give its positions.
-use Rattle.std.specs.Prelude.{◌≡◌, Bool, true, false, cond, List, [], ◌∷◌, ℕ, zero, suc, ◌*◌, ◌≤◌, ◌<◌, eqb, ltb, length, get_or}
+use Rattle.std.specs.Prelude.{◌≡◌, Bool, true, false, cond, List, [], ◌∷◌, ℕ, zero, suc, ◌*◌, ◌≤◌, ◌<◌, length, get_or}
+use Rattle.std.specs.Prelude as prelude
 use Rattle.std.proofs.Math.Option.{Option, none, some}
 use Rattle.limits.specs.Limits as limit
 use Rattle.facts_bits.specs.Width as width
 use Rattle.facts_bits.specs.Bits.{bit_at, in_row}
 use Rattle.games.specs.Game.{Side, attacker, guardian, Arena, or_stay, at}
-use Rattle.games.specs.Rounds.{any, every, table, Saturated}
+use Rattle.games.specs.Rounds.{any, every, before, table, Saturated}
 
 -- the slots below k that row e of a matrix has, the last first
 abbrev pub slots : List ℕ → ℕ → ℕ → List ℕ
@@ -38,16 +39,23 @@ pub record Fits (A B M : List ℕ) (n : ℕ) : Type 0 where
   -- and the empty state does not meet the question
   pub unmet : bit_at M n ≡ false
 
--- WHAT A NUMBER TELLS: 255 stands for none
-unfoldable pub told : ℕ → Option ℕ
-told v = cond (eqb v limit.none) none (some v)
+-- A NUMBER of a slot, or none
+abbrev pub Number : Type 0
+Number = prelude.Option ℕ
+
+abbrev pub rank_of : Number → Option ℕ
+rank_of (prelude.Some v) = some v
+rank_of prelude.None = none
+
+abbrev pub number_at : List Number → ℕ → Number
+number_at ranks e = get_or ranks e prelude.None
 
 -- a slot's number is below the round's
-abbrev pub sooner : List ℕ → ℕ → ℕ → Bool
-sooner ranks round t = ltb (get_or ranks t 0) round
+abbrev pub sooner : List Number → ℕ → ℕ → Bool
+sooner ranks round t = before round (rank_of (number_at ranks t))
 
 -- the side can get a number in the round: some option of the attacker, each option of the guardian has one of a round before
-abbrev pub ready_by : Side → List ℕ → ℕ → ℕ → List ℕ → ℕ → Bool
+abbrev pub ready_by : Side → List ℕ → ℕ → ℕ → List Number → ℕ → Bool
 ready_by attacker w e n ranks round = any (sooner ranks round) (or_stay e (slots w e (suc n)))
 ready_by guardian w e n ranks round = every (sooner ranks round) (or_stay e (slots w e (suc n)))
 
@@ -56,24 +64,27 @@ side_of true = attacker
 side_of false = guardian
 
 -- who has no number and can get one gets the round's
-abbrev pub given : ℕ → Bool → ℕ → ℕ
-given v b round = cond (eqb v limit.none) (cond b round v) v
+abbrev pub given : Number → Bool → ℕ → Number
+given (prelude.Some v) b round = prelude.Some v
+given prelude.None true round = prelude.Some round
+given prelude.None false round = prelude.None
 
 -- A SIDE'S PART OF A ROUND, and whether it gave a number
-pub record Turned (a : Side) (w : List ℕ) (n : ℕ) (ranks others : List ℕ) (round : ℕ) (ranks' : List ℕ) (r : Bool) : Type 0 where
+pub record Turned (a : Side) (w : List ℕ) (n : ℕ) (ranks others : List Number) (round : ℕ) (ranks' : List Number) (r : Bool) : Type 0 where
   pub long : length ranks' ≡ length ranks
-  pub each : (e : ℕ) → e ≤ n → get_or ranks' e 0 ≡ given (get_or ranks e 0) (ready_by a w e n others round) round
-  pub changed : r ≡ true → (e : ℕ) × (e ≤ n) × (get_or ranks e 0 ≡ limit.none) × (ready_by a w e n others round ≡ true)
-  pub same : r ≡ false → (e : ℕ) → e ≤ n → get_or ranks' e 0 ≡ get_or ranks e 0
+  pub each : (e : ℕ) → e ≤ n → number_at ranks' e ≡ given (number_at ranks e) (ready_by a w e n others round) round
+  pub changed : r ≡ true → (e : ℕ) × (e ≤ n) × (number_at ranks e ≡ prelude.None) × (ready_by a w e n others round ≡ true)
+  pub same : r ≡ false → (e : ℕ) → e ≤ n → number_at ranks' e ≡ number_at ranks e
 
 -- before the first round: 0 where the question is met, and no number elsewhere
-pub record Begun (M : List ℕ) (n : ℕ) (ranks : List ℕ) : Type 0 where
+pub record Begun (M : List ℕ) (n : ℕ) (ranks : List Number) : Type 0 where
   pub long : length ranks ≡ limit.listed
-  pub each : (e : ℕ) → e ≤ n → get_or ranks e 0 ≡ cond (bit_at M e) 0 limit.none
+  pub each : (e : ℕ) → e ≤ n → number_at ranks e ≡ cond (bit_at M e) (prelude.Some 0) prelude.None
 
 -- THE ATTACKER'S NUMBERS are those of so many rounds, and another round would give none
-pub record Solves (A B M : List ℕ) (n : ℕ) (ranks : List ℕ) : Type 0 where
+pub record Solves (A B M : List ℕ) (n : ℕ) (ranks : List Number) : Type 0 where
   pub long : length ranks ≡ limit.listed
   pub rounds : ℕ
-  pub same : (e : ℕ) → e ≤ n → told (get_or ranks e 0) ≡ table (board A B M n) rounds (at attacker e)
+  pub few : rounds < limit.none
+  pub same : (e : ℕ) → e ≤ n → rank_of (number_at ranks e) ≡ table (board A B M n) rounds (at attacker e)
   pub saturated : Saturated (board A B M n) (up_to (suc n)) rounds

@@ -4,53 +4,45 @@
 ghost use Rattle.std.specs.Prelude.{◌≡◌, suc, ◌*◌, ◌≤◌, length};
 ghost use Rattle.limits.specs.Limits as limit;
 ghost use Rattle.facts_bits.specs.Width as width;
-ghost use Rattle.games.specs.Rounds.{any, every};
-ghost use Rattle.game_rounds.specs.Board.{slots, Inside, Fits, sooner, ready_by, side_of, Turned, Begun, Solves};
+ghost use Rattle.games.specs.Rounds.{any, every, before};
+ghost use Rattle.game_rounds.specs.Board.{slots, Inside, Fits, rank_of, sooner, ready_by, side_of, Turned, Begun, Solves};
 
 use facts_bits::{BYTES, WIDTH};
-use limits::{LISTED, NONE};
+use limits::LISTED;
+
+// Is the number one of a round before?
+fn sooner(rank: Option<u32>, round: u32) -> bool
+    ensures { result ≡ before round (rank_of rank) }
+{
+    match rank {
+        Some(number) => number < round,
+        None => false,
+    }
+}
 
 // Has some slot of row e a number below the round's?
-fn some_sooner(moves: &[u8], e: usize, n: usize, ranks: &[u32], round: u32) -> bool
+fn some_sooner(moves: &[u8], e: usize, n: usize, ranks: &[Option<u32>], round: u32) -> bool
     requires { (n ≤ limit.atomic) × (e ≤ n) × (length moves.now ≡ limit.listed * width.bytes) × (length ranks.now ≡ limit.listed) }
     ensures { result ≡ any (sooner ranks.now round) (slots moves.now e (suc n)) }
 {
-    let mut t: usize = 0;
-    while t <= n {
-        if facts_bits::get(moves, e * WIDTH + t) {
-            if ranks[t] < round {
-                return true;
-            }
-        }
-        t += 1;
-    }
-    false
+    (0..n + 1).any(|t| facts_bits::get(moves, e * WIDTH + t) && sooner(ranks[t], round))
 }
 
 // Has each slot of row e a number below the round's?
-fn all_sooner(moves: &[u8], e: usize, n: usize, ranks: &[u32], round: u32) -> bool
+fn all_sooner(moves: &[u8], e: usize, n: usize, ranks: &[Option<u32>], round: u32) -> bool
     requires { (n ≤ limit.atomic) × (e ≤ n) × (length moves.now ≡ limit.listed * width.bytes) × (length ranks.now ≡ limit.listed) }
     ensures { result ≡ every (sooner ranks.now round) (slots moves.now e (suc n)) }
 {
-    let mut t: usize = 0;
-    while t <= n {
-        if facts_bits::get(moves, e * WIDTH + t) {
-            if ranks[t] >= round {
-                return false;
-            }
-        }
-        t += 1;
-    }
-    true
+    (0..n + 1).all(|t| !facts_bits::get(moves, e * WIDTH + t) || sooner(ranks[t], round))
 }
 
 // Can the side get a number at slot e in this round? A side without a move passes.
-fn ready(attacks: bool, moves: &[u8], e: usize, n: usize, ranks: &[u32], round: u32) -> bool
+fn ready(attacks: bool, moves: &[u8], e: usize, n: usize, ranks: &[Option<u32>], round: u32) -> bool
     requires { (n ≤ limit.atomic) × (e ≤ n) × (length moves.now ≡ limit.listed * width.bytes) × (length ranks.now ≡ limit.listed) × Inside moves.now n }
     ensures { result ≡ ready_by (side_of attacks) moves.now e n ranks.now round }
 {
     if facts_bits::vacant(facts_bits::row(moves, e)) {
-        return ranks[e] < round;
+        return sooner(ranks[e], round);
     }
     if attacks {
         return some_sooner(moves, e, n, ranks, round);
@@ -63,45 +55,39 @@ fn turn(
     attacks: bool,
     moves: &[u8],
     n: usize,
-    ranks: &mut [u32],
-    others: &[u32],
+    ranks: &mut [Option<u32>],
+    others: &[Option<u32>],
     round: u32,
 ) -> bool
     requires { (n ≤ limit.atomic) × (length moves.now ≡ limit.listed * width.bytes) × (length ranks.old ≡ limit.listed) × (length others.now ≡ limit.listed) × Inside moves.now n }
     ensures { Turned (side_of attacks) moves.now n ranks.old others.now round ranks.new result }
 {
     let mut changed = false;
-    let mut e: usize = 0;
-    while e <= n {
-        if ranks[e] == NONE {
-            if ready(attacks, moves, e, n, others, round) {
-                ranks[e] = round;
-                changed = true;
-            }
+    for e in 0..=n {
+        if ranks[e].is_none() && ready(attacks, moves, e, n, others, round) {
+            ranks[e] = Some(round);
+            changed = true;
         }
-        e += 1;
     }
     changed
 }
 
 // Before the first round: 0 where the question is met, and no number elsewhere.
-fn outset(met: [u8; BYTES], n: usize) -> [u32; LISTED]
+fn outset(met: [u8; BYTES], n: usize) -> [Option<u32>; LISTED]
     requires { n ≤ limit.atomic }
     ensures { Begun met n result }
 {
-    let mut ranks = [NONE; LISTED];
-    let mut e: usize = 0;
-    while e <= n {
+    let mut ranks = [None; LISTED];
+    for e in 0..=n {
         if facts_bits::get(&met, e) {
-            ranks[e] = 0;
+            ranks[e] = Some(0);
         }
-        e += 1;
     }
     ranks
 }
 
 // The attacker's numbers on a board, for the slots 0 to n: rounds until one gives no number.
-pub fn solve(ours: &[u8], theirs: &[u8], met: [u8; BYTES], n: usize) -> [u32; LISTED]
+pub fn solve(ours: &[u8], theirs: &[u8], met: [u8; BYTES], n: usize) -> [Option<u32>; LISTED]
     requires { Fits ours.now theirs.now met n }
     ensures { Solves ours.now theirs.now met n result }
 {
@@ -111,10 +97,8 @@ pub fn solve(ours: &[u8], theirs: &[u8], met: [u8; BYTES], n: usize) -> [u32; LI
     loop {
         let moved = turn(true, ours, n, &mut first, &second, round);
         let answered = turn(false, theirs, n, &mut second, &first, round);
-        if !moved {
-            if !answered {
-                return first;
-            }
+        if !moved && !answered {
+            return first;
         }
         round += 1;
     }

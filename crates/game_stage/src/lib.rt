@@ -36,7 +36,6 @@ pub fn meeting(work: &[u8], m: Model, s: States) -> [u8; BYTES]
     ensures { Meeting (program_of m) (row s) (stage_of m.literals (stage_at m 0)) (number_in (stage_at m 0) 0) result }
 {
     let slots = facts_candidates::slots();
-    let n = s.count;
     let stage = m.stages[0];
     let part = Part {
         first: stage.first,
@@ -44,12 +43,10 @@ pub fn meeting(work: &[u8], m: Model, s: States) -> [u8; BYTES]
         variables: stage.variables as usize,
     };
     let mut met = [0u8; BYTES];
-    let mut e: usize = 0;
-    while e < n {
-        if meets(work, &slots, n, &m.literals, part, e) {
+    for e in 0..s.count {
+        if meets(work, &slots, s.count, &m.literals, part, e) {
             facts_bits::put(&mut met, e);
         }
-        e += 1;
     }
     met
 }

@@ -6,6 +6,7 @@ use mathlib.Core.List.{List, [], ◌∷◌, ◌++◌, map, map-append}
 use mathlib.Core.Option.{Option, none, some}
 use Prim.Native.Nat.{ℕ, suc, ◌+◌, ◌-◌, ◌≤◌, ◌<◌}
 use native.Mathlib.Numerals.{add-one}
+use native.Mathlib.Nat.{sub-zero}
 use native.Mathlib.Omega.{arith}
 use lib.Dec.{eqb, ltb}
 use lib.ListN.{length, take, drop, get_or, set, length-append, length-drop, length-map}
@@ -19,9 +20,8 @@ use Rattle.grammar.proofs.Tests.{either}
 use Rattle.text_scan.proofs.Laws.{next, nothing as no_bytes}
 use Rattle.handin_lines.specs.Lines as lines_of
 use Rattle.handin_lines.specs.Lines.{verdict, nothing, place, said_by}
-use Rattle.handin_lines.specs.Found.{answer, clear}
-use Rattle.handin_lines.specs.declared.Said.TheVariants as said
-use Rattle.handin_lines.specs.declared.Verdict.TheVariants as verdicts
+use Rattle.handin_lines.specs.Found.{is_silent, number_said, clear}
+use Rattle.std.specs.Prelude.{Some, None}
 use Rattle.handin.specs.Handins.{Handin, says-no, says-yes, unreadable, content, onwards, follows, preface, read_lines, reading}
 use Rattle.handin.specs.declared.Start.{Start}
 use Rattle.handin.specs.Answers.{LineEnd, PrefaceEnd}
@@ -85,23 +85,23 @@ module _ {handin : List ℕ} {at i : ℕ} (so : LineSo handin at i) where
   line-all h k = line-ends h (rw (no_bytes handin i k))
 
 -- WHAT A LINE SAYS, by the answer to it
-says_nothing : (o : Option lines_of.Said) → answer o ≡ said.Nothing → o ≡ some nothing
-says_nothing none e = absurd (let z : ◌≡◌ {A = ℕ} 0 1 = cc in omega arith)
+says_nothing : (o : Option lines_of.Said) → is_silent o ≡ true → o ≡ some nothing
+says_nothing none e = cc
 says_nothing (some nothing) e = refl
-says_nothing (some (place p)) e = absurd (let z : ◌≡◌ {A = ℕ} 0 1 = cc in omega arith)
+says_nothing (some (place p)) e = cc
 
 module _ (reached : Bool) (n : ℕ) (l : Line) (ls : List Line) where
-  preface-on : answer (said_by (content l)) ≡ said.Nothing → preface reached n (l ∷ ls) ≡ preface reached (suc n) ls
+  preface-on : is_silent (said_by (content l)) ≡ true → preface reached n (l ∷ ls) ≡ preface reached (suc n) ls
   unfolding preface
   preface-on e = rw (says_nothing (said_by (content l)) e, preface)
 
-  preface-stops : (answer (said_by (content l)) ≡ said.Nothing → ⊥) → preface reached n (l ∷ ls) ≡ follows reached n (l ∷ ls)
+  preface-stops : is_silent (said_by (content l)) ≡ false → preface reached n (l ∷ ls) ≡ follows reached n (l ∷ ls)
   unfolding preface
   preface-stops h = go (said_by (content l)) h
     where
-      go : (o : Option lines_of.Said) → (answer o ≡ said.Nothing → ⊥) → elim o [ none ↦ follows reached n (l ∷ ls) | some nothing ↦ preface reached (suc n) ls | some (place p) ↦ follows reached n (l ∷ ls) ] ≡ follows reached n (l ∷ ls)
+      go : (o : Option lines_of.Said) → is_silent o ≡ false → elim o [ none ↦ follows reached n (l ∷ ls) | some nothing ↦ preface reached (suc n) ls | some (place p) ↦ follows reached n (l ∷ ls) ] ≡ follows reached n (l ∷ ls)
       go none k = refl
-      go (some nothing) k = absurd (k refl)
+      go (some nothing) k = cc
       go (some (place p)) k = refl
 
 module _ (first : ℕ) (ps : List Place) (l : Line) (ls : List Line) where
@@ -114,24 +114,24 @@ module _ (first : ℕ) (ps : List Place) (l : Line) (ls : List Line) where
       go (some nothing) e = rw (e, onwards)
       go (some (place p)) e = rw (e, onwards, le-ltb (length ps) limit.run h)
 
-  onwards-bad : ((v : ℕ) → answer (said_by (content l)) ≡ said.Place v → ⊥) → onwards first ps (l ∷ ls) ≡ unreadable (first + length ps)
+  onwards-bad : number_said (said_by (content l)) ≡ None → onwards first ps (l ∷ ls) ≡ unreadable (first + length ps)
   unfolding onwards
   onwards-bad h = go (said_by (content l)) refl
     where
       go : (o : Option lines_of.Said) → said_by (content l) ≡ o → onwards first ps (l ∷ ls) ≡ unreadable (first + length ps)
       go none e = rw (e, onwards)
       go (some nothing) e = rw (e, onwards)
-      go (some (place p)) e = absurd (h (number_of p) (ap answer e))
+      go (some (place p)) e = let k = sym h ∙ ap number_said e in cc
 
 module _ (ps : List Place) (l : Line) (ls : List Line) (v : ℕ) where
   More : Type 0
   More = (p : Place) × (number_of p ≡ v) × ((first : ℕ) → onwards first ps (l ∷ ls) ≡ onwards first (ps ++ p ∷ []) ls)
 
-  onwards-on : answer (said_by (content l)) ≡ said.Place v → length ps < limit.run → More
+  onwards-on : number_said (said_by (content l)) ≡ Some v → length ps < limit.run → More
   unfolding onwards More
   onwards-on e h = go (said_by (content l)) refl e
     where
-      go : (o : Option lines_of.Said) → said_by (content l) ≡ o → answer o ≡ said.Place v → More
+      go : (o : Option lines_of.Said) → said_by (content l) ≡ o → number_said o ≡ Some v → More
       go none q k = absurd (let z : ◌≡◌ {A = ℕ} 0 1 = cc in omega arith)
       go (some nothing) q k = absurd (let z : ◌≡◌ {A = ℕ} 0 1 = cc in omega arith)
       go (some (place p)) q k = (p, cc, λ first. rw (q, onwards, lt-ltb (length ps) limit.run h))
@@ -154,10 +154,10 @@ module _ {handin : List ℕ} {at i n : ℕ} (so : PrefaceSo handin at i n) where
   preface-all h = prefaced (λ reached. rw (no_bytes handin i h))
 
   module _ {e : ℕ} (end : LineEnd handin i e) where
-    pub preface-other : (answer (said_by (take (e - i) (drop i handin))) ≡ said.Nothing → ⊥) → PrefaceEnd handin at (record { at = i; line = n })
+    pub preface-other : is_silent (said_by (take (e - i) (drop i handin))) ≡ false → PrefaceEnd handin at (record { at = i; line = n })
     preface-other h = prefaced (λ reached. rw end.read (preface-stops reached n end.line (lines (drop (e + 1) handin)) (rw end.says h)))
 
-    pub preface-more : answer (said_by (take (e - i) (drop i handin))) ≡ said.Nothing → PrefaceSo handin at (e + 1) (n + 1)
+    pub preface-more : is_silent (said_by (take (e - i) (drop i handin))) ≡ true → PrefaceSo handin at (e + 1) (n + 1)
     preface-more h = record {
       within = omega (arith, end.ends);
       small = omega (arith, end.begins, so.small);
@@ -186,16 +186,16 @@ module _ {handin : List ℕ} {at i k : ℕ} (so : RunSo handin at i k) (n : ℕ)
       let f = first-line (drop i handin) (omega (arith, length-drop i handin)) in
       so.read n ∙ rw (f.1, so.count) (onwards-full n so.ps f.0 (lines (drop (suc (first_length (drop i handin))) (drop i handin))) (omega (arith, so.count)))
 
-  pub run-bad : {e : ℕ} → LineEnd handin i e → ((v : ℕ) → answer (said_by (take (e - i) (drop i handin))) ≡ said.Place v → ⊥) → onwards n [] (lines (drop at handin)) ≡ unreadable (n + k)
+  pub run-bad : {e : ℕ} → LineEnd handin i e → number_said (said_by (take (e - i) (drop i handin))) ≡ None → onwards n [] (lines (drop at handin)) ≡ unreadable (n + k)
   run-bad {e} end h = so.read n ∙ rw (end.read, so.count) (onwards-bad n so.ps end.line (lines (drop (e + 1) handin)) (rw end.says h))
 
 module _ {handin : List ℕ} {at i k : ℕ} (so : RunSo handin at i k) where
-  pub run_more : {e v : ℕ} → LineEnd handin i e → answer (said_by (take (e - i) (drop i handin))) ≡ said.Place v → k < limit.run
+  pub run_more : {e v : ℕ} → LineEnd handin i e → number_said (said_by (take (e - i) (drop i handin))) ≡ Some v → k < limit.run
       → (on : RunSo handin at (e + 1) (k + 1)) × (map number_of on.ps ≡ map number_of so.ps ++ v ∷ [])
   unfolding More
   run_more {e} {v} end h f =
       let g : length so.ps < limit.run = omega (arith, so.count) in
-      let said-so : answer (said_by (content end.line)) ≡ said.Place v = rw end.says h in
+      let said-so : number_said (said_by (content end.line)) ≡ Some v = rw end.says h in
       let ls = lines (drop (e + 1) handin) in
       let p = onwards-on so.ps end.line ls v said-so g in (
         record {
@@ -261,20 +261,13 @@ module _ (handin : List ℕ) (at n : ℕ) where
   follows-none h = rw (no_bytes handin at h)
 
 -- THE FIRST LINE
-clear-yes : (o : Option Bool) → clear o ≡ verdicts.Yes → o ≡ some true
-clear-yes none e = absurd (let z : ◌≡◌ {A = ℕ} 0 1 = cc in omega arith)
-clear-yes (some true) e = refl
-clear-yes (some false) e = absurd (let z : ◌≡◌ {A = ℕ} 0 1 = cc in omega arith)
+clear-some : (o : Option Bool) (reached : Bool) → clear o ≡ Some reached → o ≡ some reached
+clear-some none reached e = cc
+clear-some (some r) reached e = let z : r ≡ reached = cc in cc
 
-clear-no : (o : Option Bool) → clear o ≡ verdicts.No → o ≡ some false
-clear-no none e = absurd (let z : ◌≡◌ {A = ℕ} 0 1 = cc in omega arith)
-clear-no (some true) e = absurd (let z : ◌≡◌ {A = ℕ} 0 1 = cc in omega arith)
-clear-no (some false) e = refl
-
-clear_none : (o : Option Bool) → clear o ≡ verdicts.Unclear → o ≡ none
+clear_none : (o : Option Bool) → clear o ≡ None → o ≡ none
 clear_none none e = refl
-clear_none (some true) e = absurd (let z : ◌≡◌ {A = ℕ} 0 1 = cc in omega arith)
-clear_none (some false) e = absurd (let z : ◌≡◌ {A = ℕ} 0 1 = cc in omega arith)
+clear_none (some r) e = cc
 
 module _ (handin : List ℕ) where
   pub reading-long : limit.handin < length handin → reading handin ≡ unreadable 0
@@ -290,18 +283,18 @@ module _ (handin : List ℕ) where
   reading-empty z = reading-short (omega arith) ∙ rw (no_bytes handin 0 (omega arith))
 
   module _ (h : length handin ≤ limit.handin) {e : ℕ} (end : LineEnd handin 0 e) where
-    first_said : (o : Option Bool) → verdict (take (e - 0) (drop 0 handin)) ≡ o → reading handin ≡ elim o [ none ↦ unreadable 1 | some reached ↦ preface reached 2 (lines (drop (e + 1) handin)) ]
+    first_said : (o : Option Bool) → verdict (take e handin) ≡ o → reading handin ≡ elim o [ none ↦ unreadable 1 | some reached ↦ preface reached 2 (lines (drop (e + 1) handin)) ]
     unfolding read_lines
-    first_said o q = reading-short h ∙ rw (end.read, ← q, ← end.says)
+    first_said o q = reading-short h ∙ rw (end.read, ← q, ← rw (sub-zero e) at end.says)
 
-    pub reading-yes : clear (verdict (take (e - 0) (drop 0 handin))) ≡ verdicts.Yes → reading handin ≡ preface true 2 (lines (drop (e + 1) handin))
-    reading-yes q = first_said (some true) (clear-yes (verdict (take (e - 0) (drop 0 handin))) q)
+    pub reading-yes : clear (verdict (take e handin)) ≡ Some true → reading handin ≡ preface true 2 (lines (drop (e + 1) handin))
+    reading-yes q = first_said (some true) (clear-some (verdict (take e handin)) true q)
 
-    pub reading-no : clear (verdict (take (e - 0) (drop 0 handin))) ≡ verdicts.No → reading handin ≡ preface false 2 (lines (drop (e + 1) handin))
-    reading-no q = first_said (some false) (clear-no (verdict (take (e - 0) (drop 0 handin))) q)
+    pub reading-no : clear (verdict (take e handin)) ≡ Some false → reading handin ≡ preface false 2 (lines (drop (e + 1) handin))
+    reading-no q = first_said (some false) (clear-some (verdict (take e handin)) false q)
 
-    pub reading-none : clear (verdict (take (e - 0) (drop 0 handin))) ≡ verdicts.Unclear → reading handin ≡ unreadable 1
-    reading-none q = first_said none (clear_none (verdict (take (e - 0) (drop 0 handin))) q)
+    pub reading-none : clear (verdict (take e handin)) ≡ None → reading handin ≡ unreadable 1
+    reading-none q = first_said none (clear_none (verdict (take e handin)) q)
 
 -- A HAND-IN THAT SAYS YES
 module _ (handin : List ℕ) {first : ℕ} {ps : List Place} (yes : reading handin ≡ says-yes first ps) where
@@ -312,13 +305,13 @@ module _ (handin : List ℕ) {first : ℕ} {ps : List Place} (yes : reading hand
   yes-some = ⊎_elim (λ q. ltb-true 0 (length handin) q) (λ q. absurd (no-yes (sym (reading-empty handin (omega (arith, ltb-false 0 (length handin) q))) ∙ yes))) (either (ltb 0 (length handin)))
 
   pub yes-run : {e : ℕ} {s : Start} → LineEnd handin 0 e → PrefaceEnd handin (e + 1) s → onwards s.line [] (lines (drop s.at handin)) ≡ says-yes first ps
-  yes-run {e} {s} end p = go (verdict (take (e - 0) (drop 0 handin))) refl
+  yes-run {e} {s} end p = go (verdict (take e handin)) refl
     where
       away : follows false s.line (lines (drop s.at handin)) ≡ says-yes first ps → ⊥
       away q = ⊎_elim (λ z. no-yes (sym (follows-more handin s.at s.line (ltb-true s.at (length handin) z)) ∙ q))
           (λ z. absurd (let y = sym (follows-none handin s.at s.line (ltb-false s.at (length handin) z)) ∙ q in let x : ◌≡◌ {A = ℕ} 0 1 = cc in omega arith)) (either (ltb s.at (length handin)))
 
-      go : (o : Option Bool) → verdict (take (e - 0) (drop 0 handin)) ≡ o → onwards s.line [] (lines (drop s.at handin)) ≡ says-yes first ps
+      go : (o : Option Bool) → verdict (take e handin) ≡ o → onwards s.line [] (lines (drop s.at handin)) ≡ says-yes first ps
       go none q = absurd (no-yes (sym (first_said handin yes-short end none q) ∙ yes))
       go (some true) q = sym (follows-yes handin s.at s.line) ∙ sym (p.read true) ∙ sym (first_said handin yes-short end (some true) q) ∙ yes
       go (some false) q = absurd (away (sym (p.read false) ∙ sym (first_said handin yes-short end (some false) q) ∙ yes))

@@ -9,7 +9,7 @@ ghost use Rattle.grammar.specs.Bytes.{lines};
 ghost use Rattle.handin.specs.Handins.{says-yes, onwards, preface, reading};
 ghost use Rattle.handin.specs.Answers.{told, LineEnd, PrefaceEnd};
 
-use handin_lines::{Said, Verdict, read_line, read_verdict};
+use handin_lines::{read_place, read_verdict, says_nothing};
 use limits::{HANDIN, RUN};
 
 // What a hand-in says: no; or yes, with so many places, the first on line `first`; or it is unreadable at a line.
@@ -32,14 +32,12 @@ fn line_end(handin: &[u8], at: usize) -> usize
     requires { at < length handin.now }
     ensures { LineEnd handin.now at result }
 {
-    let mut i = at;
-    while i < handin.len() {
-        if handin[i] == 10 {
+    for i in at..handin.len() {
+        if handin[i] == b'\n' {
             return i;
         }
-        i += 1;
     }
-    i
+    handin.len()
 }
 
 // Past the lines that say nothing, from line 2 on.
@@ -51,10 +49,9 @@ fn preface_end(handin: &[u8], at: usize) -> Start
     let mut line = 2;
     while i < handin.len() {
         let e = line_end(handin, i);
-        let said = read_line(&handin[i..e]);
-        let Said::Nothing = said else {
+        if !says_nothing(&handin[i..e]) {
             return Start { at: i, line };
-        };
+        }
         i = e + 1;
         line += 1;
     }
@@ -75,8 +72,7 @@ fn read_places(handin: &[u8], at: usize, first: u32) -> Handin
             };
         }
         let e = line_end(handin, i);
-        let said = read_line(&handin[i..e]);
-        let Said::Place { number: _ } = said else {
+        let Some(_) = read_place(&handin[i..e]) else {
             return Handin::Unreadable {
                 line: first + places as u32,
             };
@@ -103,9 +99,10 @@ fn after_no(handin: &[u8], at: usize) -> Handin
 {
     let s = preface_end(handin, at);
     if s.at < handin.len() {
-        return Handin::Unreadable { line: s.line };
+        Handin::Unreadable { line: s.line }
+    } else {
+        Handin::No
     }
-    Handin::No
 }
 
 // Reads a hand-in: its size, its first line, and the others.
@@ -115,15 +112,14 @@ pub fn read(handin: &[u8]) -> Handin
     if HANDIN < handin.len() {
         return Handin::Unreadable { line: 0 };
     }
-    if handin.len() == 0 {
+    if handin.is_empty() {
         return Handin::Unreadable { line: 1 };
     }
     let e = line_end(handin, 0);
-    let verdict = read_verdict(&handin[0..e]);
-    match verdict {
-        Verdict::Yes => after_yes(handin, e + 1),
-        Verdict::No => after_no(handin, e + 1),
-        Verdict::Unclear => Handin::Unreadable { line: 1 },
+    match read_verdict(&handin[..e]) {
+        Some(true) => after_yes(handin, e + 1),
+        Some(false) => after_no(handin, e + 1),
+        None => Handin::Unreadable { line: 1 },
     }
 }
 
@@ -138,8 +134,7 @@ fn write_places(handin: &[u8], at: usize, run: &mut [u32])
     let mut k = 0;
     while i < handin.len() {
         let e = line_end(handin, i);
-        let said = read_line(&handin[i..e]);
-        let Said::Place { number } = said else {
+        let Some(number) = read_place(&handin[i..e]) else {
             return;
         };
         run[k] = number;

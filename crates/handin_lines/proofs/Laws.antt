@@ -4,6 +4,8 @@ use mathlib.Core.Logic.{◌⊎◌, inl, inr, ⊎_elim}
 use mathlib.Core.Bool.{Bool, true, false, cond, not, and-true, or-true, or-false}
 use mathlib.Core.List.{List, [], ◌∷◌}
 use mathlib.Core.Option.{Option, none, some, none-ne-some}
+use Rattle.std.specs.Prelude as std
+use Rattle.std.specs.Prelude.{Some, None}
 use Prim.Native.Nat.{ℕ, zero, suc, ◌+◌, ◌-◌, ◌*◌, ◌≤◌, ◌<◌}
 use native.Mathlib.Omega.{arith}
 use lib.Dec.{eqb, leb}
@@ -18,27 +20,11 @@ use Rattle.listing_bytes.specs.Numerals.{value_after}
 use Rattle.text_scan.specs.Found.{WordEnd}
 use Rattle.text_scan.proofs.Laws.{next, nothing as no_bytes}
 use Rattle.handin_lines.specs.Lines.{digits, after_digits, is_numeral, number, below, letters, Said, nothing, states_rest, atomic_rest}
-use Rattle.handin_lines.specs.Found.{cut, DigitsEnd, NumberEnd, BelowEnd, object, last}
+use Rattle.handin_lines.specs.Found.{cut, DigitsEnd, NumberAt, BelowAt, BelowEnd, object, last}
 use Rattle.handin_lines.specs.declared.Number.{Number}
 
--- LETTERS AND DIGITS
+-- DIGITS
 module _ (b : ℕ) where
-  pub alphanumeric-digits : b ≤ 57 → leb 48 b ≡ alphanumeric b
-  unfolding alphanumeric
-  alphanumeric-digits h = rw (le-leb b 57 h, lt-leb 65 b (omega arith), lt-leb 97 b (omega arith)) (sym (and-true (leb 48 b)))
-
-  pub alphanumeric-upper : 57 < b → b ≤ 90 → leb 65 b ≡ alphanumeric b
-  unfolding alphanumeric
-  alphanumeric-upper h k = rw (lt-leb b 57 h, le-leb b 90 k, le-leb 48 b (omega arith), lt-leb 97 b (omega arith), and-true, or-false (leb 65 b), or-false (leb 65 b))
-
-  pub alphanumeric-lower : 90 < b → b ≤ 122 → leb 97 b ≡ alphanumeric b
-  unfolding alphanumeric
-  alphanumeric-lower h k = rw (lt-leb b 57 (omega arith), lt-leb b 90 h, le-leb b 122 k, le-leb 48 b (omega arith), le-leb 65 b (omega arith), and-true, or-false)
-
-  pub alphanumeric-none : 122 < b → false ≡ alphanumeric b
-  unfolding alphanumeric
-  alphanumeric-none h = rw (lt-leb b 57 (omega arith), lt-leb b 90 (omega arith), lt-leb b 122 h, le-leb 48 b (omega arith), le-leb 65 b (omega arith), le-leb 97 b (omega arith))
-
   pub digit-yes : 48 ≤ b → b ≤ 57 → digit b ≡ true
   digit-yes h k = rw (le-leb 48 b h, le-leb b 57 k)
 
@@ -107,9 +93,9 @@ module _ {line : List ℕ} {at v i : ℕ} (so : DigitsSo line at v i) where
   digits-all h = digits-stop (rw (no_bytes line i h)) (rw (no_bytes line i h))
 
 -- NUMERALS
-no_number : {line : List ℕ} {at : ℕ} → is_numeral (digits (drop at line)) ≡ false → NumberEnd line at (record { value = 0; end = 0 })
+no_number : (s : List ℕ) → is_numeral (digits s) ≡ false → number s ≡ none
 unfolding number
-no_number h = record { found = λ q. absurd (q refl); missing = λ q. rw h }
+no_number s h = rw h
 
 digits-none : (s : List ℕ) → length (digits s) ≡ 0 → is_numeral (digits s) ≡ false
 unfolding is_numeral
@@ -140,17 +126,20 @@ digits-many (b ∷ []) h = absurd (omega arith)
 digits-many (b ∷ c ∷ w) h = rw (ne_eqb (suc (length w)) 0 (λ z. absurd (omega arith))) (or-false (not (eqb b 48)))
 
 module _ {line : List ℕ} {at : ℕ} {r : Number} (end : DigitsEnd line at r) where
-  pub number-empty : r.end ≡ at → NumberEnd line at (record { value = 0; end = 0 })
-  number-empty h = no_number (digits-none (drop at line) (omega (arith, end.count)))
+  pub number-empty : r.end ≡ at → number (drop at line) ≡ none
+  number-empty h = no_number (drop at line) (digits-none (drop at line) (omega (arith, end.count)))
 
-  numbered : (at < r.end) → is_numeral (digits (drop at line)) ≡ true → NumberEnd line at r
+  numbered : (at < r.end) → is_numeral (digits (drop at line)) ≡ true → NumberAt line at r
   unfolding number
   numbered h k = record {
-    found = λ q. (value_after 0 (digits (drop at line)), h, end.ends, end.value, rw (k, end.left));
-    missing = λ q. absurd (omega arith);
+    begins = h;
+    ends = end.ends;
+    number = value_after 0 (digits (drop at line));
+    value = end.value;
+    read = rw (k, end.left);
   }
 
-  pub number-single : r.end ≡ at + 1 → NumberEnd line at r
+  pub number-single : r.end ≡ at + 1 → NumberAt line at r
   number-single h = numbered (omega arith) (digits-one (drop at line) (omega (arith, end.count)))
 
   module _ (h : r.end ≡ at → ⊥) (k : r.end ≡ at + 1 → ⊥) where
@@ -160,59 +149,46 @@ module _ {line : List ℕ} {at : ℕ} {r : Number} (end : DigitsEnd line at r) w
         let first : get_or (drop at line) 0 0 ≡ get_or line at 0 = rw (next line at (omega (arith, end.ends))) in
         digits-many (digits (drop at line)) (omega arith) ∙ rw (digits-first (drop at line) (omega arith), first)
 
-    pub number-zero : get_or line at 0 ≡ 48 → NumberEnd line at (record { value = 0; end = 0 })
-    number-zero z = no_number (many ∙ rw (eq-eqb (get_or line at 0) 48 z))
+    pub number-zero : get_or line at 0 ≡ 48 → number (drop at line) ≡ none
+    number-zero z = no_number (drop at line) (many ∙ rw (eq-eqb (get_or line at 0) 48 z))
 
-    pub number-found : (get_or line at 0 ≡ 48 → ⊥) → NumberEnd line at r
+    pub number-found : (get_or line at 0 ≡ 48 → ⊥) → NumberAt line at r
     number-found z = numbered (omega (arith, end.count)) (many ∙ rw (ne_eqb (get_or line at 0) 48 z))
 
--- zero, or not
-zero? : (n : ℕ) → (n ≡ 0) ⊎ (n ≡ 0 → ⊥)
-zero? n = ⊎_elim (λ p. inl (eqb-true n 0 p)) (λ p. inr (eqb-false n 0 p)) (either (eqb n 0))
+pub below-none : (n : ℕ) (s : List ℕ) → number s ≡ none → below n s ≡ none
+unfolding below
+below-none n s z = rw z
 
-module _ {line : List ℕ} {at : ℕ} {r : Number} (n : ℕ) (end : NumberEnd line at r) where
-  below_none : r.end ≡ 0 → below n (drop at line) ≡ none
+module _ {line : List ℕ} {at : ℕ} (n : ℕ) {r : Number} (end : NumberAt line at r) where
+  pub below-found : n ≤ 8388608 → r.value < n → BelowAt line at n (below n (drop at line)) r
   unfolding below
-  below_none z = rw (end.missing z)
+  below-found h k =
+      let e : end.number ≡ r.value = omega (arith, end.value) in
+      record { begins = end.begins; ends = end.ends; small = k; found = rw (end.read, e, lt-ltb r.value n k) }
 
-  pub below-found : n ≤ 8388608 → r.value < n → BelowEnd line at n (below n (drop at line)) r
+  pub below-large : n ≤ r.value → below n (drop at line) ≡ none
   unfolding below
-  below-found h k = record {
-    found = λ q.
-        let f = end.found q in
-        let e : f.0 ≡ r.value = omega (arith, f.3) in
-        (f.1, f.2, k, rw (f.4, e, lt-ltb r.value n k));
-    missing = below_none;
-  }
-
-  pub below-large : n ≤ r.value → BelowEnd line at n (below n (drop at line)) (record { value = 0; end = 0 })
-  unfolding below
-  below-large h = record {
-    found = λ q. absurd (q refl);
-    missing = λ q. ⊎_elim below_none (λ z. let f = end.found z in rw (f.4, le-ltb f.0 n (omega (arith, f.3)))) (zero? r.end);
-  }
+  below-large h = rw (end.read, le-ltb end.number n (omega (arith, end.value)))
 
 -- OBJECTS
-module _ {line : List ℕ} {at : ℕ} where
-  pub object-found : {r : Number} → after (bytes " ") (drop at line) ≡ some (drop (at + 1) line) → BelowEnd line (at + 1) 255 (below 255 (drop (at + 1) line)) r
+module _ (line : List ℕ) (at : ℕ) where
+  pub object-found : (r : std.Option Number) → after (bytes " ") (drop at line) ≡ some (drop (at + 1) line) → BelowEnd line (at + 1) 255 (below 255 (drop (at + 1) line)) r
       → BelowEnd line at 255 (object (drop at line)) r
-  object-found e b = record {
-    found = λ q. let f = b.found q in (omega (arith, f.0), f.1, f.2, rw e f.3);
-    missing = λ q. rw e (b.missing q);
-  }
+  object-found None e b = rw e b
+  object-found (Some r) e b = record { begins = omega (arith, b.begins); ends = b.ends; small = b.small; found = rw e b.found }
 
-  pub object-missing : after (bytes " ") (drop at line) ≡ none → BelowEnd line at 255 (object (drop at line)) (record { value = 0; end = 0 })
-  object-missing e = record { found = λ q. absurd (q refl); missing = λ q. rw e }
+  pub object-missing : after (bytes " ") (drop at line) ≡ none → object (drop at line) ≡ none
+  object-missing e = rw e
 
 -- LINES THAT SAY NOTHING
-module _ {line : List ℕ} {at : ℕ} {n : Number} (end : NumberEnd line at n) where
-  pub states-missing : n.end ≡ 0 → whole (states_rest (drop at line)) ≡ none
-  unfolding states_rest
-  states-missing z = rw (end.missing z)
+pub states-missing : (s : List ℕ) → number s ≡ none → whole (states_rest s) ≡ none
+unfolding states_rest
+states-missing s z = rw z
 
-  pub states-found : {r : Bool} → (n.end ≡ 0 → ⊥) → r ≡ last (after (bytes ")") (drop n.end line)) → whole (states_rest (drop at line)) ≡ cond r (some nothing) none
+module _ {line : List ℕ} {at : ℕ} {n : Number} (end : NumberAt line at n) where
+  pub states-found : {r : Bool} → r ≡ last (after (bytes ")") (drop n.end line)) → whole (states_rest (drop at line)) ≡ cond r (some nothing) none
   unfolding states_rest
-  states-found q e = rw ((end.found q).4, e) (whole-last nothing (after (bytes ")") (drop n.end line)))
+  states-found e = rw (end.read, e) (whole-last nothing (after (bytes ")") (drop n.end line)))
 
 -- what stands after a space is no end
 pub space-open : (s : List ℕ) {t : List ℕ} → after (bytes " ") s ≡ some t → after (bytes ")") s ≡ none

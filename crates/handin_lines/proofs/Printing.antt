@@ -16,7 +16,6 @@ use Rattle.grammar.specs.Bytes.{bytes, letter, digit, alphanumeric, allowed, eve
 use Rattle.grammar.specs.Forms.{print_rest, print_word, all}
 use Rattle.grammar.proofs.Tests.{either, clash, and_left, and_right, and_both}
 use Rattle.grammar.proofs.Printing.{Stops, word_back, after_word-back, name-every, Back, rest_back, rest-long}
-use Rattle.text_scan.proofs.Laws.{allowed-word}
 use Rattle.listing_bytes.specs.Numerals.{decimal, Numeral}
 use Rattle.listing_bytes.specs.Forms.{items, form}
 use Rattle.listing_bytes.proofs.Decimal.{decimal-numeral}
@@ -138,6 +137,10 @@ lines-line (b ∷ s) t e =
 every_append : (p : ℕ → Bool) (s t : List ℕ) → every p s ≡ true → every p t ≡ true → every p (s ++ t) ≡ true
 every_append p [] t e f = f
 every_append p (b ∷ s) t e f = and_both (and_left (p b) (every p s) e) (every_append p s t (and_right (p b) (every p s) e) f)
+
+allowed-word : (b : ℕ) → alphanumeric b ≡ true → allowed b ≡ true
+unfolding allowed
+allowed-word b h = rw h
 
 allowed-letters : (w : List ℕ) → every alphanumeric w ≡ true → every allowed w ≡ true
 allowed-letters [] e = refl

@@ -1,5 +1,6 @@
 -- What the readers of a line find, from a place of the line on.
-use Rattle.std.specs.Prelude.{◌≡◌, Bool, true, false, cond, List, [], ◌∷◌, ℕ, ◌+◌, min, ◌≤◌, ◌<◌, length, drop}
+use Rattle.std.specs.Prelude.{◌≡◌, Bool, true, false, cond, Some, None, List, [], ◌∷◌, ℕ, ◌+◌, min, ◌≤◌, ◌<◌, length, drop}
+use Rattle.std.specs.Prelude as std
 use Rattle.std.proofs.Math.Option.{Option, none, some}
 use Rattle.limits.specs.Limits as limit
 use Rattle.model.specs.Places.{number_of}
@@ -10,9 +11,7 @@ use Rattle.handin_lines.specs.Lines as lines
 use Rattle.handin_lines.specs.Lines.{digits, after_digits, number, below, nothing, place}
 use Rattle.handin_lines.specs.declared.Number.{Number}
 use Rattle.handin_lines.specs.declared.Said.{Said}
-use Rattle.handin_lines.specs.declared.Said.TheVariants.{Nothing, Place, Unreadable}
-use Rattle.handin_lines.specs.declared.Verdict as verdicts
-use Rattle.handin_lines.specs.declared.Verdict.TheVariants.{Yes, No, Unclear}
+use Rattle.handin_lines.specs.declared.Said.TheVariants.{Nothing, Place}
 
 -- a number as it is kept: from 8,388,608 on all are alike
 abbrev pub cut : ℕ → ℕ
@@ -25,15 +24,28 @@ pub record DigitsEnd (line : List ℕ) (at : ℕ) (r : Number) : Type 0 where
   pub left : after_digits (drop at line) ≡ drop r.end line
   pub value : r.value ≡ cut (value_after 0 (digits (drop at line)))
 
--- the numeral that is next; it ends at 0 if there is none
-pub record NumberEnd (line : List ℕ) (at : ℕ) (r : Number) : Type 0 where
-  pub found : (r.end ≡ 0 → ⊥) → (n : ℕ) × (at < r.end) × (r.end ≤ length line) × (r.value ≡ cut n) × (number (drop at line) ≡ some (n, drop r.end line))
-  pub missing : r.end ≡ 0 → number (drop at line) ≡ none
+-- the numeral that is next, and how its number is kept
+pub record NumberAt (line : List ℕ) (at : ℕ) (r : Number) : Type 0 where
+  pub begins : at < r.end
+  pub ends : r.end ≤ length line
+  pub number : ℕ
+  pub value : r.value ≡ cut number
+  pub read : lines.number (drop at line) ≡ some (number, drop r.end line)
 
--- the number below n that is read; it ends at 0 if there is none
-pub record BelowEnd (line : List ℕ) (at n : ℕ) (read : Read ℕ) (r : Number) : Type 0 where
-  pub found : (r.end ≡ 0 → ⊥) → (at < r.end) × (r.end ≤ length line) × (r.value < n) × (read ≡ some (r.value, drop r.end line))
-  pub missing : r.end ≡ 0 → read ≡ none
+abbrev pub NumberEnd : List ℕ → ℕ → std.Option Number → Type 0
+NumberEnd line at None = number (drop at line) ≡ none
+NumberEnd line at (Some r) = NumberAt line at r
+
+-- the number below n that is read
+pub record BelowAt (line : List ℕ) (at n : ℕ) (read : Read ℕ) (r : Number) : Type 0 where
+  pub begins : at < r.end
+  pub ends : r.end ≤ length line
+  pub small : r.value < n
+  pub found : read ≡ some (r.value, drop r.end line)
+
+abbrev pub BelowEnd : List ℕ → ℕ → ℕ → Read ℕ → std.Option Number → Type 0
+BelowEnd line at n read None = read ≡ none
+BelowEnd line at n read (Some r) = BelowAt line at n read r
 
 -- the object that is next in a bracket
 abbrev pub object : List ℕ → Read ℕ
@@ -46,17 +58,28 @@ last (some []) = true
 last (some (b ∷ s)) = false
 
 -- the place with number n, if the line ends with the bracket that is next
-abbrev pub met : List ℕ → ℕ → ℕ → Said
-met line at n = cond (last (after (bytes ")") (drop at line))) (Place n) Unreadable
+abbrev pub met : List ℕ → ℕ → ℕ → std.Option Said
+met line at n = cond (last (after (bytes ")") (drop at line))) (Some (Place n)) None
 
 -- what a line says, a place by its number
-abbrev pub answer : Option lines.Said → Said
-answer none = Unreadable
-answer (some nothing) = Nothing
-answer (some (place p)) = Place (number_of p)
+abbrev pub answer : Option lines.Said → std.Option Said
+answer none = None
+answer (some nothing) = Some Nothing
+answer (some (place p)) = Some (Place (number_of p))
+
+-- whether a line says nothing
+abbrev pub is_silent : Option lines.Said → Bool
+is_silent none = false
+is_silent (some nothing) = true
+is_silent (some (place p)) = false
+
+-- the number of the place that a line says
+abbrev pub number_said : Option lines.Said → std.Option ℕ
+number_said none = None
+number_said (some nothing) = None
+number_said (some (place p)) = Some (number_of p)
 
 -- what the first line says
-abbrev pub clear : Option Bool → verdicts.Verdict
-clear none = Unclear
-clear (some true) = Yes
-clear (some false) = No
+abbrev pub clear : Option Bool → std.Option Bool
+clear none = None
+clear (some reached) = Some reached

@@ -6,33 +6,23 @@ ghost use Rattle.std.proofs.Math.Option.{none, some};
 ghost use Rattle.limits.specs.Limits as limit;
 ghost use Rattle.model.specs.declared.Place.TheVariants.{Meeting};
 ghost use Rattle.model.specs.Places.{numeral};
-ghost use Rattle.grammar.specs.Bytes.{bytes, alphanumeric};
+ghost use Rattle.grammar.specs.Bytes.{bytes};
 ghost use Rattle.grammar.specs.Shapes.{after, whole};
-ghost use Rattle.text_scan.specs.Found.{WordEnd};
 ghost use Rattle.handin_lines.specs.Lines.{verdict, below, nothing, states_rest, atomic_rest, step_rest, meet_rest, said_by};
-ghost use Rattle.handin_lines.specs.Found.{cut, DigitsEnd, NumberEnd, BelowEnd, object, last, met, answer, clear};
+ghost use Rattle.handin_lines.specs.Found.{cut, DigitsEnd, NumberEnd, BelowEnd, object, last, met, answer, is_silent, number_said, clear};
 
 use limits::NONE;
 use model::{Place, number_of};
-use text_scan::{at_byte, at_bytes, same_words};
-
-// What the first line says.
-#[derive(Clone, Copy)]
-pub enum Verdict {
-    Yes,
-    No,
-    Unclear,
-}
+use text_scan::{at_byte, at_bytes, same_words, word_end};
 
 // What a line after the first says: nothing, or the place with this number.
 #[derive(Clone, Copy)]
-pub enum Said {
+enum Said {
     Nothing,
     Place { number: u32 },
-    Unreadable,
 }
 
-// A number, and where it ends: 0 if there is none.
+// A number, and where it ends.
 #[derive(Clone, Copy)]
 struct Number {
     value: u32,
@@ -42,48 +32,12 @@ struct Number {
 // From this number on all are alike.
 const LARGE: u32 = 8_388_608;
 
-// A letter or a digit.
-fn is_alphanumeric(b: u8) -> bool
-    ensures { result ≡ alphanumeric b }
-{
-    if b <= 57 {
-        return 48 <= b;
-    }
-    if b <= 90 {
-        return 65 <= b;
-    }
-    if b <= 122 {
-        return 97 <= b;
-    }
-    false
-}
-
-// Where the word that is next ends.
-fn word_end(line: &[u8], at: usize) -> usize
-    requires { at ≤ length line.now }
-    ensures { WordEnd line.now at result }
-{
-    let mut i = at;
-    while i < line.len() {
-        let b = line[i];
-        if is_alphanumeric(b) {
-            i += 1;
-        } else {
-            return i;
-        }
-    }
-    i
-}
-
 // Whether the line ends with the bracket that is next.
 fn ends(line: &[u8], at: usize) -> bool
     requires { at ≤ length line.now }
     ensures { result ≡ last (after (bytes ")") (drop at line.now)) }
 {
-    if at_byte(line, at, 41) {
-        return line.len() == at + 1;
-    }
-    false
+    at_byte(line, at, b')') && line.len() == at + 1
 }
 
 // Whether words are next, up to the end of the line.
@@ -93,7 +47,7 @@ fn is_words(line: &[u8], at: usize) -> bool
 {
     let mut i = at;
     while i < line.len() {
-        if at_byte(line, i, 32) {
+        if at_byte(line, i, b' ') {
             let e = word_end(line, i + 1);
             if e == i + 1 {
                 return false;
@@ -111,8 +65,7 @@ fn add_digit(value: u32, b: u8) -> u32
     requires { (value ≤ 8388608) × (48 ≤ b) × (b ≤ 57) }
     ensures { result ≡ cut (value * 10 + (b - 48)) }
 {
-    let n = value * 10 + (b - 48) as u32;
-    if n < LARGE { n } else { LARGE }
+    (value * 10 + (b - b'0') as u32).min(LARGE)
 }
 
 // The digits that are next.
@@ -123,58 +76,49 @@ fn read_digits(line: &[u8], at: usize) -> Number
     let mut value = 0;
     let mut i = at;
     while i < line.len() {
-        let b = line[i];
-        if b < 48 {
-            return Number { value, end: i };
+        match line[i] {
+            b @ b'0'..=b'9' => value = add_digit(value, b),
+            _ => return Number { value, end: i },
         }
-        if 57 < b {
-            return Number { value, end: i };
-        }
-        value = add_digit(value, b);
         i += 1;
     }
     Number { value, end: i }
 }
 
-// The numeral that is next.
-fn read_number(line: &[u8], at: usize) -> Number
+// The numeral that is next: none of more than one digit begins with 0.
+fn read_number(line: &[u8], at: usize) -> Option<Number>
     requires { at ≤ length line.now }
     ensures { NumberEnd line.now at result }
 {
     let r = read_digits(line, at);
     if r.end == at {
-        return Number { value: 0, end: 0 };
+        return None;
     }
-    if r.end == at + 1 {
-        return r;
+    if r.end != at + 1 && line[at] == b'0' {
+        return None;
     }
-    if line[at] == 48 {
-        return Number { value: 0, end: 0 };
-    }
-    r
+    Some(r)
 }
 
 // The number below n that is next.
-fn read_below(line: &[u8], at: usize, n: u32) -> Number
+fn read_below(line: &[u8], at: usize, n: u32) -> Option<Number>
     requires { (at ≤ length line.now) × (n ≤ 8388608) }
     ensures { BelowEnd line.now at n (below n (drop at line.now)) result }
 {
-    let r = read_number(line, at);
-    if r.value < n {
-        return r;
-    }
-    Number { value: 0, end: 0 }
+    let r = read_number(line, at)?;
+    if r.value < n { Some(r) } else { None }
 }
 
 // The object that is next in a bracket.
-fn read_object(line: &[u8], at: usize) -> Number
+fn read_object(line: &[u8], at: usize) -> Option<Number>
     requires { at ≤ length line.now }
     ensures { BelowEnd line.now at limit.objects (object (drop at line.now)) result }
 {
-    if at_byte(line, at, 32) {
-        return read_below(line, at + 1, NONE);
+    if at_byte(line, at, b' ') {
+        read_below(line, at + 1, NONE)
+    } else {
+        None
     }
-    Number { value: 0, end: 0 }
 }
 
 // What is left of a `states` line after its first word.
@@ -182,39 +126,33 @@ fn is_number(line: &[u8], at: usize) -> bool
     requires { at ≤ length line.now }
     ensures { whole (states_rest (drop at line.now)) ≡ cond result (some nothing) none }
 {
-    let n = read_number(line, at);
-    if n.end == 0 {
-        return false;
+    match read_number(line, at) {
+        Some(n) => ends(line, n.end),
+        None => false,
     }
-    ends(line, n.end)
 }
 
 // The place, if the line ends with the bracket that is next.
-fn end_place(line: &[u8], at: usize, p: Place) -> Said
+fn end_place(line: &[u8], at: usize, p: Place) -> Option<Said>
     requires { at ≤ length line.now }
     ensures { result ≡ met line.now at (numeral p) }
 {
     if ends(line, at) {
-        return Said::Place {
+        Some(Said::Place {
             number: number_of(p),
-        };
+        })
+    } else {
+        None
     }
-    Said::Unreadable
 }
 
 // What is left of a `step` line after its first word.
-fn read_step(line: &[u8], at: usize) -> Said
+fn read_step(line: &[u8], at: usize) -> Option<Said>
     requires { at ≤ length line.now }
     ensures { result ≡ answer (whole (step_rest (drop at line.now))) }
 {
-    let n = read_below(line, at, LARGE);
-    if n.end == 0 {
-        return Said::Unreadable;
-    }
-    let o = read_object(line, n.end);
-    if o.end == 0 {
-        return Said::Unreadable;
-    }
+    let n = read_below(line, at, LARGE)?;
+    let o = read_object(line, n.end)?;
     end_place(
         line,
         o.end,
@@ -226,7 +164,14 @@ fn read_step(line: &[u8], at: usize) -> Said
 }
 
 // The meeting of these objects, if the line ends with the bracket that is next.
-fn end_meeting(line: &[u8], at: usize, stage: u32, first: u32, second: u32, third: u32) -> Said
+fn end_meeting(
+    line: &[u8],
+    at: usize,
+    stage: u32,
+    first: u32,
+    second: u32,
+    third: u32,
+) -> Option<Said>
     requires { at ≤ length line.now }
     ensures { result ≡ met line.now at (numeral (Meeting stage first second third)) }
 {
@@ -243,41 +188,32 @@ fn end_meeting(line: &[u8], at: usize, stage: u32, first: u32, second: u32, thir
 }
 
 // What is left of a `meet` line after its first word.
-fn read_meeting(line: &[u8], at: usize) -> Said
+fn read_meeting(line: &[u8], at: usize) -> Option<Said>
     requires { at ≤ length line.now }
     ensures { result ≡ answer (whole (meet_rest (drop at line.now))) }
 {
-    let n = read_below(line, at, 128);
-    if n.end == 0 {
-        return Said::Unreadable;
-    }
-    let a = read_object(line, n.end);
-    if a.end == 0 {
+    let n = read_below(line, at, 128)?;
+    let Some(a) = read_object(line, n.end) else {
         return end_meeting(line, n.end, n.value, NONE, NONE, NONE);
-    }
-    let b = read_object(line, a.end);
-    if b.end == 0 {
+    };
+    let Some(b) = read_object(line, a.end) else {
         return end_meeting(line, a.end, n.value, a.value, NONE, NONE);
-    }
-    let c = read_object(line, b.end);
-    if c.end == 0 {
+    };
+    let Some(c) = read_object(line, b.end) else {
         return end_meeting(line, b.end, n.value, a.value, b.value, NONE);
-    }
+    };
     end_meeting(line, c.end, n.value, a.value, b.value, c.value)
 }
 
 // Nothing, if the line is one that says so.
-fn nothing_if(known: bool) -> Said
+fn nothing_if(known: bool) -> Option<Said>
     ensures { result ≡ answer (cond known (some nothing) none) }
 {
-    if known {
-        return Said::Nothing;
-    }
-    Said::Unreadable
+    known.then_some(Said::Nothing)
 }
 
-// A line after the first.
-pub fn read_line(line: &[u8]) -> Said
+// A line after the first, if it can be read.
+fn read_line(line: &[u8]) -> Option<Said>
     ensures { result ≡ answer (said_by line.now) }
 {
     if at_bytes(line, 0, b"(states ") {
@@ -292,24 +228,35 @@ pub fn read_line(line: &[u8]) -> Said
     if at_bytes(line, 0, b"(meet ") {
         return read_meeting(line, 6);
     }
-    Said::Unreadable
+    None
 }
 
-// The first line.
-pub fn read_verdict(line: &[u8]) -> Verdict
+// Whether a line after the first says nothing.
+pub fn says_nothing(line: &[u8]) -> bool
+    ensures { result ≡ is_silent (said_by line.now) }
+{
+    matches!(read_line(line), Some(Said::Nothing))
+}
+
+// The number of the place that a line after the first says.
+pub fn read_place(line: &[u8]) -> Option<u32>
+    ensures { result ≡ number_said (said_by line.now) }
+{
+    match read_line(line) {
+        Some(Said::Place { number }) => Some(number),
+        _ => None,
+    }
+}
+
+// Whether the first line says yes, if it can be read.
+pub fn read_verdict(line: &[u8]) -> Option<bool>
     ensures { result ≡ clear (verdict line.now) }
 {
-    if same_words(line, b"yes") {
-        return Verdict::Yes;
+    if same_words(line, b"yes") || same_words(line, b"(verdict reached)") {
+        return Some(true);
     }
-    if same_words(line, b"(verdict reached)") {
-        return Verdict::Yes;
+    if same_words(line, b"no") || same_words(line, b"(verdict unreached)") {
+        return Some(false);
     }
-    if same_words(line, b"no") {
-        return Verdict::No;
-    }
-    if same_words(line, b"(verdict unreached)") {
-        return Verdict::No;
-    }
-    Verdict::Unclear
+    None
 }

@@ -22,27 +22,19 @@ enum Case {
 pub fn has(state: u32, relation: u32) -> bool
     ensures { result ≡ member state relation }
 {
-    if relation < RELATIONS {
-        (state >> relation) & 1 == 1
-    } else {
-        false
-    }
+    relation < RELATIONS && (state >> relation) & 1 == 1
 }
 
 // The case of a relation, by whether it stands in the first list and in the second.
 fn case_of(first: bool, second: bool) -> Case
     ensures { said result ≡ case_of first second }
 {
-    if first {
-        if second {
-            return Case::Both;
-        }
-        return Case::Set;
+    match (first, second) {
+        (true, false) => Case::Set,
+        (false, true) => Case::Cleared,
+        (true, true) => Case::Both,
+        (false, false) => Case::Neither,
     }
-    if second {
-        return Case::Cleared;
-    }
-    Case::Neither
 }
 
 // The work of a `next` step on one relation: whether the object has it afterwards, by whether it had it.
@@ -70,27 +62,21 @@ fn ended(state: u32, plus: u32, relation: u32) -> bool
     requires { relation < 32 }
     ensures { result ≡ (ltb state (2 ^ relation) && ltb plus (2 ^ relation)) }
 {
-    if state >> relation == 0 {
-        plus >> relation == 0
-    } else {
-        false
-    }
+    state >> relation == 0 && plus >> relation == 0
 }
 
 // The atomic state after a `next` line, relation by relation: those of `plus` are added, then those of `minus` removed.
 pub fn relabel(state: u32, plus: u32, minus: u32) -> u32
     ensures { result ≡ relabeled state plus minus }
 {
-    let mut after: u32 = 0;
-    let mut relation: u32 = 0;
-    while relation < RELATIONS {
+    let mut after = 0;
+    for relation in 0..RELATIONS {
         if ended(state, plus, relation) {
             return after;
         }
         if keeps(state, plus, minus, relation) {
-            after = after | (1 << relation);
+            after |= 1 << relation;
         }
-        relation += 1;
     }
     after
 }

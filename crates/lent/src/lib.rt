@@ -12,15 +12,9 @@ pub fn put(text: &[u8], s: &mut Session, n: u32, work: &mut [u8]) -> PlaceAnswer
     ensures { Put (place_outcome text.now s.old work.old) s.old n work.old result s.new work.new }
 {
     let reply = replay::place(text, *s, n, work);
-    *s = replay_runs::session_of(reply);
-    replay_runs::answer_of(reply)
-}
-
-// An answer with the state beside it.
-fn beside(answer: PlaceAnswer, session: Session) -> Reply
-    ensures { (result.answer ≡ answer) × (result.session ≡ session) }
-{
-    Reply { answer, session }
+    let session = reply.session;
+    *s = session;
+    reply.answer
 }
 
 // Puts one place to a state by value, which is lent for it.
@@ -28,5 +22,5 @@ pub fn place(text: &[u8], mut s: Session, n: u32, work: &mut [u8]) -> Reply
     ensures { Put (place_outcome text.now s work.old) s n work.old result.answer result.session work.new }
 {
     let answer = put(text, &mut s, n, work);
-    beside(answer, s)
+    Reply { answer, session: s }
 }

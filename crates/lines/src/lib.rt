@@ -14,14 +14,10 @@ fn describe(c: Clause) -> u64
     ensures { result ≡ recorded c }
 {
     let line = c.line as u64 * 4;
-    let action = c.action;
-    match action {
-        Action::Rule {
-            relation: _,
-            arity: _,
-        } => line + 1,
-        Action::New { set: _ } => line + 2,
-        Action::Next { plus: _, minus: _ } => line + 3,
+    match c.action {
+        Action::Rule { .. } => line + 1,
+        Action::New { .. } => line + 2,
+        Action::Next { .. } => line + 3,
     }
 }
 
@@ -30,17 +26,15 @@ fn describe_at(row: &[Clause], i: usize) -> u64
     requires { i < length row.now }
     ensures { result ≡ recorded (get_or row.now i nothing) }
 {
-    let c = row[i];
-    describe(c)
+    describe(row[i])
 }
 
 // Clause i of a model, whose accepted clauses are lent on as a row.
-fn clause(m: Model, i: usize) -> u64
-    requires { (i < m.clausecount) × (m.clausecount ≤ limit.clauses) }
-    ensures { result ≡ recorded (get_or m.clauses i nothing) }
+fn clause(m: &Model, i: usize) -> u64
+    requires { (i < m.now.clausecount) × (m.now.clausecount ≤ limit.clauses) }
+    ensures { result ≡ recorded (get_or m.now.clauses i nothing) }
 {
-    let n = m.clausecount;
-    describe_at(&m.clauses[..n], i)
+    describe_at(&m.clauses[..m.clausecount], i)
 }
 
 // Clause i of an accepted text, from 0: its line and what stands on it; 0 where there is none.
@@ -48,13 +42,11 @@ pub fn line(text: &[u8], i: usize) -> u64
     ensures { result ≡ line_at (outcome text.now) i }
 {
     let reading = text::read(text);
-    let answer = reading.answer;
-    if let Acceptance::Refused { number: _, line: _ } = answer {
+    if let Acceptance::Refused { .. } = reading.answer {
         return 0;
     }
-    let m = reading.model;
-    if i < m.clausecount {
-        return clause(m, i);
+    if i < reading.model.clausecount {
+        return clause(&reading.model, i);
     }
     0
 }

@@ -57,10 +57,10 @@ run-lines : (ns : List ℕ) (ps : List Place) → map place_of ns ≡ map some p
 run-lines ns ps h = sym (ap joined (map-map line_for place_of ns)) ∙ ap (λ (os : List (Option Place)). joined (map line_for os)) h ∙ ap joined (map-map line_for some ps)
 
 -- the summary, the lines of the states and those of the run are the listing
-pub whole-listing : (text : List ℕ) (m : Model) (reached : Bool) (states : List ℕ) (k : ℕ) (run : List ℕ) (n : ℕ) → k ≤ length states
+pub whole-listing : (text : List ℕ) (m : Model) (reached : Bool) (states run : List ℕ)
     → {d : List ℕ} {p : ℕ} {e : List ℕ} {q : ℕ} {f : List ℕ} {r : ℕ} {g : List ℕ}
-    → Writes d 0 (verdict_line reached ++ states_line k) p e → Writes e p (state_lines text m (take k states)) q f → Writes f q (run_lines (take n run)) r g
-    → WritesListing d text m reached states k run n r g
+    → Writes d 0 (verdict_line reached ++ states_line (length states)) p e → Writes e p (state_lines text m states) q f → Writes f q (run_lines run) r g
+    → WritesListing d text m reached states run r g
 unfolding listing_of
-whole-listing text m reached states k run n h first second third places e =
-    rw (length-take-le k states h, ← run-lines (take n run) places e) (whole-line (after (after first second) third))
+whole-listing text m reached states run first second third places e =
+    rw (← run-lines run places e) (whole-line (after (after first second) third))

@@ -1,5 +1,5 @@
 -- THE LISTING OF A VERDICT in a lent slice.
-use Rattle.std.specs.Prelude.{◌≡◌, Bool, List, map, ℕ, ◌≤◌, length, take}
+use Rattle.std.specs.Prelude.{◌≡◌, Bool, List, map, ℕ, ◌≤◌, length}
 use Rattle.std.proofs.Math.Option.{some}
 use Rattle.limits.specs.Limits as limit
 use Rattle.semantics.specs.Runs.{Place}
@@ -21,15 +21,13 @@ run_lines ns = joined (map (λ n. line_for (place_of n)) ns)
 abbrev pub size : ℕ
 size = limit.handin
 
--- WHAT CAN BE LISTED: the first k of at most 128 states, and the first n of at most 9,344 places
-pub record Listable (text : List ℕ) (m : Model) (states : List ℕ) (k : ℕ) (run : List ℕ) (n : ℕ) : Type 0 where
+-- WHAT CAN BE LISTED: at most 128 states, and at most 9,344 places
+pub record Listable (text : List ℕ) (m : Model) (states run : List ℕ) : Type 0 where
   pub relations : GoodRelations m
   pub names : Named text m
-  pub count : k ≤ length states
-  pub few : k ≤ limit.listed
-  pub places : n ≤ length run
-  pub short : n ≤ limit.run
+  pub few : length states ≤ limit.listed
+  pub short : length run ≤ limit.run
 
--- THE LISTING IS WRITTEN to the front of d: that of the verdict, of the first k states, and of the run that the first n numbers stand for
-abbrev pub WritesListing : List ℕ → List ℕ → Model → Bool → List ℕ → ℕ → List ℕ → ℕ → ℕ → List ℕ → Type 0
-WritesListing d text m reached states k run n r e = (places : List Place) → map place_of (take n run) ≡ map some places → WritesLine d (listing_of text m reached (take k states) places) r e
+-- THE LISTING IS WRITTEN to the front of d: that of the verdict, of the states, and of the run that the numbers stand for
+abbrev pub WritesListing : List ℕ → List ℕ → Model → Bool → List ℕ → List ℕ → ℕ → List ℕ → Type 0
+WritesListing d text m reached states run r e = (places : List Place) → map place_of run ≡ map some places → WritesLine d (listing_of text m reached states places) r e

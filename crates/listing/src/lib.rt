@@ -1,7 +1,7 @@
 // The listing of a verdict, or the line of a refusal, written into a lent slice.
 #![tactic(auto)]
 
-ghost use Rattle.std.specs.Prelude.{◌++◌, ◌+◌, ◌*◌, ◌≤◌, length, take};
+ghost use Rattle.std.specs.Prelude.{◌++◌, ◌+◌, ◌*◌, ◌≤◌, length};
 ghost use Rattle.model.specs.Places.{place_of};
 ghost use Rattle.model.specs.WellFormed.{GoodRelations};
 ghost use Rattle.listing_bytes.specs.Writing.{Writes, WritesLine};
@@ -26,25 +26,23 @@ fn put_summary(out: &mut [u8], reached: bool, n: u32) -> usize
 }
 
 // Writes the line of an atomic state from place `at` on.
-fn put_state(out: &mut [u8], at: usize, text: &[u8], m: Model, set: u32) -> usize
-    requires { GoodRelations m × Named text.now m × (at + longest ≤ length out.old) }
-    ensures { Writes out.old at (atomic_line text.now m set) result out.new × (result ≤ at + longest) }
+fn put_state(out: &mut [u8], at: usize, text: &[u8], m: &Model, set: u32) -> usize
+    requires { GoodRelations m.now × Named text.now m.now × (at + longest ≤ length out.old) }
+    ensures { Writes out.old at (atomic_line text.now m.now set) result out.new × (result ≤ at + longest) }
 {
     let end = at + LONGEST;
     let n = atomic_line(&mut out[at..end], text, m, set);
     at + n
 }
 
-// Writes the lines of the first n states from place `at` on.
-fn put_states(out: &mut [u8], at: usize, text: &[u8], m: Model, states: &[u32], n: usize) -> usize
-    requires { GoodRelations m × Named text.now m × (n ≤ length states.now) × (at + n * longest ≤ length out.old) }
-    ensures { Writes out.old at (state_lines text.now m (take n states.now)) result out.new × (result ≤ at + n * longest) }
+// Writes the lines of the states from place `at` on.
+fn put_states(out: &mut [u8], at: usize, text: &[u8], m: &Model, states: &[u32]) -> usize
+    requires { GoodRelations m.now × Named text.now m.now × (at + length states.now * longest ≤ length out.old) }
+    ensures { Writes out.old at (state_lines text.now m.now states.now) result out.new × (result ≤ at + length states.now * longest) }
 {
     let mut next = at;
-    let mut i = 0;
-    while i < n {
-        next = put_state(out, next, text, m, states[i]);
-        i += 1;
+    for set in states {
+        next = put_state(out, next, text, m, *set);
     }
     next
 }
@@ -58,37 +56,33 @@ fn put_place(out: &mut [u8], at: usize, n: u32) -> usize
     at + k
 }
 
-// Writes the lines of the first n places of the run from place `at` on.
-fn put_run(out: &mut [u8], at: usize, run: &[u32], n: usize) -> usize
-    requires { (n ≤ length run.now) × (at + n * 24 + longest ≤ length out.old) }
-    ensures { Writes out.old at (run_lines (take n run.now)) result out.new }
+// Writes the lines of the places of the run from place `at` on.
+fn put_run(out: &mut [u8], at: usize, run: &[u32]) -> usize
+    requires { at + length run.now * 24 + longest ≤ length out.old }
+    ensures { Writes out.old at (run_lines run.now) result out.new }
 {
     let mut next = at;
-    let mut i = 0;
-    while i < n {
-        next = put_place(out, next, run[i]);
-        i += 1;
+    for place in run {
+        next = put_place(out, next, *place);
     }
     next
 }
 
-// Writes the listing of a verdict, of the first k states and of the first n places of the run, and says how many bytes it has.
+// Writes the listing of a verdict, of the states and of the places of the run, and says how many bytes it has.
 pub fn put_listing(
     out: &mut [u8],
     text: &[u8],
-    m: Model,
+    m: &Model,
     reached: bool,
     states: &[u32],
-    k: usize,
     run: &[u32],
-    n: usize,
 ) -> usize
-    requires { Listable text.now m states.now k run.now n × (size ≤ length out.old) }
-    ensures { WritesListing out.old text.now m reached states.now k run.now n result out.new }
+    requires { Listable text.now m.now states.now run.now × (size ≤ length out.old) }
+    ensures { WritesListing out.old text.now m.now reached states.now run.now result out.new }
 {
-    let summary = put_summary(out, reached, k as u32);
-    let listed = put_states(out, summary, text, m, states, k);
-    put_run(out, listed, run, n)
+    let summary = put_summary(out, reached, states.len() as u32);
+    let listed = put_states(out, summary, text, m, states);
+    put_run(out, listed, run)
 }
 
 // Writes the line of a refusal, and says how many bytes it has.

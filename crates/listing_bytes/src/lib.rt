@@ -1,8 +1,7 @@
 // Bytes, numerals and the items of a form, written into a lent slice from a place on.
 #![tactic(auto)]
 
-ghost use Rattle.std.specs.Prelude.{[], ◌∷◌, ◌++◌, ◌+◌, ◌-◌, ◌≤◌, ◌<◌, length};
-ghost use Rattle.std.proofs.Math.Seq.{slice};
+ghost use Rattle.std.specs.Prelude.{[], ◌∷◌, ◌++◌, ◌+◌, ◌≤◌, ◌<◌, length};
 ghost use Rattle.listing_bytes.specs.Numerals.{decimal};
 ghost use Rattle.listing_bytes.specs.Forms.{items, bytes as quoted};
 ghost use Rattle.listing_bytes.specs.Writing.{Writes};
@@ -21,12 +20,9 @@ pub fn put_bytes(out: &mut [u8], at: usize, bytes: &[u8]) -> usize
     requires { at + length bytes.now ≤ length out.old }
     ensures { Writes out.old at bytes.now result out.new }
 {
-    let mut i = 0;
-    while i < bytes.len() {
-        out[at + i] = bytes[i];
-        i += 1;
-    }
-    at + i
+    let end = at + bytes.len();
+    out[at..end].copy_from_slice(bytes);
+    end
 }
 
 // Writes the numeral of n, its last digit last.
@@ -35,10 +31,10 @@ pub fn put_numeral(out: &mut [u8], at: usize, n: u32) -> usize
     ensures { Writes out.old at (decimal n) result out.new }
 {
     if n < 10 {
-        return put_byte(out, at, 48 + n as u8);
+        return put_byte(out, at, b'0' + n as u8);
     }
     let last = put_numeral(out, at, n / 10);
-    put_byte(out, last, 48 + (n % 10) as u8)
+    put_byte(out, last, b'0' + (n % 10) as u8)
 }
 
 // Writes a number as an item: a space and its numeral.
@@ -50,13 +46,13 @@ pub fn put_number(out: &mut [u8], at: usize, n: u32) -> usize
     put_numeral(out, next, n)
 }
 
-// Writes a name as an item: a space and the bytes of the text from a to e.
-pub fn put_name(out: &mut [u8], at: usize, text: &[u8], a: usize, e: usize) -> usize
-    requires { (a ≤ e) × (e ≤ length text.now) × (at + 1 + (e - a) ≤ length out.old) }
-    ensures { Writes out.old at (32 ∷ slice a e text.now) result out.new }
+// Writes a name as an item: a space and the name.
+pub fn put_name(out: &mut [u8], at: usize, name: &[u8]) -> usize
+    requires { at + 1 + length name.now ≤ length out.old }
+    ensures { Writes out.old at (32 ∷ name.now) result out.new }
 {
     let next = put_byte(out, at, b' ');
-    put_bytes(out, next, &text[a..e])
+    put_bytes(out, next, name)
 }
 
 // Writes the end of a line: the bracket and byte 10.

@@ -20,21 +20,17 @@ use model::{Model, Place, place_of};
 pub const LONGEST: usize = 9 + STATES * (1 + NAME);
 
 // Writes the names of the set's relations as items, in order of declaration.
-fn put_names(out: &mut [u8], at: usize, text: &[u8], m: Model, set: u32) -> usize
-    requires { GoodRelations m × Named text.now m × (at + limit.states * (1 + limit.name) ≤ length out.old) }
-    ensures { Writes out.old at (items (names_in text.now m set m.relations.count)) result out.new }
+fn put_names(out: &mut [u8], at: usize, text: &[u8], m: &Model, set: u32) -> usize
+    requires { GoodRelations m.now × Named text.now m.now × (at + limit.states * (1 + limit.name) ≤ length out.old) }
+    ensures { Writes out.old at (items (names_in text.now m.now set m.now.relations.count)) result out.new × (result ≤ at + limit.states * (1 + limit.name)) }
 {
-    let relations = m.relations;
-    let n = relations.count;
     let mut next = at;
-    let mut i = 0;
-    while i < n {
-        if has(set, relations.codes[i]) {
+    for i in 0..m.relations.count {
+        if has(set, m.relations.codes[i]) {
             let a = m.names[i] as usize;
             let e = a + m.lengths[i] as usize;
-            next = put_name(out, next, text, a, e);
+            next = put_name(out, next, &text[a..e]);
         }
-        i += 1;
     }
     next
 }
@@ -64,9 +60,10 @@ pub fn verdict_line(out: &mut [u8], reached: bool) -> usize
     ensures { WritesLine out.old (verdict_line reached) result out.new }
 {
     if reached {
-        return put_bytes(out, 0, b"(verdict reached)\n");
+        put_bytes(out, 0, b"(verdict reached)\n")
+    } else {
+        put_bytes(out, 0, b"(verdict unreached)\n")
     }
-    put_bytes(out, 0, b"(verdict unreached)\n")
 }
 
 // Writes the line of the number of reachable atomic states.
@@ -80,9 +77,9 @@ pub fn states_line(out: &mut [u8], n: u32) -> usize
 }
 
 // Writes the line of an atomic state.
-pub fn atomic_line(out: &mut [u8], text: &[u8], m: Model, set: u32) -> usize
-    requires { GoodRelations m × Named text.now m × (longest ≤ length out.old) }
-    ensures { WritesLine out.old (atomic_line text.now m set) result out.new }
+pub fn atomic_line(out: &mut [u8], text: &[u8], m: &Model, set: u32) -> usize
+    requires { GoodRelations m.now × Named text.now m.now × (longest ≤ length out.old) }
+    ensures { WritesLine out.old (atomic_line text.now m.now set) result out.new }
 {
     let word = put_bytes(out, 0, b"(atomic");
     let names = put_names(out, word, text, m, set);

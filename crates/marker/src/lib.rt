@@ -20,10 +20,7 @@ use text::Acceptance;
 fn short(bytes: usize, places: usize, standing: usize) -> bool
     ensures { result ≡ narrow bytes places standing }
 {
-    if calls::short(bytes, places) {
-        return true;
-    }
-    standing < RUN
+    calls::short(bytes, places) || standing < RUN
 }
 
 // The mark of a yes: its run is written into the table, and replayed.

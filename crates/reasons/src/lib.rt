@@ -10,7 +10,6 @@ ghost use Rattle.model.specs.declared.Action.TheVariants.{New, Next};
 ghost use Rattle.model.specs.declared.Model.{Model};
 ghost use Rattle.model.specs.Places.{objects, place_of};
 ghost use Rattle.replay_session.specs.Sessions.{Says, session_in};
-ghost use Rattle.replay_numbers.specs.Numbers.{clause_place, clause_from};
 ghost use Rattle.replay_view.specs.declared.View.{View};
 ghost use Rattle.replay_steps.specs.Tries.{Lent, Open, Stepping};
 ghost use Rattle.reasons.specs.Reasons.{Explains, Swapped, AnySwapped, Beyond};
@@ -51,14 +50,21 @@ fn why_new(
     if object as usize != n {
         return Reason::NotNext;
     }
-    let first = c.first;
-    let count = c.count;
     let fixed = Choice {
         first: FREE,
         second: FREE,
         third: FREE,
     };
-    let index = reasons_bodies::blame(literals, slots, work, n, first, count, c.variables, fixed);
+    let index = reasons_bodies::blame(
+        literals,
+        slots,
+        work,
+        n,
+        c.first,
+        c.count,
+        c.variables,
+        fixed,
+    );
     Reason::Literal { index }
 }
 
@@ -79,31 +85,22 @@ fn why_next(
     if o >= n {
         return Reason::NoObject;
     }
-    let first = c.first;
-    let count = c.count;
     let fixed = Choice {
         first: o,
         second: FREE,
         third: FREE,
     };
-    let index = reasons_bodies::blame(literals, slots, work, n, first, count, c.variables, fixed);
+    let index = reasons_bodies::blame(
+        literals,
+        slots,
+        work,
+        n,
+        c.first,
+        c.count,
+        c.variables,
+        fixed,
+    );
     Reason::Literal { index }
-}
-
-// The clause of n that stands on a line, or n where none does.
-fn clause_on(numbers: &[u32], n: usize, line: u32) -> usize
-    requires { (n ≤ limit.clauses) × (552 ≤ length numbers.now) }
-    ensures { (result ≤ n) × (result < n → (clause_from numbers.now (clause_place result)).line ≡ line) × ((k : ℕ) → k < result → (clause_from numbers.now (clause_place k)).line ≢ line) }
-{
-    let mut i = 0;
-    while i < n {
-        let k = 40 + i * 8;
-        if numbers[k + 3] == line {
-            return i;
-        }
-        i += 1;
-    }
-    i
 }
 
 // Why a step of a line and an object is not allowed.
@@ -119,64 +116,26 @@ fn why_step(
     requires { ((m : Model) × (v : View) × (states : List ℕ) × Open m v (session_in states at) numbers.now literals.now slots.now work.now (step line object)) × (object < limit.objects) }
     ensures { (m : Model) (v : View) (states : List ℕ) → Open m v (session_in states at) numbers.now literals.now slots.now work.now (step line object) → Explains m (session_in states at) (step line object) result }
 {
-    let n = numbers[0] as usize;
-    let k = clause_on(numbers, n, line);
-    if k >= n {
+    let Some(c) = replay_numbers::clause_on(numbers, line) else {
         return Reason::NoLine;
+    };
+    match c.action {
+        Action::Rule { .. } => Reason::NoLine,
+        Action::New { .. } => why_new(literals, slots, work, at, c, object),
+        Action::Next { .. } => why_next(literals, slots, work, at, c, object),
     }
-    let c = replay_numbers::clause_at(numbers, k);
-    let action = c.action;
-    match action {
-        Action::Rule {
-            relation: _,
-            arity: _,
-        } => Reason::NoLine,
-        Action::New { set: _ } => why_new(literals, slots, work, at, c, object),
-        Action::Next { plus: _, minus: _ } => why_next(literals, slots, work, at, c, object),
-    }
-}
-
-// How many objects a meeting names.
-fn count(first: u32, second: u32, third: u32) -> u32
-    ensures { result ≡ length (objects (first ∷ second ∷ third ∷ [])) }
-{
-    if first == NONE {
-        return 0;
-    }
-    if second == NONE {
-        return 1;
-    }
-    if third == NONE {
-        return 2;
-    }
-    3
 }
 
 // Is one of the n objects of a choice not there, in a database of so many?
 fn beyond(c: Choice, n: usize, objects: usize) -> bool
     ensures { Says (Beyond c n objects) result }
 {
-    let mut x = 0;
-    while x < n {
+    for x in 0..n {
         if facts_candidates::element(c, x) >= objects {
             return true;
         }
-        x += 1;
     }
     false
-}
-
-// Is the variable the carried one, and its object another?
-fn differs(name: u32, number: u32, object: usize, carried: usize) -> bool
-    ensures { Says ((name ≡ number) × (object ≢ carried)) result }
-{
-    if name != number {
-        return false;
-    }
-    if object == carried {
-        return false;
-    }
-    true
 }
 
 // Does a choice have another object than the carried one for the stage's variable of a number?
@@ -187,14 +146,10 @@ fn swapped(g: Stage, number: u32, carried: u32, c: Choice) -> bool
     if carried == NONE {
         return false;
     }
-    let o = carried as usize;
-    let n = g.variables as usize;
-    let mut x = 0;
-    while x < n {
-        if differs(g.numbers[x], number, facts_candidates::element(c, x), o) {
+    for x in 0..g.variables as usize {
+        if g.numbers[x] == number && facts_candidates::element(c, x) != carried as usize {
             return true;
         }
-        x += 1;
     }
     false
 }
@@ -204,12 +159,10 @@ fn any_swapped(numbers: &[u32], g: Stage, carried: [u32; CARRIED], c: Choice) ->
     requires { (g.variables ≤ limit.variables) × (552 ≤ length numbers.now) }
     ensures { Says (AnySwapped numbers.now g carried c) result }
 {
-    let mut v = 0;
-    while v < CARRIED {
+    for v in 0..CARRIED {
         if swapped(g, numbers[2 + v], carried[v], c) {
             return true;
         }
-        v += 1;
     }
     false
 }
@@ -234,7 +187,7 @@ fn why_meeting(
         return Reason::OtherStage;
     }
     let g = replay_numbers::stage_at(numbers, i);
-    if count(first, second, third) != g.variables {
+    if replay_meetings::count(first, second, third) != g.variables {
         return Reason::Variables;
     }
     let fixed = Choice {
@@ -250,9 +203,16 @@ fn why_meeting(
     if any_swapped(numbers, g, carried, fixed) {
         return Reason::Carried;
     }
-    let part = g.first;
-    let size = g.count;
-    let index = reasons_bodies::blame(literals, slots, work, n, part, size, g.variables, fixed);
+    let index = reasons_bodies::blame(
+        literals,
+        slots,
+        work,
+        n,
+        g.first,
+        g.count,
+        g.variables,
+        fixed,
+    );
     Reason::Literal { index }
 }
 
@@ -268,24 +228,21 @@ pub fn why_place(
     requires { (m : Model) × (v : View) × (states : List ℕ) × Lent m v (session_in states at) numbers.now literals.now slots.now work.now n }
     ensures { (m : Model) (v : View) (states : List ℕ) → Lent m v (session_in states at) numbers.now literals.now slots.now work.now n → (p : runs.Place) → place_of n ≡ some p → Explains m (session_in states at) p result }
 {
-    let stages = numbers[1] as usize;
-    if at.met >= stages {
+    if at.met >= numbers[1] as usize {
         return Reason::Done;
     }
-    let p = model::place_of(n);
-    if let Place::Step { line, object } = p {
-        return why_step(numbers, literals, slots, work, at, line, object);
+    match model::place_of(n) {
+        Place::Step { line, object } => {
+            why_step(numbers, literals, slots, work, at, line, object)
+        }
+        Place::Meeting {
+            stage,
+            first,
+            second,
+            third,
+        } => why_meeting(
+            numbers, literals, slots, work, at, stage, first, second, third,
+        ),
+        Place::Malformed => Reason::NoLine,
     }
-    let Place::Meeting {
-        stage,
-        first,
-        second,
-        third,
-    } = p
-    else {
-        return Reason::NoLine;
-    };
-    why_meeting(
-        numbers, literals, slots, work, at, stage, first, second, third,
-    )
 }

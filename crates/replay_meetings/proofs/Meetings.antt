@@ -7,8 +7,7 @@ use mathlib.Core.Option.{some}
 use Prim.Native.Nat.{ℕ, suc, ◌≤◌, ◌<◌}
 use native.Mathlib.Omega.{arith}
 use borrow.Author.Tests.{eq-eqb, ne_eqb}
-use lib.ListN.{length, take, drop, set, get_or}
-use lib.Seq.{set_out}
+use lib.ListN.{length, take, drop, get_or}
 use Rattle.limits.specs.Limits as limit
 use Rattle.semantics.specs.Models.{elem, Body, vars, supported, names, carriers, Supported}
 use Rattle.semantics.specs.Facts.{Derived, Meets}
@@ -25,14 +24,13 @@ use Rattle.model.proofs.Renaming.{elem-map, elem-of-map, vars-renamed, supported
 use Rattle.model.proofs.Accepted.{stages, stage-here, stage-vars, stage_body_lem, stage-different, stage-count}
 use Rattle.facts_candidates.specs.declared.Choice.{Choice}
 use Rattle.facts_candidates.specs.Choices.{chosen}
-use Rattle.replay_session.specs.declared.Position.{Position}
 use Rattle.replay_session.specs.declared.Session.{Session}
-use Rattle.replay_session.specs.Sessions.{session_in, carried_in, carried_by, met}
+use Rattle.replay_session.specs.Sessions.{carried_in, carried_by, met}
 use Rattle.replay_session.specs.Records.{session_of}
 use Rattle.replay_session.proofs.Carrying.{stands-cell, cell-stands, carried-left}
 use Rattle.replay_numbers.specs.Numbers.{stage_place, stage_from, Numbered}
 use Rattle.replay_view.specs.declared.View.{View}
-use Rattle.replay_steps.specs.Tries.{Plain, Ready, Open, Holding, Tried}
+use Rattle.replay_steps.specs.Tries.{Plain, Ready, Open, Holding, Taken, Barred}
 use Rattle.replay_meetings.specs.Carried.{Named, carried_on, AllNamed, AllAgree, AllCarried}
 use Rattle.replay_meetings.proofs.Objects.{pick-place, choice, objects-chosen}
 
@@ -114,11 +112,11 @@ module _ (m : Model) (s : Session) (v : View) (w : List ℕ) (ready : Ready m s 
   from-meeting i h = subst (Meeting i) (sym here) h
 
   -- another stage, or another number of objects
-  pub other-stage : (i : ℕ) → i ≢ suc s.met → Tried m s (meet i os) false s 0
-  other-stage i n = ((λ h. n h.1), refl)
+  pub other-stage : (i : ℕ) → i ≢ suc s.met → Barred m s (meet i os)
+  other-stage i n = λ h. n h.1
 
-  pub other-count : (i : ℕ) → length os ≢ g.variables → Tried m s (meet i os) false s 0
-  other-count i n = ((λ h. n ((to-meeting i h).2 ∙ stage-count m ready.accepted s.met left)), refl)
+  pub other-count : (i : ℕ) → length os ≢ g.variables → Barred m s (meet i os)
+  other-count i n = λ h. n ((to-meeting i h).2 ∙ stage-count m ready.accepted s.met left)
 
   module _ (i : ℕ) (next : i ≡ suc s.met) (count : length os ≡ g.variables) where
     -- the object of the stage's variable x
@@ -147,8 +145,8 @@ module _ (m : Model) (s : Session) (v : View) (w : List ℕ) (ready : Ready m s 
         agree : (x : ℕ) → elem x (vars local) ≡ true → σ x ≡ named stage os (number_in g x)
         agree x e = let l = (stage-vars m ready.accepted s.met left x).0 e in h.1 x l (object-named x l) ∙ sym (object x l)
 
-    pub not-held : ((σ : ℕ → ℕ) → Held σ → ⊥) → Tried m s (meet i os) false s 0
-    not-held n = ((λ h. n (λ x. named stage os (number_in g x)) (to_held (to-meeting i h).3)), refl)
+    pub not-held : ((σ : ℕ → ℕ) → Held σ → ⊥) → Barred m s (meet i os)
+    not-held n = λ h. n (λ x. named stage os (number_in g x)) (to_held (to-meeting i h).3)
 
     -- THE CARRIED VARIABLES
     module _ (held : List ℕ) (found : (v : ℕ) → v < limit.carried → Named g (carried_at m v) (choice a b c) (get_or held v 0)) where
@@ -175,8 +173,8 @@ module _ (m : Model) (s : Session) (v : View) (w : List ℕ) (ready : Ready m s 
           (found v h)
 
       -- a carried object that differs
-      pub disagrees : (AllAgree s.carried held → ⊥) → Tried m s (meet i os) false s 0
-      disagrees n = ((λ h. n (λ v l p q. ⊎_elim (λ f. sym f.1 ∙ (to-meeting i h).4 (carried_at m v) (carried_in s v) (carries v l p f.0) f.0) (λ f. absurd (q f.1)) (has v l))), refl)
+      pub disagrees : (AllAgree s.carried held → ⊥) → Barred m s (meet i os)
+      disagrees n = λ h. n (λ v l p q. ⊎_elim (λ f. sym f.1 ∙ (to-meeting i h).4 (carried_at m v) (carried_in s v) (carries v l p f.0) f.0) (λ f. absurd (q f.1)) (has v l))
         where
           carries : (v : ℕ) → v < limit.carried → carried_in s v ≢ 255 → elem (carried_at m v) (vars stage) ≡ true → (session_of m s).carried (carried_at m v) ≡ some (carried_in s v)
           carries v l p e = cell-stands m ready.accepted s ready.cells v s.met l (subst (λ (body : Body). elem (carried_at m v) (vars body) ≡ true) (sym here) e) p
@@ -197,7 +195,7 @@ module _ (m : Model) (s : Session) (v : View) (w : List ℕ) (ready : Ready m s 
           (λ f. rw (f.0, eq-eqb (get_or held v 0) 255 f.1))
           (has v l)))
 
-      pub meeting-kept : AllAgree s.carried held → (after : List ℕ) → AllCarried s.carried held after → (σ : ℕ → ℕ) → Held σ → Tried m s (meet i os) true (met s after) 0
+      pub meeting-kept : AllAgree s.carried held → (after : List ℕ) → AllCarried s.carried held after → (σ : ℕ → ℕ) → Held σ → Taken m s (meet i os) (met s after) 0
       meeting-kept agree after e σ h = (
         from-meeting i (
           (let q = stages m ready.accepted in omega arith),
@@ -209,8 +207,3 @@ module _ (m : Model) (s : Session) (v : View) (w : List ℕ) (ready : Ready m s 
         ap (met s) (carried-after after e),
         refl,
       )
-
--- a kept meeting gives no object a state
-pub kept-states : (m : Model) (states : List ℕ) (at after : Position) (p : runs.Place) → length states ≡ limit.objects → Tried m (session_in states at) p true (session_in states after) 0
-    → Tried m (session_in states at) p true (session_in (set states limit.none 0) after) 0
-kept-states m states at after p long h = subst (λ (l : List ℕ). Tried m (session_in states at) p true (session_in l after) 0) (sym (set_out states limit.none 0 (omega arith))) h

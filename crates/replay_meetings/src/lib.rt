@@ -1,7 +1,7 @@
 // The meeting of a stage put to the replay's state.
 #![tactic(auto)]
 
-ghost use Rattle.std.specs.Prelude.{◌≡◌, List, [], ◌∷◌, ℕ, ◌≤◌, ◌<◌, length};
+ghost use Rattle.std.specs.Prelude.{◌≡◌, IfSome, List, [], ◌∷◌, ℕ, ◌≤◌, ◌<◌, length};
 ghost use Rattle.limits.specs.Limits as limit;
 ghost use Rattle.semantics.specs.Runs.{meet};
 ghost use Rattle.model.specs.declared.Model.{Model};
@@ -21,19 +21,15 @@ use replay_session::Position;
 use replay_steps::Outcome;
 
 // How many objects a meeting names.
-fn count(first: u32, second: u32, third: u32) -> u32
+pub fn count(first: u32, second: u32, third: u32) -> u32
     ensures { result ≡ length (objects (first ∷ second ∷ third ∷ [])) }
 {
-    if first == NONE {
-        return 0;
+    match (first, second, third) {
+        (NONE, _, _) => 0,
+        (_, NONE, _) => 1,
+        (_, _, NONE) => 2,
+        _ => 3,
     }
-    if second == NONE {
-        return 1;
-    }
-    if third == NONE {
-        return 2;
-    }
-    3
 }
 
 // The object that a choice has for the stage's variable of a number, or NONE.
@@ -42,12 +38,10 @@ fn named(g: Stage, number: u32, c: Choice) -> usize
     ensures { Named g number c result }
 {
     let n = g.variables as usize;
-    let mut x = 0;
-    while x < n {
+    for x in 0..n {
         if g.numbers[x] == number {
             return facts_candidates::element(c, x);
         }
-        x += 1;
     }
     NONE as usize
 }
@@ -56,16 +50,7 @@ fn named(g: Stage, number: u32, c: Choice) -> usize
 fn agrees(carried: u32, object: u32) -> bool
     ensures { Says (Agrees carried object) result }
 {
-    if carried == NONE {
-        return true;
-    }
-    if object == NONE {
-        return true;
-    }
-    if object == carried {
-        return true;
-    }
-    false
+    carried == NONE || object == NONE || object == carried
 }
 
 // The carried object after the meeting.
@@ -89,23 +74,17 @@ fn all_named(numbers: &[u32], g: Stage, c: Choice) -> [u32; CARRIED]
 fn all_agree(carried: [u32; CARRIED], objects: [u32; CARRIED]) -> bool
     ensures { Says (AllAgree carried objects) result }
 {
-    let mut v = 0;
-    while v < CARRIED {
-        if !agrees(carried[v], objects[v]) {
-            return false;
-        }
-        v += 1;
-    }
-    true
+    carried
+        .iter()
+        .zip(&objects)
+        .all(|(held, object)| agrees(*held, *object))
 }
 
 // The carried objects after the meeting.
 fn carry_all(carried: [u32; CARRIED], objects: [u32; CARRIED]) -> [u32; CARRIED]
     ensures { AllCarried carried objects result }
 {
-    let first = carry(carried[0], objects[0]);
-    let second = carry(carried[1], objects[1]);
-    [first, second]
+    [carry(carried[0], objects[0]), carry(carried[1], objects[1])]
 }
 
 // The derived relations that a meeting of a stage rests on, as a row of bits.
@@ -113,10 +92,7 @@ pub fn needs(numbers: &[u32], literals: &[u32], stage: u32) -> [u8; BYTES]
     requires { (m : Model) × Plain m numbers.now literals.now }
     ensures { (m : Model) → Plain m numbers.now literals.now → (os : List ℕ) → Rests m result (meet stage os) }
 {
-    if stage == 0 {
-        return [0u8; BYTES];
-    }
-    if stage > numbers[1] {
+    if stage == 0 || stage > numbers[1] {
         return [0u8; BYTES];
     }
     let g = replay_numbers::stage_at(numbers, stage as usize - 1);
@@ -134,20 +110,18 @@ pub fn meet_place(
     first: u32,
     second: u32,
     third: u32,
-) -> Outcome
+) -> Option<Outcome>
     requires { ((m : Model) × (v : View) × (states : List ℕ) × Open m v (session_in states at) numbers.now literals.now slots.now work.now (meet stage (objects (first ∷ second ∷ third ∷ [])))) × (first < 256) × (second < 256) × (third < 256) }
     ensures tried_by { (m : Model) (v : View) (states : List ℕ) → Open m v (session_in states at) numbers.now literals.now slots.now work.now (meet stage (objects (first ∷ second ∷ third ∷ []))) → TriedBy m states at (meet stage (objects (first ∷ second ∷ third ∷ []))) result }
-    ensures gives { Gives at result }
+    ensures gives { IfSome result (Gives at) }
 {
     let i = at.met;
     if stage as usize != i + 1 {
-        return replay_steps::disallow(at);
+        return None;
     }
     let g = replay_numbers::stage_at(numbers, i);
-    let part = g.first;
-    let size = g.count;
     if count(first, second, third) != g.variables {
-        return replay_steps::disallow(at);
+        return None;
     }
     let fixed = Choice {
         first: first as usize,
@@ -157,24 +131,30 @@ pub fn meet_place(
     let carried = at.carried;
     let objects = all_named(numbers, g, fixed);
     if !all_agree(carried, objects) {
-        return replay_steps::disallow(at);
+        return None;
     }
     let n = at.objects;
-    let found = replay_steps::decide(literals, slots, work, n, part, size, g.variables, fixed);
+    let found = replay_steps::decide(
+        literals,
+        slots,
+        work,
+        n,
+        g.first,
+        g.count,
+        g.variables,
+        fixed,
+    );
     let Found::At(_) = found else {
-        return replay_steps::disallow(at);
+        return None;
     };
-    let after = Position {
-        objects: n,
-        met: i + 1,
-        carried: carry_all(carried, objects),
-        kept: at.kept + 1,
-    };
-    Outcome {
-        allowed: true,
-        object: NONE as usize,
-        state: 0,
-        at: after,
+    Some(Outcome {
+        given: None,
+        at: Position {
+            objects: n,
+            met: i + 1,
+            carried: carry_all(carried, objects),
+            kept: at.kept + 1,
+        },
         stood: 0,
-    }
+    })
 }

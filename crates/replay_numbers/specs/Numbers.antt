@@ -1,5 +1,5 @@
 -- A MODEL AS PLAIN NUMBERS: what each of them says.
-use Rattle.std.specs.Prelude.{◌≡◌, cond, List, [], ◌∷◌, ℕ, ◌+◌, ◌*◌, ◌≤◌, ◌<◌, eqb, length, get_or}
+use Rattle.std.specs.Prelude.{◌≡◌, ◌≢◌, Option, Some, None, cond, List, [], ◌∷◌, ℕ, ◌+◌, ◌*◌, ◌≤◌, ◌<◌, eqb, length, get_or}
 use Rattle.limits.specs.Limits as limit
 use Rattle.model.specs.declared.Action.{Action}
 use Rattle.model.specs.declared.Action.TheVariants.{Rule, New, Next}
@@ -38,6 +38,11 @@ stage_from ns k =
       variables = get_or ns (k + 2) 0;
       numbers = get_or ns (k + 3) 0 ∷ get_or ns (k + 4) 0 ∷ get_or ns (k + 5) 0 ∷ [];
     }
+
+-- the clause is the one of a number, and stands on the line; or none does
+abbrev pub OnLine : List ℕ → ℕ → Option Clause → Type 0
+OnLine ns ℓ (Some c) = (k : ℕ) × (k < get_or ns 0 0) × (c ≡ clause_from ns (clause_place k)) × (c.line ≡ ℓ)
+OnLine ns ℓ None = (k : ℕ) → k < get_or ns 0 0 → (clause_from ns (clause_place k)).line ≢ ℓ
 
 -- the numbers are those of the model
 pub record Numbered (m : Model) (ns : List ℕ) : Type 0 where

@@ -2,10 +2,10 @@
 // Number 0 is the count of clauses, 1 that of stages, 2 and 3 the carried variables; stage i has the 8 numbers from 8 + 8 i on, clause i those from 40 + 8 i on.
 #![tactic(auto)]
 
-ghost use Rattle.std.specs.Prelude.{◌≡◌, ◌+◌, ◌^◌, ◌≤◌, ◌<◌, length};
+ghost use Rattle.std.specs.Prelude.{◌≡◌, ◌+◌, ◌^◌, ◌≤◌, ◌<◌, length, get_or};
 ghost use Rattle.limits.specs.Limits as limit;
 ghost use Rattle.model.specs.WellFormed.{WellFormed};
-ghost use Rattle.replay_numbers.specs.Numbers.{action_from, clause_from, stage_from, clause_place, stage_place, clause_numbers, stage_numbers, Numbered, Written, StagesIn, ClausesIn};
+ghost use Rattle.replay_numbers.specs.Numbers.{action_from, clause_from, stage_from, clause_place, stage_place, clause_numbers, stage_numbers, OnLine, Numbered, Written, StagesIn, ClausesIn};
 
 use model::{Action, Clause, Model, Stage};
 
@@ -15,29 +15,20 @@ pub const NUMBERS: usize = 552;
 // How many numbers a clause, a stage and the counts have each.
 const PART: usize = 8;
 
-// A number as a place or a count.
-fn wide(x: u32) -> usize
-    ensures { result ≡ x }
-{
-    x as usize
-}
-
 // The action with these three numbers.
 fn action_of(kind: u32, left: u32, right: u32) -> Action
     ensures { result ≡ action_from kind left right }
 {
-    if kind == 0 {
-        return Action::Rule {
+    match kind {
+        0 => Action::Rule {
             relation: left,
             arity: right,
-        };
-    }
-    if kind == 1 {
-        return Action::New { set: left };
-    }
-    Action::Next {
-        plus: left,
-        minus: right,
+        },
+        1 => Action::New { set: left },
+        _ => Action::Next {
+            plus: left,
+            minus: right,
+        },
     }
 }
 
@@ -47,14 +38,26 @@ pub fn clause_at(numbers: &[u32], i: usize) -> Clause
     ensures { result ≡ clause_from numbers.now (clause_place i) }
 {
     let k = 40 + i * 8;
-    let action = action_of(numbers[k], numbers[k + 1], numbers[k + 2]);
     Clause {
-        action,
+        action: action_of(numbers[k], numbers[k + 1], numbers[k + 2]),
         line: numbers[k + 3],
-        first: wide(numbers[k + 4]),
-        count: wide(numbers[k + 5]),
+        first: numbers[k + 4] as usize,
+        count: numbers[k + 5] as usize,
         variables: numbers[k + 6],
     }
+}
+
+// The clause that stands on a line.
+pub fn clause_on(numbers: &[u32], line: u32) -> Option<Clause>
+    requires { (get_or numbers.now 0 0 ≤ limit.clauses) × (552 ≤ length numbers.now) }
+    ensures { OnLine numbers.now line result }
+{
+    for i in 0..numbers[0] as usize {
+        if numbers[40 + i * 8 + 3] == line {
+            return Some(clause_at(numbers, i));
+        }
+    }
+    None
 }
 
 // Stage i.
@@ -63,12 +66,11 @@ pub fn stage_at(numbers: &[u32], i: usize) -> Stage
     ensures { result ≡ stage_from numbers.now (stage_place i) }
 {
     let k = 8 + i * 8;
-    let asked = [numbers[k + 3], numbers[k + 4], numbers[k + 5]];
     Stage {
-        first: wide(numbers[k]),
-        count: wide(numbers[k + 1]),
+        first: numbers[k] as usize,
+        count: numbers[k + 1] as usize,
         variables: numbers[k + 2],
-        numbers: asked,
+        numbers: [numbers[k + 3], numbers[k + 4], numbers[k + 5]],
     }
 }
 
@@ -79,8 +81,7 @@ fn clause_numbers(c: Clause) -> [u32; PART]
 {
     let first = c.first as u32;
     let count = c.count as u32;
-    let action = c.action;
-    match action {
+    match c.action {
         Action::Rule { relation, arity } => {
             [0, relation, arity, c.line, first, count, c.variables, 0]
         }
@@ -114,11 +115,7 @@ fn write(out: &mut [u32], k: usize, part: [u32; PART])
     requires { k + 8 ≤ length out.old }
     ensures { Written out.old k part 8 out.new }
 {
-    let mut j = 0;
-    while j < PART {
-        out[k + j] = part[j];
-        j += 1;
-    }
+    out[k..k + PART].copy_from_slice(&part);
 }
 
 // Writes the numbers of the stages.
@@ -126,12 +123,8 @@ fn write_stages(m: Model, out: &mut [u32])
     requires { WellFormed m × (552 ≤ length out.old) }
     ensures { StagesIn m m.stagecount out.old out.new }
 {
-    let n = m.stagecount;
-    let mut i = 0;
-    while i < n {
-        let s = m.stages[i];
-        write(out, 8 + i * 8, stage_numbers(s));
-        i += 1;
+    for i in 0..m.stagecount {
+        write(out, 8 + i * 8, stage_numbers(m.stages[i]));
     }
 }
 
@@ -140,12 +133,8 @@ fn write_clauses(m: Model, out: &mut [u32])
     requires { WellFormed m × (552 ≤ length out.old) }
     ensures { ClausesIn m m.clausecount out.old out.new }
 {
-    let n = m.clausecount;
-    let mut i = 0;
-    while i < n {
-        let c = m.clauses[i];
-        write(out, 40 + i * 8, clause_numbers(c));
-        i += 1;
+    for i in 0..m.clausecount {
+        write(out, 40 + i * 8, clause_numbers(m.clauses[i]));
     }
 }
 

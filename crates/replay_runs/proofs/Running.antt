@@ -1,7 +1,7 @@
 -- A run, place by place.
 use mathlib.Core.Path.{◌≡◌, refl, sym, ap, ◌∙◌, subst, fun_ext}
 use mathlib.Core.Logic.{inl, inr, ◌≢◌}
-use mathlib.Core.Bool.{true, false}
+use mathlib.Core.Bool.{true}
 use mathlib.Core.List.{List, [], ◌∷◌}
 use mathlib.Core.Option.{some}
 use Prim.Native.Nat.{ℕ, zero, suc, ◌+◌, ◌≤◌, ◌<◌}
@@ -28,9 +28,8 @@ use Rattle.facts_derived.specs.Stocks.{ExactFor, Stocked, Enough, Supplied}
 use Rattle.facts_derived.proofs.Users.{there, supplied}
 use Rattle.replay_session.specs.declared.Answer.{Answer}
 use Rattle.replay_session.specs.declared.Answer.TheVariants.{Kept, Broken}
-use Rattle.replay_session.specs.declared.Position.{Position}
 use Rattle.replay_session.specs.declared.Session.{Session}
-use Rattle.replay_session.specs.Sessions.{session_in, stepped}
+use Rattle.replay_session.specs.Sessions.{stepped}
 use Rattle.replay_session.specs.Records.{session_of, Fits, taken}
 use Rattle.replay_session.specs.Replays.{Replays}
 use Rattle.replay_session.proofs.Carrying.{nobody-carried, cells_stay}
@@ -38,7 +37,7 @@ use Rattle.replay_session.proofs.Effects.{taken-after, taken-fits}
 use Rattle.replay_numbers.specs.Numbers.{Numbered}
 use Rattle.replay_view.specs.declared.View.{View}
 use Rattle.replay_view.specs.Views.{row_of, Views, Arranged, Known}
-use Rattle.replay_steps.specs.Tries.{Rests, Sees, Lent, TriedAt}
+use Rattle.replay_steps.specs.Tries.{Rests, Sees, Lent, TakenAt, BarredAt}
 use Rattle.replay_places.proofs.Looking.{fits-small}
 use Rattle.replay_runs.specs.Replies.{fresh}
 use Rattle.replay_runs.specs.Endings.{Leads, Stopped}
@@ -111,10 +110,10 @@ running-start m run = record { kept = refl; fits = fresh-fits m; long = fresh-lo
 
 module _ (m : Model) (w : WellFormed m) (run : List ℕ) (i : ℕ) (s : Session) (r : Running m run i s) where
   module _ (l : i < length run) (few : length run ≤ limit.run) where
-    pub running-broken : (t : Session) (k : ℕ) → TriedAt m s (get_or run i 0) false t k → Replays (program_of m) (question_of m) (start []) run 0 (Broken i)
-    running-broken t k h = r.rest (Broken i) (rw (drop-cons run i 0 l) (inr (h.0, refl)))
+    pub running-broken : BarredAt m s (get_or run i 0) → Replays (program_of m) (question_of m) (start []) run 0 (Broken i)
+    running-broken h = r.rest (Broken i) (rw (drop-cons run i 0 l) (inr (h, refl)))
 
-    pub running-next : (t : Session) (k : ℕ) → get_or run i 0 < 4294967296 → TriedAt m s (get_or run i 0) true t k → Running m run (i + 1) t
+    pub running-next : (t : Session) (k : ℕ) → get_or run i 0 < 4294967296 → TakenAt m s (get_or run i 0) t k → Running m run (i + 1) t
     running-next t k small (p, e, (allowed, q, stands)) =
         subst (Running m run (i + 1)) (sym q)
         (record {
@@ -148,10 +147,6 @@ module _ (m : Model) (w : WellFormed m) (run : List ℕ) (i : ℕ) (s : Session)
 -- where the run ends or breaks
 pub running-ends : (m : Model) (run : List ℕ) (i : ℕ) (s : Session) → Running m run i s → i ≤ length run → (t : Session) → t ≡ s → Stopped m run i t
 running-ends m run i s r l t e = subst (Stopped m run i) (sym e) (record { within = l; kept = r.kept; fits = r.fits; long = r.long; cells = r.cells; leads = r.leads })
-
--- a place that is not allowed leaves the states
-pub states-left : (m : Model) (states states' : List ℕ) (at after : Position) (n k : ℕ) → TriedAt m (session_in states at) n false (session_in states' after) k → (t : Session) → t ≡ session_in states' at → t ≡ session_in states at
-states-left m states states' at after n k h t e = e ∙ ap (λ (s : Session). session_in s.states at) h.1
 
 -- WHAT THE RUN SEES of its database: a view, a work area that shows its row, and a stock of facts over it
 pub record Seen (m : Model) (plans : List ℕ) (db : Database) (v : View) (s : Stock) (units w d : List ℕ) : Type 0 where

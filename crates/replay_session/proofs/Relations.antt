@@ -1,22 +1,25 @@
 -- A set whose relations are among the first n is a number below 2 ^ n, and the other way round.
-use mathlib.Core.Path.{◌≡◌, sym, ◌∙◌}
-use mathlib.Core.Logic.{⊎_elim}
-use mathlib.Core.Bool.{true}
-use mathlib.Core.List.{List, [], ◌∷◌}
-use Prim.Native.Nat.{ℕ, suc, ◌+◌, ◌^◌, ◌/◌, ◌≤◌, ◌<◌}
+use mathlib.Core.Path.{◌≡◌, refl, sym, ◌∙◌}
+use mathlib.Core.Logic.{◌≢◌, ⊎_elim}
+use mathlib.Core.Bool.{Bool, true, false}
+use mathlib.Core.List.{List}
+use Prim.Native.Nat.{ℕ, ◌+◌, ◌^◌, ◌/◌, ◌≤◌, ◌<◌}
 use native.Mathlib.Omega.{arith}
 use native.Mathlib.Decide.{dec_le}
 use native.Mathlib.Nat.{div-div-eq-div-mul, div-lt_iff_lt-mul}
-use native.Mathlib.Numerals.{add-one}
 use lib.Pow.{pow_pos, pow-add}
-use borrow.Author.Tests.{eq-eqb, ne_eqb}
-use lib.ListN.{length, take, get_or}
-use lib.Seq.{take-suc}
+use lib.Dec.{eqb}
+use lib.ListN.{length, get_or}
+use Rattle.std.proofs.Common.{count_by, nat_lt, rules}
+use Rattle.std.proofs.lemmas.List.Recursion.{is_count_by}
+use Rattle.std.proofs.lemmas.Bool.Decides.{nat_tests}
+use Rattle.std.specs.Bool.{MatchBool}
+use Rattle.std.specs.List.{HoldsAt, AllWithin}
 use Rattle.semantics.specs.Labels.{has}
 use Rattle.semantics.proofs.Tools.{either, clash, has-empty}
 use Rattle.semantics.proofs.Sets.{has-beyond, has-ext}
-use Rattle.model.specs.WellFormed.{in_class}
-use Rattle.model.proofs.Declarations.{in_class-snoc}
+use Rattle.model.specs.WellFormed.{class_of, in_class}
+use Rattle.replay_session.specs.Sessions.{Says}
 
 abbrev pub Among : ℕ → ℕ → Type 0
 Among n s = (a : ℕ) → has s a ≡ true → a < n
@@ -41,13 +44,15 @@ among-shifted n s h = has-ext (s / 2 ^ n) 0 (λ a. has-shift s n a ∙ ⊎_elim 
 pub among-small : (n s : ℕ) → Among n s → s < 2 ^ n
 among-small n s h = shifted-below n s (among-shifted n s h)
 
--- the state relations among the codes, one code more
-module _ (rs : List ℕ) (i : ℕ) (h : i < length rs) where
-  more : in_class 0 (take (suc i) rs) ≡ in_class 0 (take i rs) + in_class 0 (get_or rs i 0 ∷ [])
-  more = rw (take-suc rs i 0 h) (in_class-snoc 0 (get_or rs i 0) (take i rs))
+-- none of the states has a relation but the first n, or one of them has
+pub shifted-says : (n : ℕ) (ss : List ℕ) (r : Bool) → MatchBool r (AllWithin (λ s. s / 2 ^ n ≡ 0) ss 0 (length ss)) ((k : ℕ) × (k < length ss) × HoldsAt (λ s. s / 2 ^ n ≢ 0) ss k)
+    → Says ((o a : ℕ) → o < length ss → has (get_or ss o 0) a ≡ true → a < n) r
+shifted-says n ss true h = λ o a l e. among_below n (get_or ss o 0) (shifted-below n (get_or ss o 0) (h o 0 (omega arith) l)) a e
+shifted-says n ss false h = λ all. h.2 0 (among-shifted n (get_or ss h.0 0) (λ a e. all h.0 a h.1 e))
 
-  pub state-more : get_or rs i 0 < 32 → in_class 0 (take (i + 1) rs) ≡ in_class 0 (take i rs) + 1
-  state-more l = rw add-one (more ∙ rw (eq-eqb (get_or rs i 0 / 32) 0 (omega arith)))
+class-below : (r : ℕ) → eqb (class_of r) 0 ≡ nat_lt r 32
+class-below r = grind (arith, nat_tests)
 
-  pub other-more : 32 ≤ get_or rs i 0 → in_class 0 (take (i + 1) rs) ≡ in_class 0 (take i rs)
-  other-more l = rw add-one (more ∙ rw (ne_eqb (get_or rs i 0 / 32) 0 (omega arith)) (omega arith))
+-- the state relations are the codes below 32
+pub in_class-count : (rs : List ℕ) → in_class 0 rs ≡ count_by (λ r. nat_lt r 32) rs
+in_class-count = is_count_by (in_class 0) (λ r. nat_lt r 32) refl (λ r rs. rw (class-below r) (search rules))

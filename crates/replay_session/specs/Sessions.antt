@@ -40,6 +40,10 @@ carried_in s v = get_or s.carried v 0
 abbrev pub session_in : List ℕ → Position → Session
 session_in states p = record { states = states; objects = p.objects; met = p.met; carried = p.carried; kept = p.kept }
 
+-- the state but for the states of the objects
+abbrev pub position_of : Session → Position
+position_of s = record { objects = s.objects; met = s.met; carried = s.carried; kept = s.kept }
+
 -- THE STATE FITS THE TEXT, which declares so many state relations and asks Q: not "over 255 objects, an undeclared relation, too many stages, a carried object not created, or over" 9,344 "places"
 pub record Fits (declared : ℕ) (Q : Question) (s : Session) : Type 0 where
   pub objects : s.objects ≤ limit.objects

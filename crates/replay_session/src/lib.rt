@@ -1,11 +1,11 @@
 // The replay's state by value, and whether it fits a text.
 #![tactic(auto)]
 
-ghost use Rattle.std.specs.Prelude.{◌≡◌, ◌⊎◌, true, ℕ, ◌≤◌, ◌<◌, take, set, get_or};
+ghost use Rattle.std.specs.Prelude.{◌≡◌, ◌⊎◌, true, ℕ, ◌≤◌, ◌<◌, length, take, get_or};
 ghost use Rattle.limits.specs.Limits as limit;
 ghost use Rattle.semantics.specs.Labels.{has};
 ghost use Rattle.model.specs.WellFormed.{in_class, WellFormed};
-ghost use Rattle.replay_session.specs.Sessions.{Says, state_in, session_in};
+ghost use Rattle.replay_session.specs.Sessions.{Says, position_of, session_in};
 ghost use Rattle.replay_session.specs.Records.{Fits};
 
 use limits::{CARRIED, NONE, OBJECTS, RUN};
@@ -46,21 +46,33 @@ pub struct Position {
     pub kept: usize,
 }
 
-// The state after a place that gave an object, or none for NONE, a state.
-pub fn proceed(s: Session, at: Position, object: usize, state: u32) -> Session
-    ensures { result ≡ session_in (set s.states object state) at }
-{
-    let mut t = s;
-    t.objects = at.objects;
-    t.met = at.met;
-    let carried = at.carried;
-    t.carried = carried;
-    t.kept = at.kept;
-    if object < OBJECTS {
-        t.states[object] = state;
-        return t;
+impl Session {
+    // The state but for the states of the objects.
+    pub fn position(&self) -> Position
+        ensures { result ≡ position_of self.now }
+    {
+        Position {
+            objects: self.objects,
+            met: self.met,
+            carried: self.carried,
+            kept: self.kept,
+        }
     }
-    t
+}
+
+impl Position {
+    // The state with these states of the objects.
+    pub fn session(&self, states: [u32; OBJECTS]) -> Session
+        ensures { result ≡ session_in states self.now }
+    {
+        Session {
+            states,
+            objects: self.objects,
+            met: self.met,
+            carried: self.carried,
+            kept: self.kept,
+        }
+    }
 }
 
 // How many state relations are declared.
@@ -68,49 +80,25 @@ fn declared_states(relations: Relations) -> u32
     requires { relations.count ≤ limit.declared }
     ensures { result ≡ in_class 0 (take relations.count relations.codes) }
 {
-    let n = relations.count;
-    let mut found = 0;
-    let mut i = 0;
-    while i < n {
-        if relations.codes[i] < 32 {
-            found += 1;
-        }
-        i += 1;
-    }
-    found
+    relations.codes[..relations.count]
+        .iter()
+        .filter(|code| **code < 32)
+        .count() as u32
 }
 
-// Whether the objects have no relations but the first n.
-fn relations_declared(s: Session, n: u32) -> bool
-    requires { (s.objects ≤ limit.objects) × (n < 32) }
-    ensures { Says ((o a : ℕ) → o < s.objects → has (state_in s o) a ≡ true → a < n) result }
+// Whether the states have no relations but the first n.
+fn relations_declared(states: &[u32], n: u32) -> bool
+    requires { n < 32 }
+    ensures { Says ((o a : ℕ) → o < length states.now → has (get_or states.now o 0) a ≡ true → a < n) result }
 {
-    let count = s.objects;
-    let mut i = 0;
-    while i < count {
-        if s.states[i] >> n != 0 {
-            return false;
-        }
-        i += 1;
-    }
-    true
+    states.iter().all(|state| *state >> n == 0)
 }
 
 // Whether each carried object is one of the n that were created, or none.
 fn carried_created(carried: [u32; CARRIED], n: usize) -> bool
     ensures { Says ((v : ℕ) → v < limit.carried → (get_or carried v 0 ≡ limit.none) ⊎ (get_or carried v 0 < n)) result }
 {
-    let mut v = 0;
-    while v < CARRIED {
-        let o = carried[v];
-        if o != NONE {
-            if o as usize >= n {
-                return false;
-            }
-        }
-        v += 1;
-    }
-    true
+    carried.iter().all(|o| *o == NONE || (*o as usize) < n)
 }
 
 // Whether the state fits the text.
@@ -118,19 +106,9 @@ pub fn fits(m: Model, s: Session) -> bool
     requires { WellFormed m }
     ensures { Says (Fits m s) result }
 {
-    if s.objects > OBJECTS {
+    if s.objects > OBJECTS || s.met > m.stagecount || s.kept > RUN {
         return false;
     }
-    if s.met > m.stagecount {
-        return false;
-    }
-    if s.kept > RUN {
-        return false;
-    }
-    let carried = s.carried;
-    if !carried_created(carried, s.objects) {
-        return false;
-    }
-    let relations = m.relations;
-    relations_declared(s, declared_states(relations))
+    carried_created(s.carried, s.objects)
+        && relations_declared(&s.states[..s.objects], declared_states(m.relations))
 }

@@ -1,7 +1,7 @@
 -- Steps of the lines of an accepted model.
 use mathlib.Core.Path.{◌≡◌, refl, sym, ap, ◌∙◌, subst}
 use mathlib.Core.Logic.{◌≢◌, ⊎_elim, ◌↔◌}
-use mathlib.Core.Bool.{Bool, true, false}
+use mathlib.Core.Bool.{true}
 use mathlib.Core.List.{List, [], ◌++◌, map}
 use Prim.Native.Nat.{ℕ, ◌≤◌, ◌<◌}
 use native.Mathlib.Omega.{arith}
@@ -29,15 +29,13 @@ use Rattle.facts_candidates.specs.declared.Choice.{Choice}
 use Rattle.facts_candidates.specs.Choices.{chosen}
 use Rattle.facts_find.specs.Bodies.{Fixed}
 use Rattle.facts_rests.specs.Rests.{Within}
-use Rattle.replay_session.specs.declared.Position.{Position}
 use Rattle.replay_session.specs.declared.Session.{Session}
-use Rattle.replay_session.specs.Sessions.{session_in, created, relabeled, stepped}
+use Rattle.replay_session.specs.Sessions.{created, relabeled, stepped}
 use Rattle.replay_session.specs.Notes.{standing}
 use Rattle.replay_session.proofs.Effects.{size}
 use Rattle.replay_numbers.specs.Numbers.{clause_place, clause_from}
 use Rattle.replay_view.specs.declared.View.{View}
-use Rattle.replay_steps.specs.declared.Outcome.{Outcome}
-use Rattle.replay_steps.specs.Tries.{line_body, Plain, Ready, Open, Stepping, Holding, Tried, afterwards, TriedBy}
+use Rattle.replay_steps.specs.Tries.{line_body, Plain, Ready, Open, Stepping, Holding, Taken, Barred}
 
 -- WHAT STANDS on the line of clause k
 body-supported : (a : Action) (b : Body) → SafeLine (line_of a b) → Supported (vars b) b
@@ -167,7 +165,7 @@ module _ (m : Model) (s : Session) (v : View) (w : List ℕ) (ready : Ready m s 
   module _ (L : Line) (on : line (program_of m) ℓ ≡ L) where
     -- the step is that of what stands on the line, and those stood by whom the first choice has
     stands : (n : ℕ) (Good : (ℕ → ℕ) → Type 0) (c : Choice) (k : ℕ) → line_names L ≡ up_from 0 n → ((σ : ℕ → ℕ) → Good σ ↔ EnabledBy (program_of m) db o L σ) → First (up_from 0 n) Good (chosen c)
-        → k ≡ standing (map (chosen c) (up_from 0 n)) → Tried m s (step ℓ o) true (stepped s o L) k
+        → k ≡ standing (map (chosen c) (up_from 0 n)) → Taken m s (step ℓ o) (stepped s o L) k
     stands n Good c k names same f e = (
       (let q = stages m ready.accepted in omega arith, subst (Enabled (program_of m) db o) (sym on) (stood-by-enabled (program_of m) ready.accepted.safe db o L (map (chosen c) (up_from 0 n)) by)),
       ap (stepped s o) (sym on),
@@ -181,42 +179,37 @@ module _ (m : Model) (s : Session) (v : View) (w : List ℕ) (ready : Ready m s 
           objects = ap (map (chosen c)) (sym names);
         }
 
-    fails : (Enabled (program_of m) db o L → ⊥) → Tried m s (step ℓ o) false s 0
-    fails n = ((λ a. n (subst (Enabled (program_of m) db o) on a.1)), refl)
+    fails : (Enabled (program_of m) db o L → ⊥) → Barred m s (step ℓ o)
+    fails n = λ a. n (subst (Enabled (program_of m) db o) on a.1)
 
   -- a line that is no `new` or `next` line
-  pub no-clause : line (program_of m) ℓ ≡ other → Tried m s (step ℓ o) false s 0
+  pub no-clause : line (program_of m) ℓ ≡ other → Barred m s (step ℓ o)
   no-clause on = fails other on (λ e. e)
 
-  pub no_step : (r : ℕ) (xs : List ℕ) (b : Body) → line (program_of m) ℓ ≡ rule r xs b → Tried m s (step ℓ o) false s 0
+  pub no_step : (r : ℕ) (xs : List ℕ) (b : Body) → line (program_of m) ℓ ≡ rule r xs b → Barred m s (step ℓ o)
   no_step r xs b on = fails (rule r xs b) on (λ e. e)
 
   -- a `new` line
   module _ (t : ℕ) (b : Body) (n : ℕ) (on : line (program_of m) ℓ ≡ new t b) where
     pub new-kept : line_names (new t b) ≡ up_from 0 n → o ≡ s.objects → (c : Choice) (k : ℕ) → First (up_from 0 n) (Holding m s b n (only 255)) (chosen c) → k ≡ standing (map (chosen c) (up_from 0 n))
-        → Tried m s (step ℓ o) true (created s t) k
+        → Taken m s (step ℓ o) (created s t) k
     new-kept names e c k = stands (new t b) on n (Holding m s b n (only 255)) c k names (λ σ. ((λ h. (e ∙ sym sized, h.0)), λ h. (h.1, fixed-free n σ)))
 
-    pub new-other : o ≢ s.objects → Tried m s (step ℓ o) false s 0
+    pub new-other : o ≢ s.objects → Barred m s (step ℓ o)
     new-other e = fails (new t b) on (λ q. e (q.0 ∙ sized))
 
-    pub new-fails : ((σ : ℕ → ℕ) → Holding m s b n (only 255) σ → ⊥) → Tried m s (step ℓ o) false s 0
+    pub new-fails : ((σ : ℕ → ℕ) → Holding m s b n (only 255) σ → ⊥) → Barred m s (step ℓ o)
     new-fails h = fails (new t b) on (λ q. h q.1.0 (q.1.1, fixed-free n q.1.0))
 
   -- a `next` line
   module _ (plus minus : ℕ) (b : Body) (n : ℕ) (on : line (program_of m) ℓ ≡ next 0 plus minus b) where
     pub next-kept : line_names (next 0 plus minus b) ≡ up_from 0 n → 0 < n → o < 255 → o < s.objects → (c : Choice) (k : ℕ) → First (up_from 0 n) (Holding m s b n (only o)) (chosen c)
-        → k ≡ standing (map (chosen c) (up_from 0 n)) → Tried m s (step ℓ o) true (relabeled s o plus minus) k
+        → k ≡ standing (map (chosen c) (up_from 0 n)) → Taken m s (step ℓ o) (relabeled s o plus minus) k
     next-kept names z h l c k = stands (next 0 plus minus b) on n (Holding m s b n (only o)) c k names
         (λ σ. ((λ g. (let q = sized in omega arith, g.1 0 z (λ e. omega arith), g.0)), λ g. (g.2, fixed-only n o σ g.1)))
 
-    pub next-other : s.objects ≤ o → Tried m s (step ℓ o) false s 0
+    pub next-other : s.objects ≤ o → Barred m s (step ℓ o)
     next-other l = fails (next 0 plus minus b) on (λ q. let i = q.0 in let z = sized in omega arith)
 
-    pub next-fails : ((σ : ℕ → ℕ) → Holding m s b n (only o) σ → ⊥) → Tried m s (step ℓ o) false s 0
+    pub next-fails : ((σ : ℕ → ℕ) → Holding m s b n (only o) σ → ⊥) → Barred m s (step ℓ o)
     next-fails h = fails (next 0 plus minus b) on (λ q. h q.1.0 (q.1.2, fixed-only n o q.1.0 q.1.1))
-
--- A PLACE THAT IS NOT ALLOWED leaves the state
-pub left-as-before : (m : Model) (states : List ℕ) (at : Position) (p : runs.Place) (r : Outcome) → (r.allowed ≡ false) × ((l : List ℕ) → length l ≡ limit.objects → afterwards l r ≡ session_in l at) → length states ≡ limit.objects
-    → Tried m (session_in states at) p false (session_in states at) 0 → TriedBy m states at p r
-left-as-before m states at p r (e, q) long h = subst (λ (b : Bool). Tried m (session_in states at) p b (afterwards states r) r.stood) (sym e) (h.0, q states long)

@@ -1,5 +1,5 @@
 -- ONE PLACE put to the replay's state.
-use Rattle.std.specs.Prelude.{◌≡◌, ◌⊎◌, ◌≢◌, Bool, true, false, List, [], ℕ, suc, ◌≤◌, ◌<◌, length, take, set}
+use Rattle.std.specs.Prelude.{◌≡◌, ◌≢◌, Option, Some, None, List, [], ℕ, suc, ◌≤◌, ◌<◌, length, take, set}
 use Rattle.std.proofs.Math.Option.{some}
 use Rattle.limits.specs.Limits as limit
 use Rattle.semantics.specs.Models.{Body, Line, rule, new, next, other, line}
@@ -23,6 +23,7 @@ use Rattle.replay_session.specs.Notes.{Stands}
 use Rattle.replay_numbers.specs.Numbers.{Numbered}
 use Rattle.replay_view.specs.declared.View.{View}
 use Rattle.replay_view.specs.Views.{row_of, Views, Known}
+use Rattle.replay_steps.specs.declared.NewState.{NewState}
 use Rattle.replay_steps.specs.declared.Outcome.{Outcome}
 
 -- the body on a line
@@ -90,14 +91,21 @@ pub record Stepping (m : Model) (v : View) (s : Session) (row slots w : List ℕ
 abbrev pub Holding : Model → Session → Body → ℕ → Choice → (ℕ → ℕ) → Type 0
 Holding m s b n fixed σ = Meets (program_of m) (take s.objects s.states) σ b × Fixed n fixed σ
 
--- the place is allowed and taken, and k is its number; or it is not allowed and the state is left as before
-abbrev pub Tried : Model → Session → runs.Place → Bool → Session → ℕ → Type 0
-Tried m s p true t k = Allowed (program_of m) (question_of m) (session_of m s) p × (t ≡ taken m s p) × Stands (program_of m) (session_of m s) p k
-Tried m s p false t k = (Allowed (program_of m) (question_of m) (session_of m s) p → ⊥) × (t ≡ s)
+-- the place is allowed and taken, and k is its number
+abbrev pub Taken : Model → Session → runs.Place → Session → ℕ → Type 0
+Taken m s p t k = Allowed (program_of m) (question_of m) (session_of m s) p × (t ≡ taken m s p) × Stands (program_of m) (session_of m s) p k
 
--- the state after a place: its object, if it has one, has another state
+-- the place is not allowed
+abbrev pub Barred : Model → Session → runs.Place → Type 0
+Barred m s p = Allowed (program_of m) (question_of m) (session_of m s) p → ⊥
+
+-- the states after a place: the object that it gives a state, if it gives one, has it
+abbrev pub restated : List ℕ → Option NewState → List ℕ
+restated states None = states
+restated states (Some g) = set states g.object g.state
+
 abbrev pub afterwards : List ℕ → Outcome → Session
-afterwards states r = session_in (set states r.object r.state) r.at
+afterwards states r = session_in (restated states r.given) r.at
 
 -- object o of n' is given a state, where there were n: the others were there before
 pub record Given (n o n' : ℕ) : Type 0 where
@@ -106,18 +114,26 @@ pub record Given (n o n' : ℕ) : Type 0 where
   pub few : n' ≤ limit.objects
   pub rest : (p : ℕ) → p < n' → p ≢ o → p < n
 
--- the outcome of a place gives no object a state, or one
-abbrev pub Gives : Position → Outcome → Type 0
-Gives at r = ((r.object ≡ limit.none) × (r.at.objects ≡ at.objects)) ⊎ Given at.objects r.object r.at.objects
+-- n objects become n' where a place gives no object a state, or one
+abbrev pub GivenTo : ℕ → ℕ → Option NewState → Type 0
+GivenTo n n' None = n' ≡ n
+GivenTo n n' (Some g) = Given n g.object n'
 
--- the outcome says so of a place
-abbrev pub TriedBy : Model → List ℕ → Position → runs.Place → Outcome → Type 0
-TriedBy m states at p r = Tried m (session_in states at) p r.allowed (afterwards states r) r.stood
+abbrev pub Gives : Position → Outcome → Type 0
+Gives at r = GivenTo at.objects r.at.objects r.given
+
+-- the outcome is that of a place, which is not allowed if there is none
+abbrev pub TriedBy : Model → List ℕ → Position → runs.Place → Option Outcome → Type 0
+TriedBy m states at p (Some r) = Taken m (session_in states at) p (afterwards states r) r.stood
+TriedBy m states at p None = Barred m (session_in states at) p
 
 -- the same of a place's number
-abbrev pub TriedAt : Model → Session → ℕ → Bool → Session → ℕ → Type 0
-TriedAt m s n true t k = (p : runs.Place) × (place_of n ≡ some p) × Tried m s p true t k
-TriedAt m s n false t k = (Allows (program_of m) (question_of m) (session_of m s) n → ⊥) × (t ≡ s)
+abbrev pub TakenAt : Model → Session → ℕ → Session → ℕ → Type 0
+TakenAt m s n t k = (p : runs.Place) × (place_of n ≡ some p) × Taken m s p t k
 
-abbrev pub TriedAtBy : Model → List ℕ → Position → ℕ → Outcome → Type 0
-TriedAtBy m states at n r = TriedAt m (session_in states at) n r.allowed (afterwards states r) r.stood
+abbrev pub BarredAt : Model → Session → ℕ → Type 0
+BarredAt m s n = Allows (program_of m) (question_of m) (session_of m s) n → ⊥
+
+abbrev pub TriedAtBy : Model → List ℕ → Position → ℕ → Option Outcome → Type 0
+TriedAtBy m states at n (Some r) = TakenAt m (session_in states at) n (afterwards states r) r.stood
+TriedAtBy m states at n None = BarredAt m (session_in states at) n

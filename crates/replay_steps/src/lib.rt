@@ -1,7 +1,7 @@
 // A step put to the replay's state: whether it is allowed, and what it makes of the state. The model and the view are lent as plain numbers.
 #![tactic(auto)]
 
-ghost use Rattle.std.specs.Prelude.{◌≡◌, ◌≢◌, false, List, map, ℕ, ◌+◌, ◌≤◌, ◌<◌, length, drop};
+ghost use Rattle.std.specs.Prelude.{◌≡◌, IfSome, List, map, ℕ, ◌+◌, ◌≤◌, ◌<◌, length, drop};
 ghost use Rattle.limits.specs.Limits as limit;
 ghost use Rattle.semantics.specs.Models.{vars, Supported};
 ghost use Rattle.semantics.specs.Runs.{step};
@@ -16,55 +16,43 @@ ghost use Rattle.facts_rests.specs.Rests.{Within};
 ghost use Rattle.replay_session.specs.declared.Session.{Session};
 ghost use Rattle.replay_session.specs.Sessions.{session_in};
 ghost use Rattle.replay_session.specs.Notes.{standing};
-ghost use Rattle.replay_numbers.specs.Numbers.{clause_place, clause_from};
 ghost use Rattle.replay_view.specs.declared.View.{View};
 ghost use Rattle.replay_steps.specs.Tries.{Rests, Plain, Ready, Open, Stepping, Holding, afterwards, Gives, TriedBy};
 
 use facts_bits::BYTES;
 use facts_candidates::Choice;
 use facts_find::{FREE, Found};
-use limits::NONE;
+use limits::OBJECTS;
 use model::{Action, Clause};
-use replay_session::Position;
+use replay_session::{Position, Session};
 
-// Whether a place is allowed; the object that it gave a state, or NONE, and that state; the position after it; and the number of those who stood by, which only a step has.
+// The state that a place gives an object.
 #[derive(Clone, Copy)]
-pub struct Outcome {
-    pub allowed: bool,
+pub struct NewState {
     pub object: usize,
     pub state: u32,
+}
+
+// What an allowed place makes of the state: the state that it gives an object, if it gives one; the position after it; and the number of those who stood by, which is 0 for a meeting.
+#[derive(Clone, Copy)]
+pub struct Outcome {
+    pub given: Option<NewState>,
     pub at: Position,
     pub stood: u32,
 }
 
-// The place is not allowed, and the state is left.
-pub fn disallow(at: Position) -> Outcome
-    ensures allowed_value { (result.allowed ≡ false) × ((states : List ℕ) → length states ≡ limit.objects → afterwards states result ≡ session_in states at) }
-    ensures gives { Gives at result }
-{
-    Outcome {
-        allowed: false,
-        object: NONE as usize,
-        state: 0,
-        at,
-        stood: 0,
-    }
-}
-
-// The clause of n that stands on a line, or n where none does.
-fn clause_on(numbers: &[u32], n: usize, line: u32) -> usize
-    requires { (n ≤ limit.clauses) × (552 ≤ length numbers.now) }
-    ensures { (result ≤ n) × (result < n → (clause_from numbers.now (clause_place result)).line ≡ line) × ((k : ℕ) → k < result → (clause_from numbers.now (clause_place k)).line ≢ line) }
-{
-    let mut i = 0;
-    while i < n {
-        let k = 40 + i * 8;
-        if numbers[k + 3] == line {
-            return i;
+impl Outcome {
+    // The state after the place, where these were the states of the objects before it.
+    pub fn session(&self, states: [u32; OBJECTS]) -> Session
+        requires { IfSome self.now.given (λ given. given.object < limit.objects) }
+        ensures { result ≡ afterwards states self.now }
+    {
+        let mut states = states;
+        if let Some(given) = self.given {
+            states[given.object] = given.state;
         }
-        i += 1;
+        self.at.session(states)
     }
-    i
 }
 
 // The derived relations that a step of a line rests on, as a row of bits.
@@ -72,12 +60,9 @@ pub fn needs(numbers: &[u32], literals: &[u32], line: u32) -> [u8; BYTES]
     requires { (m : Model) × Plain m numbers.now literals.now }
     ensures { (m : Model) → Plain m numbers.now literals.now → (object : ℕ) → Rests m result (step line object) }
 {
-    let n = numbers[0] as usize;
-    let k = clause_on(numbers, n, line);
-    if k >= n {
+    let Some(c) = replay_numbers::clause_on(numbers, line) else {
         return [0u8; BYTES];
-    }
-    let c = replay_numbers::clause_at(numbers, k);
+    };
     facts_rests::add([0u8; BYTES], literals, c.first, c.count)
 }
 
@@ -121,12 +106,10 @@ fn onward(at: Position, objects: usize) -> Position
     requires { at.kept < limit.run }
     ensures { result ≡ record { objects = objects; met = at.met; carried = at.carried; kept = at.kept + 1 } }
 {
-    let carried = at.carried;
     Position {
         objects,
-        met: at.met,
-        carried,
         kept: at.kept + 1,
+        ..at
     }
 }
 
@@ -139,35 +122,42 @@ fn create(
     c: Clause,
     set: u32,
     object: u32,
-) -> Outcome
+) -> Option<Outcome>
     requires { ((m : Model) × (v : View) × (states : List ℕ) × Stepping m v (session_in states at) literals.now slots.now work.now c) × (object < limit.objects) × (c.action ≡ New set) }
     ensures tried_by { (m : Model) (v : View) (states : List ℕ) → Stepping m v (session_in states at) literals.now slots.now work.now c → TriedBy m states at (step c.line object) result }
-    ensures gives { Gives at result }
+    ensures gives { IfSome result (Gives at) }
 {
     let n = at.objects;
     if object as usize != n {
-        return disallow(at);
+        return None;
     }
-    let first = c.first;
-    let count = c.count;
     let fixed = Choice {
         first: FREE,
         second: FREE,
         third: FREE,
     };
-    let found = decide(literals, slots, work, n, first, count, c.variables, fixed);
+    let found = decide(
+        literals,
+        slots,
+        work,
+        n,
+        c.first,
+        c.count,
+        c.variables,
+        fixed,
+    );
     let Found::At(helpers) = found else {
-        return disallow(at);
+        return None;
     };
     let stood = number(c.variables as usize, helpers);
-    let after = onward(at, n + 1);
-    Outcome {
-        allowed: true,
-        object: n,
-        state: set,
-        at: after,
+    Some(Outcome {
+        given: Some(NewState {
+            object: n,
+            state: set,
+        }),
+        at: onward(at, n + 1),
         stood,
-    }
+    })
 }
 
 // A step of a clause, a `next` line.
@@ -181,37 +171,41 @@ fn change(
     plus: u32,
     minus: u32,
     object: u32,
-) -> Outcome
+) -> Option<Outcome>
     requires { ((m : Model) × (v : View) × Stepping m v (session_in states.now at) literals.now slots.now work.now c) × (object < limit.objects) × (c.action ≡ Next plus minus) }
     ensures tried_by { (m : Model) (v : View) → Stepping m v (session_in states.now at) literals.now slots.now work.now c → TriedBy m states.now at (step c.line object) result }
-    ensures gives { Gives at result }
+    ensures gives { IfSome result (Gives at) }
 {
     let o = object as usize;
     let n = at.objects;
     if o >= n {
-        return disallow(at);
+        return None;
     }
-    let first = c.first;
-    let count = c.count;
     let fixed = Choice {
         first: o,
         second: FREE,
         third: FREE,
     };
-    let found = decide(literals, slots, work, n, first, count, c.variables, fixed);
+    let found = decide(
+        literals,
+        slots,
+        work,
+        n,
+        c.first,
+        c.count,
+        c.variables,
+        fixed,
+    );
     let Found::At(choice) = found else {
-        return disallow(at);
+        return None;
     };
     let stood = number(c.variables as usize, choice);
     let state = labels::relabel(states[o], plus, minus);
-    let after = onward(at, n);
-    Outcome {
-        allowed: true,
-        object: o,
-        state,
-        at: after,
+    Some(Outcome {
+        given: Some(NewState { object: o, state }),
+        at: onward(at, n),
         stood,
-    }
+    })
 }
 
 // A step of a line and an object.
@@ -224,23 +218,14 @@ pub fn step_place(
     at: Position,
     line: u32,
     object: u32,
-) -> Outcome
+) -> Option<Outcome>
     requires { ((m : Model) × (v : View) × Open m v (session_in states.now at) numbers.now literals.now slots.now work.now (step line object)) × (object < limit.objects) }
     ensures tried_by { (m : Model) (v : View) → Open m v (session_in states.now at) numbers.now literals.now slots.now work.now (step line object) → TriedBy m states.now at (step line object) result }
-    ensures gives { Gives at result }
+    ensures gives { IfSome result (Gives at) }
 {
-    let n = numbers[0] as usize;
-    let k = clause_on(numbers, n, line);
-    if k >= n {
-        return disallow(at);
-    }
-    let c = replay_numbers::clause_at(numbers, k);
-    let action = c.action;
-    match action {
-        Action::Rule {
-            relation: _,
-            arity: _,
-        } => disallow(at),
+    let c = replay_numbers::clause_on(numbers, line)?;
+    match c.action {
+        Action::Rule { .. } => None,
         Action::New { set } => create(literals, slots, work, at, c, set, object),
         Action::Next { plus, minus } => {
             change(literals, states, slots, work, at, c, plus, minus, object)

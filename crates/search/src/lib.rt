@@ -113,13 +113,11 @@ fn entered(rows: &[u8], k: usize) -> bool
     ensures { (result ≡ true) ↔ Entered rows.now k }
 {
     let at = LISTED * k;
-    let mut f: usize = 0;
-    while f < LISTED {
+    for f in 0..LISTED {
         let row = facts_bits::row(rows, at + f);
         if facts_bits::next(row, 0) < LISTED {
             return true;
         }
-        f += 1;
     }
     false
 }

@@ -85,10 +85,7 @@ pub fn unasked() -> Pointing
 fn asked_at(p: Pointing, k: usize) -> Pointing
     ensures { result ≡ besides p k }
 {
-    if k == 0 {
-        return p;
-    }
-    unasked()
+    if k == 0 { p } else { unasked() }
 }
 
 // The choice with slot e for the variable, where it stands in the stage.
@@ -240,13 +237,11 @@ fn column(ways: &[u8], f: usize) -> [u8; BYTES]
     requires { (length ways.now ≡ matrix_bytes) × (f < limit.listed) }
     ensures { Has result (λ u. in_row ways.now u f ≡ true) }
 {
-    let mut out = [0u8; BYTES];
-    let mut u: usize = 0;
-    while u < LISTED {
+    let mut out = [0; BYTES];
+    for u in 0..LISTED {
         if facts_bits::get(ways, u * WIDTH + f) {
             facts_bits::put(&mut out, u);
         }
-        u += 1;
     }
     out
 }
@@ -370,11 +365,9 @@ fn pass(
     ensures { Written (limit.listed * suc k) (limit.listed * suc (suc k)) rows.old rows.new × Over work.now n (λ S. (e f : ℕ) → e < limit.listed → f < limit.listed → (pair_at rows.new (suc k) e f ≡ true) ↔ (Led ways.now t (pair_at rows.old k) e f × Met S work.now literals.now t e f)) }
 {
     let able = hopeful(work, slots, n, literals, t, ways, rows, k);
-    let mut f: usize = 0;
-    while f < LISTED {
+    for f in 0..LISTED {
         let row = next_row(work, slots, n, literals, t, ways, rows, k, able, f);
         facts_bits::join(rows, LISTED * (k + 1) + f, row);
-        f += 1;
     }
 }
 
@@ -415,10 +408,7 @@ fn asked(stage: Stage, carried: [u32; 2], first: bool, second: bool, pointing: P
 fn after(w: Walker) -> bool
     ensures { result ≡ (w.chosen || w.stands) }
 {
-    if w.chosen {
-        return true;
-    }
-    w.stands
+    w.chosen || w.stands
 }
 
 // The levels of a question over the found states, where `ways` has who can come from which slot to which, and p is what stage 1 asks besides.
@@ -432,13 +422,11 @@ pub fn fill(work: &[u8], m: Model, s: States, ways: &[u8], p: Pointing) -> Level
     facts_bits::put(&mut rows, 0);
     let mut first = false;
     let mut second = false;
-    let mut k: usize = 0;
-    while k < m.stagecount {
+    for k in 0..m.stagecount {
         let t = asked(m.stages[k], m.carried, first, second, asked_at(p, k));
         pass(work, &slots, n, &m.literals, t, ways, &mut rows, k);
         first = after(t.first);
         second = after(t.second);
-        k += 1;
     }
     Levels { rows }
 }

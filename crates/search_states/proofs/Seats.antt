@@ -1,16 +1,20 @@
 -- The first place of a number in a row.
-use mathlib.Core.Path.{◌≡◌, refl, sym, ap, ◌∙◌}
+use mathlib.Core.Path.{◌≡◌, refl, sym, ap, ◌∙◌, subst}
 use mathlib.Core.Logic.{⊎_elim}
-use mathlib.Core.Bool.{true, false}
-use mathlib.Core.List.{List, [], ◌∷◌, ◌++◌}
-use Prim.Native.Nat.{ℕ, zero, suc, ◌+◌, ◌≤◌, ◌<◌}
+use mathlib.Core.Bool.{true, false, cond}
+use mathlib.Core.List.{List, [], ◌∷◌}
+use Prim.Native.Nat.{ℕ, zero, suc, ◌≤◌, ◌<◌}
 use native.Mathlib.Omega.{arith}
 use native.Mathlib.Nat.{not-suc-le-zero}
-use borrow.Author.Tests.{eq-eqb, ne_eqb, lt-ltb, le-ltb}
+use borrow.Author.Tests.{lt-ltb, le-ltb}
 use lib.Dec.{eqb, ltb}
-use lib.ListN.{length, take, get_or}
-use lib.Seq.{take-suc, take-take, get_or-take, length-take-le}
-use native.Mathlib.Numerals.{add-one}
+use lib.ListN.{length, get_or}
+use native.Mathlib.Numerals.{one-add}
+use Rattle.std.specs.List.{list_any, position}
+use Rattle.std.specs.Prelude.{Option, Some, None}
+use Rattle.std.specs.Option.{unwrap_or}
+use Rattle.std.proofs.lemmas.Bool.Decides.{nat_tests}
+use Rattle.std.proofs.lemmas.List.Recursion.{is_position_or_len}
 use Rattle.semantics.specs.Models.{elem}
 use Rattle.semantics.specs.Tables.{seat}
 use Rattle.semantics.proofs.Tools.{either, or-false, or_right, elem-here, seat-ok}
@@ -19,12 +23,6 @@ use Rattle.semantics.proofs.Tools.{either, or-false, or_right, elem-here, seat-o
 pub seat-absent : (x : ℕ) (xs : List ℕ) → elem x xs ≡ false → seat x xs ≡ length xs
 seat-absent x [] e = refl
 seat-absent x (y ∷ ys) e = let p = or-false (eqb x y) (elem x ys) e in rw p.0 (ap suc (seat-absent x ys p.1))
-
--- where it stands, with none before
-pub seat-first : (x : ℕ) (xs : List ℕ) (i : ℕ) → i < length xs → elem x (take i xs) ≡ false → get_or xs i 0 ≡ x → seat x xs ≡ i
-seat-first x [] i l e q = absurd (not-suc-le-zero l)
-seat-first x (y ∷ ys) zero l e q = rw (eq-eqb x y (sym q))
-seat-first x (y ∷ ys) (suc i) l e q = let p = or-false (eqb x y) (elem x (take i ys)) e in rw p.0 (ap suc (seat-first x ys i (omega arith) p.1 q))
 
 -- a number is in the row if it has a place there
 pub seat-below : (x : ℕ) (xs : List ℕ) → ltb (seat x xs) (length xs) ≡ elem x xs
@@ -41,18 +39,40 @@ seat-in x xs n e l = sym (seat-below x xs) ∙ lt-ltb (seat x xs) (length xs) (o
 pub seat-out : (x : ℕ) (xs : List ℕ) (n : ℕ) → length xs ≡ n → n ≤ seat x xs → elem x xs ≡ false
 seat-out x xs n e l = sym (seat-below x xs) ∙ le-ltb (seat x xs) (length xs) (omega arith)
 
-elem-snoc-false : (x : ℕ) (xs : List ℕ) (y : ℕ) → elem x xs ≡ false → (x ≡ y → ⊥) → elem x (xs ++ (y ∷ [])) ≡ false
-elem-snoc-false x [] y e n = rw (ne_eqb x y n)
-elem-snoc-false x (z ∷ xs) y e n = let p = or-false (eqb x z) (elem x xs) e in rw p.0 (elem-snoc-false x xs y p.1 n)
+-- a slice's `contains` answers whether the number is in it
+pub list_any-elem : (x : ℕ) (xs : List ℕ) → list_any (λ y. eqb y x) xs ≡ elem x xs
+list_any-elem x [] = refl
+list_any-elem x (y ∷ ys) = let e : eqb y x ≡ eqb x y = grind (arith, nat_tests) in rw (e, list_any-elem x ys)
 
--- one more place without it
-pub absent_more : (x : ℕ) (xs : List ℕ) (i : ℕ) → i < length xs → elem x (take i xs) ≡ false → (get_or xs i 0 ≡ x → ⊥) → elem x (take (i + 1) xs) ≡ false
-absent_more x xs i l e n = rw (add-one, take-suc xs i 0 l) (elem-snoc-false x (take i xs) (get_or xs i 0) e (λ q. n (sym q)))
+-- its `position` is the first place
+pub position-seat : (x : ℕ) (xs : List ℕ) → position (eqb x) xs ≡ cond (elem x xs) (Some (seat x xs)) None
+position-seat x xs = rw (← is_position_or_len (seat x) (eqb x) refl (λ y ys. ap (cond (eqb x y) 0) (sym (one-add (seat x ys)))) xs, seat-below x xs)
 
--- the first place among the first n
-pub seat-take : (x : ℕ) (xs : List ℕ) (n i : ℕ) → n ≤ length xs → i < n → elem x (take i xs) ≡ false → get_or xs i 0 ≡ x → seat x (take n xs) ≡ i
-seat-take x xs n i l h e q =
-    seat-first x (take n xs) i (rw (length-take-le n xs l) h) (rw (take-take i n xs (omega arith)) e) (rw (get_or-take n xs i 0 h) q)
+pub position-or_length : (x : ℕ) (xs : List ℕ) (n : ℕ) → length xs ≡ n → unwrap_or (position (eqb x) xs) n ≡ seat x xs
+position-or_length x xs n long = rw (position-seat x xs, ← long)
+    (⊎_elim (λ (e : elem x xs ≡ true). rw e) (λ (e : elem x xs ≡ false). rw (e, seat-absent x xs e)) (either (elem x xs)))
+
+-- where it is, and that it is nowhere
+pub position-there : (x : ℕ) (xs : List ℕ) (t : ℕ) → position (eqb x) xs ≡ Some t → (t < length xs) × (get_or xs t 0 ≡ x)
+position-there x xs t h = ⊎_elim
+    (λ (e : elem x xs ≡ true). let q : seat x xs ≡ t = some-same (seat x xs) t (rw e at (sym (position-seat x xs) ∙ h)) in subst (λ (u : ℕ). (u < length xs) × (get_or xs u 0 ≡ x)) q (seat-ok x xs e))
+    (λ (e : elem x xs ≡ false). absurd (none-some t (rw e at (sym (position-seat x xs) ∙ h))))
+    (either (elem x xs))
+  where
+    some-same : (a b : ℕ) → ◌≡◌ {A = Option ℕ} (Some a) (Some b) → a ≡ b
+    some-same a b e = cc
+
+    none-some : (b : ℕ) → ◌≡◌ {A = Option ℕ} None (Some b) → ⊥
+    none-some b e = cc
+
+pub position-nowhere : (x : ℕ) (xs : List ℕ) → position (eqb x) xs ≡ None → elem x xs ≡ false
+position-nowhere x xs h = ⊎_elim
+    (λ (e : elem x xs ≡ true). absurd (some-none (seat x xs) (rw e at (sym (position-seat x xs) ∙ h))))
+    (λ (e : elem x xs ≡ false). e)
+    (either (elem x xs))
+  where
+    some-none : (b : ℕ) → ◌≡◌ {A = Option ℕ} (Some b) None → ⊥
+    some-none b e = cc
 
 -- each place has an element of the row
 pub elem-get_or : (xs : List ℕ) (j : ℕ) → j < length xs → elem (get_or xs j 0) xs ≡ true

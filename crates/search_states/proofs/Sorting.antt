@@ -1,22 +1,29 @@
 -- The states of a row, taken by rising number.
 use mathlib.Core.Path.{◌≡◌, refl, sym, ap, ◌∙◌, subst}
 use mathlib.Core.Logic.{◌⊎◌, inl, inr, ⊎_elim, ◌≢◌}
-use mathlib.Core.Bool.{true, false, false≢true}
+use mir.Val.{bool_byte}
+use mathlib.Core.Bool.{Bool, true, false, false≢true}
 use mathlib.Core.List.{List, [], ◌∷◌, ◌++◌}
 use Prim.Native.Nat.{ℕ, suc, ◌+◌, ◌-◌, ◌≤◌, ◌<◌}
 use native.Mathlib.Omega.{arith}
 use native.Mathlib.Decide.{dec_le}
-use borrow.Author.Tests.{eqb-true, lt-ltb, le-ltb, ltb-true, ltb-false}
-use lib.Dec.{eqb, ltb}
+use borrow.Author.Tests.{eqb-true, le-leb, leb-true}
+use lib.Dec.{eqb, leb}
+use Rattle.std.specs.Prelude.{Option, Some, None}
+use Rattle.std.specs.Option.{IfSome, IfNone, MatchOption, unwrap_or}
+use Rattle.std.proofs.iter.runs.Made.{zero_default}
+use Rattle.std.specs.List.{filter, Contains, All}
 use native.Mathlib.Numerals.{add-one}
 use lib.ListN.{length, take, drop, get_or, set, length-set, replicate}
 use lib.Seq.{take-suc-set, drop-set-lt, drop-drop, length-take-le, get_or-set_same, get_or-set_other}
 use Rattle.limits.specs.Limits as limit
 use Rattle.semantics.specs.Models.{elem, Distinct}
-use Rattle.semantics.proofs.Tools.{either, same?, clash, or_right, or-true-cases, distinct-length, elem-here, elem-left, elem-right, elem-cases}
+use Rattle.semantics.specs.Tables.{seat}
+use Rattle.semantics.proofs.Tools.{either, same?, clash, or_right, or-true-cases, distinct-length, seat-ok, elem-here, elem-left, elem-right, elem-cases}
 use Rattle.search_states.specs.declared.States.{States}
 use Rattle.search_states.specs.States.{row, row as found, Known, Proper}
-use Rattle.search_states.specs.Rising.{Rising, nearest, Least, Lists}
+use Rattle.search_states.specs.Rising.{Rising, Least, Lists}
+use Rattle.search_states.proofs.Seats.{elem-get_or}
 use Rattle.search_states.proofs.Laws.{only_one, distinct_snoc, length-row}
 
 -- the first n numbers of the row are the found states below t, rising, and the others are zero
@@ -34,7 +41,7 @@ pub record ListsTo (s : States) (t : ℕ) (row : List ℕ) (n : ℕ) : Type 0 wh
 
 module _ (s : States) (p : Proper s) where
   -- the empty state comes first, if it is found
-  pub lists-empty : s.empty ≡ true → ListsTo s 1 (replicate limit.listed 0) 1
+  lists-empty : s.empty ≡ true → ListsTo s 1 (replicate limit.listed 0) 1
   lists-empty e =
       record {
         long = refl;
@@ -49,7 +56,7 @@ module _ (s : States) (p : Proper s) where
         rest = refl;
       }
 
-  pub lists-none : s.empty ≡ false → ListsTo s 1 (replicate limit.listed 0) 0
+  lists-none : s.empty ≡ false → ListsTo s 1 (replicate limit.listed 0) 0
   lists-none e =
       record {
         long = refl;
@@ -64,7 +71,11 @@ module _ (s : States) (p : Proper s) where
         rest = refl;
       }
 
-pub le-or-lt : (a b : ℕ) → (a ≤ b) ⊎ (b < a)
+  pub lists-first : (b : Bool) → s.empty ≡ b → ListsTo s 1 (replicate limit.listed 0) (bool_byte b)
+  lists-first true e = lists-empty e
+  lists-first false e = lists-none e
+
+le-or-lt : (a b : ℕ) → (a ≤ b) ⊎ (b < a)
 le-or-lt a b = go (dec_le a b)
   where
     go : Dec (a ≤ b) → (a ≤ b) ⊎ (b < a)
@@ -165,44 +176,43 @@ lists-all s p states count t l h =
     small x (inl q) = omega (arith, q.0, l)
     small x (inr q) = omega (arith, (p.atomic x q).1, l)
 
--- by what the tests of nearness say
-pub nearest-low : (best x t : ℕ) → x < t → best ≡ nearest best x t
-unfolding nearest
-nearest-low best x t l = rw (lt-ltb x t l)
+-- THE LEAST of the numbers that a filter lets through
+filter-elem : (xs : List ℕ) (t x : ℕ) → t ≤ x → elem x xs ≡ true → elem x (filter (leb t) xs) ≡ true
+filter-elem [] t x l e = e
+filter-elem (y ∷ ys) t x l e = ⊎_elim
+    (λ (q : eqb x y ≡ true). rw (le-leb t y (omega (arith, eqb-true x y q)), q))
+    (λ (q : elem x ys ≡ true). let h = filter-elem ys t x l q in ⊎_elim (λ (r : leb t y ≡ true). rw r (or_right (eqb x y) (elem x (filter (leb t) ys)) h)) (λ (r : leb t y ≡ false). rw r h) (either (leb t y)))
+    (or-true-cases (eqb x y) (elem x ys) e)
 
-pub nearest-taken : (best x t : ℕ) → t ≤ x → x < best → x ≡ nearest best x t
-unfolding nearest
-nearest-taken best x t l m = rw (le-ltb x t l, lt-ltb x best m)
+filter-from : (xs : List ℕ) (t x : ℕ) → elem x (filter (leb t) xs) ≡ true → (elem x xs ≡ true) × (t ≤ x)
+filter-from [] t x e = absurd (false≢true e)
+filter-from (y ∷ ys) t x e = ⊎_elim
+    (λ (r : leb t y ≡ true). ⊎_elim (λ q. (rw q, omega (arith, eqb-true x y q, leb-true t y r))) (λ q. let h = filter-from ys t x q in (or_right (eqb x y) (elem x ys) h.0, h.1)) (or-true-cases (eqb x y) (elem x (filter (leb t) ys)) (rw r at e)))
+    (λ (r : leb t y ≡ false). let h = filter-from ys t x (rw r at e) in (or_right (eqb x y) (elem x ys) h.0, h.1))
+    (either (leb t y))
 
-pub nearest-kept : (best x t : ℕ) → t ≤ x → best ≤ x → best ≡ nearest best x t
-unfolding nearest
-nearest-kept best x t l m = rw (le-ltb x t l, le-ltb x best m)
-
--- THE LEAST of the numbers seen so far
-pub least-none : (t : ℕ) → Least [] t limit.sets
-least-none t = record { most = omega arith; there = λ l. absurd (omega arith); least = λ x e. absurd (false≢true e) }
-
--- and with one number more
-pub least_more : (xs : List ℕ) (t r x : ℕ) → Least xs t r → Least (xs ++ (x ∷ [])) t (nearest r x t)
-unfolding nearest
-least_more xs t r x h = ⊎_elim
-    (λ (a : ltb x t ≡ true). rw a (kept (inl (ltb-true x t a))))
-    (λ (a : ltb x t ≡ false). rw a (⊎_elim
-    (λ (b : ltb x r ≡ true). rw b (record {
-      most = let k = h.most in let l = ltb-true x r b in omega arith;
-      there = λ m. (elem-right x xs (x ∷ []) (elem-here x []), ltb-false x t a);
-      least = λ y e m. ⊎_elim (λ q. omega (arith, h.least y q m, ltb-true x r b)) (λ q. omega (arith, only_one y x q)) (elem-cases y xs (x ∷ []) e);
-    }))
-    (λ (b : ltb x r ≡ false). rw b (kept (inr (ltb-false x r b)))) (either (ltb x r))))
-    (either (ltb x t))
-  where
-    kept : (x < t) ⊎ (r ≤ x) → Least (xs ++ (x ∷ [])) t r
-    kept k = record {
-      most = h.most;
-      there = λ l. let a = h.there l in (elem-left r xs (x ∷ []) a.0, a.1);
-      least = λ y e l. ⊎_elim (λ q. h.least y q l) (λ q. ⊎_elim (λ a. absurd (omega (arith, only_one y x q, a, l))) (λ a. omega (arith, only_one y x q, a)) k) (elem-cases y xs (x ∷ []) e);
+pub least-filter : (xs : List ℕ) (t : ℕ) (r : Option ℕ) → IfNone r (length (filter (leb t) xs) ≡ 0) → IfSome r (Contains (filter (leb t) xs)) → IfSome r (λ m. All (λ y. m ≤ y) (filter (leb t) xs)) → MatchOption r ((x : ℕ) → elem x xs ≡ true → x < t) (Least xs t)
+least-filter xs t None none there first = λ x e. ⊎_elim
+    (λ (l : t ≤ x). absurd (omega (arith, none, (seat-ok x (filter (leb t) xs) (filter-elem xs t x l e)).0)))
+    (λ (l : x < t). l)
+    (le-or-lt t x)
+least-filter xs t (Some r) none there first =
+    let f = filter-from xs t r (subst (λ (y : ℕ). elem y (filter (leb t) xs) ≡ true) (sym (zero_default (filter (leb t) xs) there.0 r there.1) ∙ there.2) (elem-get_or (filter (leb t) xs) there.0 there.1)) in
+    record {
+      there = f.0;
+      high = f.1;
+      least = λ x e l. let s = seat-ok x (filter (leb t) xs) (filter-elem xs t x l e) in rw s.1 at (first (seat x (filter (leb t) xs)) 0 s.0);
     }
 
--- THE NEXT STATE by rising number
-pub lists-next : (s : States) (t u : ℕ) (row : List ℕ) (n : ℕ) → ListsTo s t row n → Least (found s) t u → ListsTo s u row n
-lists-next s t u row n h l = lists-jump s t u row n h (⊎_elim (λ (q : limit.sets ≤ u). let a = h.last in omega arith) (λ (q : u < limit.sets). (l.there q).1) (le-or-lt limit.sets u)) l.most l.least
+-- THE NEXT STATE by rising number: those below it are listed, and where there is none all are
+pub record Ahead (s : States) (next : Option ℕ) (row : List ℕ) (n : ℕ) : Type 0 where
+  pub lists : ListsTo s (unwrap_or next limit.sets) row n
+  pub found_next : IfSome next (λ t. elem t (found s) ≡ true)
+
+pub ahead : (s : States) → Proper s → (t : ℕ) (row : List ℕ) (n : ℕ) → ListsTo s t row n → (next : Option ℕ) → MatchOption next ((x : ℕ) → elem x (found s) ≡ true → x < t) (Least (found s) t) → Ahead s next row n
+ahead s p t row n h None m = record { lists = lists-jump s t limit.sets row n h h.last (omega arith) (λ x e l. absurd (omega (arith, m x e))); found_next = tt }
+ahead s p t row n h (Some u) m = record { lists = lists-jump s t u row n h m.high (omega (arith, (p.atomic u m.there).1)) m.least; found_next = m.there }
+
+pub ahead-shrinks : (s : States) (t : ℕ) → t < limit.sets → (next : Option ℕ) → MatchOption next ((x : ℕ) → elem x (found s) ≡ true → x < t + 1) (Least (found s) (t + 1)) → limit.sets - unwrap_or next limit.sets < limit.sets - t
+ahead-shrinks s t l None m = omega arith
+ahead-shrinks s t l (Some u) m = omega (arith, m.high)

@@ -1,5 +1,5 @@
 -- THE STATES IN THE LISTING'S ORDER: "each one by rising number". The empty state, number 0, "comes first".
-use Rattle.std.specs.Prelude.{◌≡◌, ◌↔◌, true, cond, List, ℕ, ◌-◌, ◌≤◌, ◌<◌, ltb, length, take, drop, get_or, replicate}
+use Rattle.std.specs.Prelude.{◌≡◌, ◌↔◌, true, List, ℕ, ◌-◌, ◌≤◌, ◌<◌, length, take, drop, get_or, replicate}
 use Rattle.limits.specs.Limits as limit
 use Rattle.semantics.specs.Models.{elem}
 use Rattle.search_states.specs.declared.Listing.{Listing}
@@ -10,14 +10,10 @@ use Rattle.search_states.specs.States.{Known}
 abbrev pub Rising : List ℕ → ℕ → Type 0
 Rising row n = (i j : ℕ) → i < j → j < n → get_or row i 0 < get_or row j 0
 
--- the number that is nearer to t from above, where one is the best so far
-unfoldable pub nearest : ℕ → ℕ → ℕ → ℕ
-nearest best x t = cond (ltb x t) best (cond (ltb x best) x best)
-
--- r is the least number of the row that is at least t; `limit.sets` where there is none below it
+-- r is the least number of the row that is at least t
 pub record Least (row : List ℕ) (t r : ℕ) : Type 0 where
-  pub most : r ≤ limit.sets
-  pub there : r < limit.sets → (elem r row ≡ true) × (t ≤ r)
+  pub there : elem r row ≡ true
+  pub high : t ≤ r
   pub least : (x : ℕ) → elem x row ≡ true → t ≤ x → r ≤ x
 
 -- the listing has exactly the states found, by rising number, and their number; the numbers behind them are zero

@@ -1,14 +1,14 @@
 // The row of atomic states that a search has found, in order of discovery, each with how it came, and whether the empty one is among them.
 #![tactic(auto)]
 
-ghost use Rattle.std.specs.Prelude.{◌≡◌, ◌≤◌, ◌<◌, length, take};
+ghost use Rattle.std.specs.Prelude.{◌≡◌, ◌≤◌, ◌<◌, ℕ, true, length, take, MatchOption};
 ghost use Rattle.limits.specs.Limits as limit;
 ghost use Rattle.semantics.specs.Models.{elem};
 ghost use Rattle.semantics.specs.Tables.{seat};
 ghost use Rattle.search_states.specs.States.{nothing, appended, added, Proper};
-ghost use Rattle.search_states.specs.Rising.{nearest, Least, Lists};
+ghost use Rattle.search_states.specs.Rising.{Least, Lists};
 
-use limits::{ATOMIC, LISTED, SETS};
+use limits::{ATOMIC, LISTED};
 
 // State i came by line lines[i] from state origins[i]. The empty state has no place in the row: it moves nothing and stands for no variable. A state more than the row has room for is noted as one too many.
 #[derive(Clone, Copy)]
@@ -32,13 +32,10 @@ pub struct Listing {
 pub fn none() -> States
     ensures { result ≡ nothing }
 {
-    let states = [0u32; ATOMIC];
-    let lines = [0u32; ATOMIC];
-    let origins = [0u32; ATOMIC];
     States {
-        states,
-        lines,
-        origins,
+        states: [0; ATOMIC],
+        lines: [0; ATOMIC],
+        origins: [0; ATOMIC],
         count: 0,
         empty: false,
         over: false,
@@ -50,14 +47,7 @@ pub fn seek(row: &[u32], n: usize, x: u32) -> usize
     requires { n ≤ length row.now }
     ensures { result ≡ seat x (take n row.now) }
 {
-    let mut i = 0;
-    while i < n {
-        if row[i] == x {
-            return i;
-        }
-        i += 1;
-    }
-    n
+    row[..n].iter().position(|y| x == *y).unwrap_or(n)
 }
 
 // Is x among the first n numbers of the row?
@@ -65,7 +55,7 @@ pub fn among(row: &[u32], n: usize, x: u32) -> bool
     requires { n ≤ length row.now }
     ensures { result ≡ elem x (take n row.now) }
 {
-    seek(row, n, x) < n
+    row[..n].contains(&x)
 }
 
 // The row with the state behind.
@@ -100,31 +90,11 @@ pub fn add(mut s: States, state: u32, line: u32, origin: u32) -> States
     s
 }
 
-// The number that is nearer to t from above, where one is the best so far.
-fn nearer(best: u32, x: u32, t: u32) -> u32
-    ensures { result ≡ nearest best x t }
+// The least number of the row that is at least t.
+fn least(row: &[u32], t: u32) -> Option<u32>
+    ensures { MatchOption result ((x : ℕ) → elem x row.now ≡ true → x < t) (Least row.now t) }
 {
-    if x < t {
-        return best;
-    }
-    if x < best {
-        return x;
-    }
-    best
-}
-
-// The least of the first n numbers of the row that is at least t, or SETS where there is none below it.
-fn least(row: &[u32], n: usize, t: u32) -> u32
-    requires { n ≤ length row.now }
-    ensures { Least (take n row.now) t result }
-{
-    let mut best = SETS;
-    let mut i = 0;
-    while i < n {
-        best = nearer(best, row[i], t);
-        i += 1;
-    }
-    best
+    row.iter().copied().filter(|x| t <= *x).min()
 }
 
 // The found states by rising number.
@@ -133,16 +103,13 @@ pub fn rising(s: States) -> Listing
     ensures { Lists s result }
 {
     let mut states = [0u32; LISTED];
-    let mut count: usize = 0;
     // The empty state is number 0, which stands in the first place already.
-    if s.empty {
-        count = 1;
-    }
-    let mut t = least(&s.states, s.count, 1);
-    while t < SETS {
+    let mut count = usize::from(s.empty);
+    let mut next = least(&s.states[..s.count], 1);
+    while let Some(t) = next {
         states[count] = t;
         count += 1;
-        t = least(&s.states, s.count, t + 1);
+        next = least(&s.states[..s.count], t + 1);
     }
     Listing { states, count }
 }

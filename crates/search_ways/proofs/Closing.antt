@@ -1,6 +1,6 @@
 -- The closure of a matrix, slot by slot.
 use mathlib.Core.Path.{◌≡◌, ap, ◌∙◌, subst}
-use mathlib.Core.Logic.{◌⊎◌, inl, inr, ⊎_elim, ◌≢◌, ◌↔◌}
+use mathlib.Core.Logic.{◌⊎◌, inl, inr, ⊎_elim, ◌≢◌}
 use mathlib.Core.Bool.{true, ◌&&◌}
 use mathlib.Core.List.{List, [], ◌∷◌, ◌++◌}
 use Prim.Native.Nat.{ℕ, zero, suc, ◌≤◌, ◌<◌}
@@ -15,24 +15,17 @@ use Rattle.facts_bits.proofs.Laws.{full-bits}
 use Rattle.search_ways.specs.Moves.{Marks, With}
 use Rattle.search_ways.specs.Steps.{Between}
 use Rattle.search_ways.specs.Chains.{Inside, Links, Linked, Through}
-use Rattle.search_ways.proofs.Marking.{marks-so, Upto}
+use Rattle.search_ways.proofs.Marking.{marks-so}
 
 -- row k by value
 pub copied : (w : List ℕ) (k : ℕ) (r : List ℕ) → Kept (replicate width.bytes 255) w k r → (t : ℕ) → t < width.slots → bit_at r t ≡ in_row w k t
 copied w k r h t l = h.bits t (omega arith) ∙ ap (λ b. b && in_row w k t) (full-bits t (omega arith))
-
--- rows that are not reached yet are as they were
-pub unchanged : (w₀ w : List ℕ) (n e : ℕ) (D : ℕ → ℕ → Type 0) → Marks w (With w₀ (Upto e n D)) → (t : ℕ) → t < width.slots → in_row w e t ≡ true ↔ in_row w₀ e t ≡ true
-unchanged w₀ w n e D m t l = let p = m.bits e t l in ((λ q. ⊎_elim (λ x. x) (λ x. absurd (omega (arith, x.0))) (p.0 q)), λ q. p.1 (inl q))
 
 -- BY WAY OF THE SLOTS BELOW k
 module _ (w : List ℕ) where
   abbrev pub Via : ℕ → ℕ → ℕ → Type 0
   Via zero e t = in_row w e t ≡ true
   Via (suc k) e t = Via k e t ⊎ (Via k e k × Via k k t)
-
-  pub via-none : Marks w (Via 0)
-  via-none = record { bits = λ e t l. ((λ q. q), λ q. q) }
 
   via-first : (k e t : ℕ) → in_row w e t ≡ true → Via k e t
   via-first zero e t h = h

@@ -1,5 +1,5 @@
 -- Marking pairs in a table of rows.
-use mathlib.Core.Path.{◌≡◌, sym, ◌∙◌, subst}
+use mathlib.Core.Path.{◌≡◌, refl, sym, ◌∙◌, subst}
 use mathlib.Core.Logic.{◌⊎◌, inl, inr, ⊎_elim, ◌≢◌, ◌↔◌}
 use mathlib.Core.Bool.{true, ◌||◌, ◌&&◌, false≢true, and-eq-true_iff}
 use mathlib.Core.List.{List}
@@ -15,15 +15,18 @@ use Rattle.facts_bits.proofs.Laws.{with-bit}
 use Rattle.search_ways.specs.Moves.{Marks, None, With, InRow}
 
 -- bytes that are 0 have no bit
-pub marks-none : (n : ℕ) → Marks (replicate {A = ℕ} n 0) None
+pub marks-zero : (w : List ℕ) (n : ℕ) → length w ≡ n → ((k d : ℕ) → k < n → ◌≡◌ {A = ℕ} 0 0 → get_or w k d ≡ 0) → Marks w None
 unfolding bit_at
-marks-none n = record { bits = λ i e l. ((λ q. false≢true (sym (rw (zero i e) (has-empty ((i * width.bits + e) % 8))) ∙ q)), λ q. absurd q) }
+marks-zero w n long h = record { bits = λ i e l. ((λ q. false≢true (sym (rw (zero i e) (has-empty ((i * width.bits + e) % 8))) ∙ q)), λ q. absurd q) }
   where
-    zero : (i e : ℕ) → get_or (replicate {A = ℕ} n 0) ((i * width.bits + e) / 8) 0 ≡ 0
+    zero : (i e : ℕ) → get_or w ((i * width.bits + e) / 8) 0 ≡ 0
     zero i e = ⊎_elim
-        (λ q. get_or-replicate n ((i * width.bits + e) / 8) 0 0 (ltb-true ((i * width.bits + e) / 8) n q))
-        (λ q. get_or-eq_default (replicate n 0) 0 (rw length-replicate (ltb-false ((i * width.bits + e) / 8) n q)))
+        (λ q. h ((i * width.bits + e) / 8) 0 (ltb-true ((i * width.bits + e) / 8) n q) refl)
+        (λ q. get_or-eq_default w 0 (omega (arith, long, ltb-false ((i * width.bits + e) / 8) n q)))
         (either (ltb ((i * width.bits + e) / 8) n))
+
+pub marks-none : (n : ℕ) → Marks (replicate {A = ℕ} n 0) None
+marks-none n = marks-zero (replicate n 0) n (length-replicate n 0) (λ k d l e. get_or-replicate n k 0 d l)
 
 -- the same pairs, said in another way
 pub marks-so : (w : List ℕ) (R R' : ℕ → ℕ → Type 0) → ((i e : ℕ) → e < width.slots → R i e ↔ R' i e) → Marks w R → Marks w R'
@@ -124,6 +127,3 @@ module _ (n : ℕ) (D : ℕ → ℕ → Type 0) where
         λ q. ⊎_elim (λ x. inl x) (λ x. inr (⊎_elim (λ (z : e ≡ k). inr (z, x.1, (f t x.1).1 (subst (λ (v : ℕ). D v t) z x.2))) (λ (z : e ≢ k). inl (omega (arith, x.0), x.1, x.2)) (same? e k))) q,
       ))
       (marks_then w₀ w w' (Upto k n D) (InRow k n E) a b)
-
-  pub upto_skip : (k : ℕ) → ((t : ℕ) → D k t → ⊥) → (w₀ w : List ℕ) → Marks w (With w₀ (Upto k n D)) → Marks w (With w₀ (Upto (k + 1) n D))
-  upto_skip k f w₀ w a = upto-more k (D k) (λ t l. ((λ x. x), λ x. x)) w₀ w w a (marks-same w (InRow k n (D k)) (λ e t q. f t q.2))

@@ -30,13 +30,10 @@ use Rattle.search_states.proofs.Laws.{length-row}
 use Rattle.search_ways.specs.Moves.{matrix_bytes, Marks, None, With, InRow}
 use Rattle.search_ways.specs.Steps.{Between, OneStep}
 use Rattle.search_ways.specs.Shortest.{Says, Near, NotBefore, Layers, Joined}
-use Rattle.search_ways.proofs.Marking.{marks-so, marks-same, marks-bit, marks_then}
+use Rattle.search_ways.proofs.Marking.{marks-so, marks-bit, marks_then}
 use Rattle.search_ways.proofs.Laws.{slot-live}
 
 -- THE NEXT LAYER, slot by slot: the slots below u of row j are taken
-pub spread_none : (w l : List ℕ) (i j : ℕ) → Marks l (With l (InRow i width.slots (Joined w l 0 j)))
-spread_none w l i j = marks-same l (InRow i width.slots (Joined w l 0 j)) (λ k t q. omega (arith, q.2.1))
-
 module _ (w l₀ l : List ℕ) (i j u : ℕ) (m : Marks l (With l₀ (InRow i width.slots (Joined w l₀ u j)))) where
   pub spread-more : in_row l₀ j u ≡ true → (l' : List ℕ) (D : ℕ → Type 0) → ((t : ℕ) → t < width.slots → D t ↔ (in_row w u t ≡ true)) → Marks l' (With l (InRow i width.slots D)) → Marks l' (With l₀ (InRow i width.slots (Joined w l₀ (u + 1) j)))
   spread-more q l' D f h = marks-so l' (With l₀ (λ k t. InRow i width.slots (Joined w l₀ u j) k t ⊎ InRow i width.slots D k t)) (With l₀ (InRow i width.slots (Joined w l₀ (u + 1) j)))
@@ -137,14 +134,6 @@ module _ (m : Model) (wf : WellFormed m) (s : States) (proper : Proper s) (whole
     pub least-way : (k : ℕ) → NotBefore links s.count k e t → (ls : List ℕ) → Way (program_of m) (row s) (state (row s) e) ls (state (row s) t) → k ≤ length ls
     least-way k f ls w = ⊎_elim (λ q. absurd (f (length ls) (ltb-true (length ls) k q) (way-near ls e t l h w))) (λ q. ltb-false (length ls) k q) (either (ltb (length ls) k))
 
-    -- a pair that leads on to what was not reached before is a move
-    pub last-move : (j u : ℕ) → Near links s.count j e u → NotBefore links s.count (j + 1) e t → in_row links u t ≡ true → (ℓ : ℕ) × Takes (program_of m) (row s) (state (row s) u) (state (row s) t) (line (program_of m) ℓ)
-    last-move j u a f q = go ((marked.bits u t (omega (arith, proper.count))).0 q).2
-      where
-        go : OneStep (program_of m) (row s) u t → (ℓ : ℕ) × Takes (program_of m) (row s) (state (row s) u) (state (row s) t) (line (program_of m) ℓ)
-        go (inl z) = absurd (f j (omega arith) (subst (λ (v : ℕ). Near links s.count j e v) z a))
-        go (inr z) = z
-
 -- a slot from which one pair leads to what was not reached before was itself not reached before
 pub not-before : (w : List ℕ) (n j e u t : ℕ) → u < n → NotBefore w n (j + 1) e t → in_row w u t ≡ true → NotBefore w n j e u
 not-before w n j e u t l f q i h a = f (suc i) (omega arith) (u, l, a, q)
@@ -162,7 +151,3 @@ says_eq a b = ⊎_elim (λ (q : eqb a b ≡ true). rw q (eqb-true a b q)) (λ (q
 pub says-bit : (b c : Bool) → b ≡ c → Says b (c ≡ true)
 says-bit true c q = sym q
 says-bit false c q = λ h. clash h (sym q)
-
-pub says_both : (b : Bool) (A B : Type 0) → A → Says b B → Says b (A × B)
-says_both true A B a h = (a, h)
-says_both false A B a h = λ q. h q.1

@@ -5,15 +5,17 @@ use mathlib.Core.Bool.{true}
 use mathlib.Core.List.{List}
 use Prim.Native.Nat.{ℕ, ◌+◌, ◌*◌, ◌≤◌, ◌<◌}
 use native.Mathlib.Omega.{arith}
-use lib.ListN.{length, take, get_or}
-use lib.Seq.{get_or-take, length-take-le}
+use lib.Dec.{eqb}
+use lib.ListN.{length, get_or}
+use Rattle.std.specs.Prelude.{Some, None}
+use Rattle.std.specs.List.{position}
+use lib.Seq.{get_or-take}
 use Rattle.limits.specs.Limits as limit
 use Rattle.semantics.specs.Labels.{relabel}
 use Rattle.semantics.specs.Models.{elem, Body, SafeLine, Program, line, Distinct}
 use Rattle.semantics.specs.Facts.{Database, state, Derived}
-use Rattle.semantics.specs.Tables.{seat}
 use Rattle.semantics.specs.Walkers.{Takes}
-use Rattle.semantics.proofs.Tools.{same?, clash, seat-ok}
+use Rattle.semantics.proofs.Tools.{same?, clash}
 use Rattle.semantics.proofs.Bodies.{supported-vars}
 use Rattle.semantics.proofs.WalkersMoves.{elem-state}
 use Rattle.semantics.proofs.WalkersSlots.{one-slot}
@@ -29,36 +31,27 @@ use Rattle.facts_bits.specs.Bits.{with_bit, in_row}
 use Rattle.search_states.specs.declared.States.{States}
 use Rattle.search_states.specs.States.{row, Proper}
 use Rattle.search_states.proofs.Laws.{length-row}
-use Rattle.search_states.proofs.Seats.{seat-in, seat-out}
-use Rattle.search_ways.specs.Moves.{matrix_bytes, Marks, None, With, Starts, InRow, CanTake}
+use Rattle.search_states.proofs.Seats.{position-there, position-nowhere}
+use Rattle.search_ways.specs.Moves.{matrix_bytes, Marks, None as NoPair, With, Starts, InRow, CanTake}
 use Rattle.search_ways.specs.Steps.{Between, Turns, Led, OneStep}
 use Rattle.search_ways.proofs.Marking.{marks-so, marks-same, row_put}
 
 -- WHERE A SLOT IS LED: to the one slot that has its relabeled state
-module _ (states : List ℕ) (n : ℕ) (long : n ≤ length states) (one : Distinct (take n states)) (few : n ≤ limit.listed) (plus minus e : ℕ) (here : e < n) (w : List ℕ) (size : length w ≡ matrix_bytes) where
-  abbrev S : Database
-  S = take n states
+module _ (S : Database) (one : Distinct S) (few : length S ≤ limit.listed) (plus minus e : ℕ) (here : e < length S) (w : List ℕ) (size : length w ≡ matrix_bytes) where
+  -- the state that slot e is led to, and that t has it
+  abbrev led : ℕ
+  led = relabel (state S e) plus minus
 
-  -- t has the state that slot e is led to
   abbrev Fits : ℕ → Type 0
-  Fits t = state S t ≡ relabel (state S e) plus minus
+  Fits t = state S t ≡ led
 
-  length-S : length S ≡ n
-  length-S = length-take-le n states long
+  pub led-one : (t : ℕ) → position (eqb led) S ≡ Some t → Marks (with_bit w (e * width.bits + t)) (With w (InRow e (length S) Fits))
+  led-one t q =
+      let p = position-there led S t q in
+      row_put w e (length S) t Fits p.0 (omega (arith, p.0)) (omega (arith, p.0)) p.1 (λ u l g. one-slot S one u t l p.0 (g ∙ sym p.1))
 
-  at : relabel (get_or states e 0) plus minus ≡ relabel (state S e) plus minus
-  at = ap (λ (x : ℕ). relabel x plus minus) (sym (get_or-take n states e 0 here))
-
-  pub led-one : (t : ℕ) → t ≡ seat (relabel (get_or states e 0) plus minus) S → t < n → Marks (with_bit w (e * width.bits + t)) (With w (InRow e n Fits))
-  led-one t q h = row_put w e n t Fits h (omega arith) (omega arith) fits (λ u l g. one-slot S one u t (rw length-S l) (rw length-S h) (g ∙ sym fits))
-    where
-      fits : Fits t
-      fits = ap (state S) q ∙ (seat-ok _ S (seat-in (relabel (get_or states e 0) plus minus) S n length-S (subst (λ (k : ℕ). k < n) q h))).1 ∙ at
-
-  pub led-none : (t : ℕ) → t ≡ seat (relabel (get_or states e 0) plus minus) S → n ≤ t → Marks w (With w (InRow e n Fits))
-  led-none t q h = marks-same w (InRow e n Fits) (λ k u x. clash
-      (subst (λ (v : ℕ). elem v S ≡ true) (x.2 ∙ sym at) (elem-state S u (rw length-S x.1)))
-      (seat-out (relabel (get_or states e 0) plus minus) S n length-S (subst (λ (k : ℕ). n ≤ k) q h)))
+  pub led-none : position (eqb led) S ≡ None → Marks w (With w (InRow e (length S) Fits))
+  led-none q = marks-same w (InRow e (length S) Fits) (λ k u x. clash (subst (λ (v : ℕ). elem v S ≡ true) x.2 (elem-state S u x.1)) (position-nowhere led S q))
 
 -- CLAUSE BY CLAUSE
 module _ (m : Model) (S : Database) (n : ℕ) (table : List ℕ) where
@@ -66,7 +59,7 @@ module _ (m : Model) (S : Database) (n : ℕ) (table : List ℕ) where
   abbrev pub LedTo : ℕ → ℕ → ℕ → Type 0
   LedTo i e t = Between n (λ e t. e ≡ t) e t ⊎ ((k : ℕ) × (k < i) × Between n (Led table k S (clause_at m k).action) e t)
 
-  pub led-start : (w w' : List ℕ) → Marks w None → Marks w' (With w (Between n (λ e t. e ≡ t))) → Marks w' (LedTo 0)
+  pub led-start : (w w' : List ℕ) → Marks w NoPair → Marks w' (With w (Between n (λ e t. e ≡ t))) → Marks w' (LedTo 0)
   led-start w w' a b = marks-so w' (With w (Between n (λ e t. e ≡ t))) (LedTo 0)
       (λ e t l. (
         λ q. ⊎_elim (λ x. absurd ((a.bits e t l).0 x)) (λ x. inl x) q,

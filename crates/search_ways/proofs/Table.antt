@@ -1,5 +1,5 @@
 -- The table of moves, clause by clause.
-use mathlib.Core.Path.{◌≡◌, refl, sym, ◌∙◌, subst}
+use mathlib.Core.Path.{◌≡◌, refl, sym, subst}
 use mathlib.Core.Logic.{inl, inr, ⊎_elim, ◌≢◌, ◌↔◌}
 use mathlib.Core.Bool.{true}
 use mathlib.Core.List.{List}
@@ -17,14 +17,14 @@ use Rattle.model.specs.Records.{line_of, clause_body, program_of, clause_at}
 use Rattle.model.specs.WellFormed.{WellFormed}
 use Rattle.model.proofs.Accepted.{clause-safe}
 use Rattle.facts_bits.specs.Width as width
-use Rattle.facts_bits.specs.Bits.{bit_at, in_row, Copied, Joined}
+use Rattle.facts_bits.specs.Bits.{in_row}
 use Rattle.facts_heads.specs.Heads.{guard, IsMark}
 use Rattle.facts_plans.specs.Plans.{head_of}
 use Rattle.search_states.specs.declared.States.{States}
 use Rattle.search_states.specs.States.{row}
 use Rattle.search_states.proofs.Laws.{length-row}
 use Rattle.search_ways.specs.Moves.{Marks, None, With, Starts, InRow, Noted, Exactly, CanTake}
-use Rattle.search_ways.proofs.Marking.{marks-so, marks-join}
+use Rattle.search_ways.proofs.Marking.{marks-so}
 
 -- THE CLAUSES BELOW i, with their marks in the work area
 module _ (m : Model) (w : List ℕ) where
@@ -41,15 +41,6 @@ module _ (m : Model) (w : List ℕ) where
         λ q. ⊎_elim (λ (z : k ≡ i). inr (z, l, subst (λ (j : ℕ). Noted (clause_at m j).action w j e) z q.1)) (λ (z : k ≢ i). inl (p.1 (omega (arith, q.0), q.1))) (same? k i),
       ))
       b
-
--- the row of the marks, joined to row i of the table
-pub copied-row : (w : List ℕ) (i : ℕ) (r : List ℕ) → Copied w (guard i) r → (t t' : List ℕ) → Joined t i r t' → Marks t' (With t (InRow i width.slots (λ e. in_row w (guard i) e ≡ true)))
-copied-row w i r c t t' j = marks-so t' (With t (InRow i width.slots (λ e. bit_at r e ≡ true))) (With t (InRow i width.slots (λ e. in_row w (guard i) e ≡ true)))
-    (λ k e l. (
-      λ q. ⊎_elim (λ x. inl x) (λ x. inr (x.0, x.1, sym (c.bits e (omega arith)) ∙ x.2)) q,
-      λ q. ⊎_elim (λ x. inl x) (λ x. inr (x.0, x.1, c.bits e (omega arith) ∙ x.2)) q,
-    ))
-    (marks-join t i r t' j)
 
 -- A MARK OF A `next` CLAUSE says that it can be taken
 module _ (m : Model) (S : Database) (w : List ℕ) (i e : ℕ) (b : Body) where

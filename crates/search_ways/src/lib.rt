@@ -29,34 +29,14 @@ pub const TABLE: usize = CLAUSES * BYTES;
 // The bytes of a matrix, with a row for each slot of a search.
 pub const MATRIX: usize = LISTED * BYTES;
 
-// Clears every bit.
-fn clear(rows: &mut [u8])
-    ensures { Marks rows.new None }
-{
-    let n = rows.len();
-    let mut i = 0;
-    while i < n {
-        rows[i] = 0;
-        i += 1;
-    }
-}
-
 // Copies to row i of the table the marks of clause i, if it is a `next` clause.
 fn copy(work: &[u8], c: Clause, i: usize, table: &mut [u8])
     requires { (room ≤ length work.now) × (i * width.bytes + width.bytes ≤ length table.old) × (i < limit.clauses) }
     ensures { Marks table.new (With table.old (InRow i width.slots (Noted c.action work.now i))) }
 {
-    let action = c.action;
-    match action {
-        Action::Rule {
-            relation: _,
-            arity: _,
-        } => {}
-        Action::New { set: _ } => {}
-        Action::Next { plus: _, minus: _ } => {
-            let row = facts_bits::row(work, facts_heads::guard_row(i));
-            facts_bits::join(table, i, row);
-        }
+    if let Action::Next { .. } = c.action {
+        let row = facts_bits::row(work, facts_heads::guard_row(i));
+        facts_bits::join(table, i, row);
     }
 }
 
@@ -65,12 +45,9 @@ pub fn takes(work: &[u8], m: Model, table: &mut [u8])
     requires { WellFormed m × (room ≤ length work.now) × (length table.old ≡ table_bytes) }
     ensures { (s : States) → Exactly m work.now s → Marks table.new (CanTake m s) }
 {
-    clear(table);
-    let mut i: usize = 0;
-    while i < m.clausecount {
-        let c = m.clauses[i];
-        copy(work, c, i, table);
-        i += 1;
+    table.fill(0);
+    for i in 0..m.clausecount {
+        copy(work, m.clauses[i], i, table);
     }
 }
 
@@ -79,61 +56,41 @@ fn stay(n: usize, ways: &mut [u8])
     requires { (n ≤ limit.listed) × (length ways.old ≡ matrix_bytes) }
     ensures { Marks ways.new (With ways.old (Between n (λ e t. e ≡ t))) }
 {
-    let mut e: usize = 0;
-    while e < n {
+    for e in 0..n {
         facts_bits::put(ways, e * WIDTH + e);
-        e += 1;
     }
 }
 
 // Marks the slot that the relabeled state of slot e has, if it has one.
-fn lead_at(states: &[u32], n: usize, plus: u32, minus: u32, e: usize, ways: &mut [u8])
-    requires { (n ≤ length states.now) × Distinct (take n states.now) × (n ≤ limit.listed) × (e < n) × (length ways.old ≡ matrix_bytes) }
-    ensures { Marks ways.new (With ways.old (InRow e n (λ t. state (take n states.now) t ≡ relabel (state (take n states.now) e) plus minus))) }
+fn lead_at(states: &[u32], plus: u32, minus: u32, e: usize, ways: &mut [u8])
+    requires { Distinct states.now × (length states.now ≤ limit.listed) × (e < length states.now) × (length ways.old ≡ matrix_bytes) }
+    ensures { Marks ways.new (With ways.old (InRow e (length states.now) (λ t. state states.now t ≡ relabel (state states.now e) plus minus))) }
 {
-    let t = search_states::seek(states, n, labels::relabel(states[e], plus, minus));
-    if t < n {
+    let led = labels::relabel(states[e], plus, minus);
+    if let Some(t) = states.iter().position(|state| led == *state) {
         facts_bits::put(ways, e * WIDTH + t);
     }
 }
 
 // Marks where a `next` clause leads from each slot of its row of the table.
-fn lead_next(
-    states: &[u32],
-    n: usize,
-    plus: u32,
-    minus: u32,
-    table: &[u8],
-    i: usize,
-    ways: &mut [u8],
-)
-    requires { (n ≤ length states.now) × Distinct (take n states.now) × (n ≤ limit.listed) × (i < 64) × (length table.now ≡ table_bytes) × (length ways.old ≡ matrix_bytes) }
-    ensures { Marks ways.new (With ways.old (Between n (Led table.now i (take n states.now) (action.Next plus minus)))) }
+fn lead_next(states: &[u32], plus: u32, minus: u32, table: &[u8], i: usize, ways: &mut [u8])
+    requires { Distinct states.now × (length states.now ≤ limit.listed) × (i < 64) × (length table.now ≡ table_bytes) × (length ways.old ≡ matrix_bytes) }
+    ensures { Marks ways.new (With ways.old (Between (length states.now) (Led table.now i states.now (action.Next plus minus)))) }
 {
-    let mut e: usize = 0;
-    while e < n {
+    for e in 0..states.len() {
         if facts_bits::get(table, i * WIDTH + e) {
-            lead_at(states, n, plus, minus, e, ways);
+            lead_at(states, plus, minus, e, ways);
         }
-        e += 1;
     }
 }
 
 // Marks where a clause leads from each slot of its row of the table.
-fn lead_clause(states: &[u32], n: usize, c: Clause, table: &[u8], i: usize, ways: &mut [u8])
-    requires { (n ≤ length states.now) × Distinct (take n states.now) × (n ≤ limit.listed) × (i < 64) × (length table.now ≡ table_bytes) × (length ways.old ≡ matrix_bytes) }
-    ensures { Marks ways.new (With ways.old (Between n (Led table.now i (take n states.now) c.action))) }
+fn lead_clause(states: &[u32], c: Clause, table: &[u8], i: usize, ways: &mut [u8])
+    requires { Distinct states.now × (length states.now ≤ limit.listed) × (i < 64) × (length table.now ≡ table_bytes) × (length ways.old ≡ matrix_bytes) }
+    ensures { Marks ways.new (With ways.old (Between (length states.now) (Led table.now i states.now c.action))) }
 {
-    let action = c.action;
-    match action {
-        Action::Rule {
-            relation: _,
-            arity: _,
-        } => {}
-        Action::New { set: _ } => {}
-        Action::Next { plus, minus } => {
-            lead_next(states, n, plus, minus, table, i, ways);
-        }
+    if let Action::Next { plus, minus } = c.action {
+        lead_next(states, plus, minus, table, i, ways);
     }
 }
 
@@ -142,14 +99,11 @@ pub fn steps(m: Model, s: States, table: &[u8], ways: &mut [u8])
     requires { WellFormed m × Proper s × (length table.now ≡ table_bytes) × Marks table.now (CanTake m s) × (length ways.old ≡ matrix_bytes) }
     ensures { Marks ways.new (Between s.count (OneStep (program_of m) (row s))) }
 {
-    let n = s.count;
-    clear(ways);
-    stay(n, ways);
-    let mut i: usize = 0;
-    while i < m.clausecount {
-        let c = m.clauses[i];
-        lead_clause(&s.states, n, c, table, i, ways);
-        i += 1;
+    ways.fill(0);
+    stay(s.count, ways);
+    let states = &s.states[..s.count];
+    for i in 0..m.clausecount {
+        lead_clause(states, m.clauses[i], table, i, ways);
     }
 }
 
@@ -159,12 +113,10 @@ fn pass(ways: &mut [u8], n: usize, k: usize)
     ensures { Marks ways.new (With ways.old (λ e t. (e < n) × Through ways.old k e t)) }
 {
     let row = facts_bits::keep(facts_bits::full(), ways, k);
-    let mut e: usize = 0;
-    while e < n {
+    for e in 0..n {
         if facts_bits::get(ways, e * WIDTH + k) {
             facts_bits::join(ways, e, row);
         }
-        e += 1;
     }
 }
 
@@ -173,10 +125,8 @@ pub fn close(ways: &mut [u8], n: usize)
     requires { (n ≤ limit.listed) × (length ways.old ≡ matrix_bytes) × Inside n ways.old }
     ensures { Marks ways.new (Between n (Linked ways.old n)) }
 {
-    let mut k: usize = 0;
-    while k < n {
+    for k in 0..n {
         pass(ways, n, k);
-        k += 1;
     }
 }
 
@@ -185,13 +135,11 @@ fn spread(links: &[u8], n: usize, layers: &mut [u8], j: usize)
     requires { (n ≤ limit.listed) × (j < limit.atomic) × (length links.now ≡ matrix_bytes) × (length layers.old ≡ matrix_bytes) }
     ensures { Marks layers.new (With layers.old (InRow (j + 1) width.slots (Joined links.now layers.old n j))) }
 {
-    let mut u: usize = 0;
-    while u < n {
+    for u in 0..n {
         if facts_bits::get(layers, j * WIDTH + u) {
             let row = facts_bits::keep(facts_bits::full(), links, u);
             facts_bits::join(layers, j + 1, row);
         }
-        u += 1;
     }
 }
 
@@ -201,14 +149,12 @@ fn reach(links: &[u8], n: usize, from: usize, to: usize, layers: &mut [u8]) -> u
     ensures { Nearest links.now n from to layers.new result }
 {
     facts_bits::put(layers, from);
-    let mut j: usize = 0;
-    loop {
-        if facts_bits::get(layers, j * WIDTH + to) {
-            return j;
-        }
+    let mut j = 0;
+    while !facts_bits::get(layers, j * WIDTH + to) {
         spread(links, n, layers, j);
         j += 1;
     }
+    j
 }
 
 // Is slot u in row j of the layers, with a pair that leads from it to slot t?
@@ -216,10 +162,7 @@ fn joins(links: &[u8], layers: &[u8], j: usize, t: usize, u: usize) -> bool
     requires { (j < limit.listed) × (t < limit.listed) × (u < limit.listed) × (length links.now ≡ matrix_bytes) × (j * width.bytes + width.bytes ≤ length layers.now) }
     ensures { Says result (Joins links.now layers.now j t u) }
 {
-    if facts_bits::get(layers, j * WIDTH + u) {
-        return facts_bits::get(links, u * WIDTH + t);
-    }
-    false
+    facts_bits::get(layers, j * WIDTH + u) && facts_bits::get(links, u * WIDTH + t)
 }
 
 // The first slot of row j of the layers with a pair that leads from it to slot t.
@@ -227,28 +170,21 @@ fn before(links: &[u8], layers: &[u8], n: usize, j: usize, t: usize) -> usize
     requires { (n ≤ limit.listed) × (j < limit.listed) × (t < n) × (length links.now ≡ matrix_bytes) × (j * width.bytes + width.bytes ≤ length layers.now) × Joined links.now layers.now n j t }
     ensures { (result < n) × Joins links.now layers.now j t result }
 {
-    let mut u: usize = 0;
-    while u < n {
+    for u in 0..n {
         if joins(links, layers, j, t, u) {
             return u;
         }
-        u += 1;
     }
-    n
+    unreachable!()
 }
 
 // Does the clause make one state of the other?
 pub fn turns(c: Clause, from: u32, to: u32) -> bool
     ensures { Says result (Turns c.action from to) }
 {
-    let action = c.action;
-    match action {
-        Action::Rule {
-            relation: _,
-            arity: _,
-        } => false,
-        Action::New { set: _ } => false,
+    match c.action {
         Action::Next { plus, minus } => to == labels::relabel(from, plus, minus),
+        _ => false,
     }
 }
 
@@ -259,17 +195,12 @@ fn line_to(m: Model, s: States, table: &[u8], u: usize, t: usize) -> u32
 {
     let from = s.states[u];
     let to = s.states[t];
-    let mut i: usize = 0;
-    while i < m.clausecount {
-        if facts_bits::get(table, i * WIDTH + u) {
-            let c = m.clauses[i];
-            if turns(c, from, to) {
-                return c.line;
-            }
+    for i in 0..m.clausecount {
+        if facts_bits::get(table, i * WIDTH + u) && turns(m.clauses[i], from, to) {
+            return m.clauses[i].line;
         }
-        i += 1;
     }
-    0
+    unreachable!()
 }
 
 // The lines of a shortest way from one slot to another, and how many they are.
@@ -289,12 +220,9 @@ pub fn way(
     let mut layers = [0u8; MATRIX];
     let k = reach(links, n, from, to, &mut layers);
     let mut t = to;
-    let mut j = k;
-    while 0 < j {
-        j -= 1;
+    for j in (0..k).rev() {
         let u = before(links, &layers, n, j, t);
-        let line = line_to(m, s, table, u, t);
-        out[j] = line;
+        out[j] = line_to(m, s, table, u, t);
         t = u;
     }
     k

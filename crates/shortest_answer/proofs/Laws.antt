@@ -3,7 +3,7 @@ use mathlib.Core.Path.{◌≡◌, refl, sym}
 use mathlib.Core.Logic.{inl, inr, ⊎_elim, ◌↔◌, ◌≢◌}
 use mathlib.Core.Bool.{true, false}
 use mathlib.Core.List.{List}
-use Prim.Native.Nat.{ℕ, zero, suc, ◌<◌}
+use Prim.Native.Nat.{ℕ, ◌<◌}
 use native.Mathlib.Omega.{arith}
 use lib.ListN.{length, take}
 use Rattle.semantics.specs.Models.{elem}
@@ -48,15 +48,6 @@ known-row s t n = ((λ e. inr e), λ k. ⊎_elim (λ q. absurd (n q.0)) (λ q. q
 -- A SHORTEST WAY between slots
 pub shortest-fewest : (m : Model) (s : States) (e t : ℕ) (out out' : List ℕ) (k : ℕ) → ways.Shortest (program_of m) (row s) e t out out' k → empty.Fewest (program_of m) (row s) (state (row s) e) (state (row s) t) out out' k
 shortest-fewest m s e t out out' k h = record { few = omega (arith, h.few); way = h.way; least = h.least; rest = h.rest }
-
--- the way to the empty state
-pub emptied-none : (m : Model) (s : States) (e : ℕ) (out out' : List ℕ) (k : ℕ) → ToEmpty (program_of m) (row s) e out out' k → k ≡ 0 → empty.NoWay (program_of m) (row s) e 0 out out'
-emptied-none m s e out out' zero h q = h
-emptied-none m s e out out' (suc k) h q = absurd (omega (arith, q))
-
-pub emptied-some : (m : Model) (s : States) (e : ℕ) (out out' : List ℕ) (k : ℕ) → ToEmpty (program_of m) (row s) e out out' k → k ≢ 0 → empty.Fewest (program_of m) (row s) e 0 out out' k
-emptied-some m s e out out' zero h q = absurd (q refl)
-emptied-some m s e out out' (suc k) h q = h
 
 -- from a state to itself
 pub staying : (m : Model) (s : States) (e t : ℕ) (out : List ℕ) → e ≡ t → empty.Fewest (program_of m) (row s) e t out out 0

@@ -75,11 +75,10 @@ fn emptied(
     requires { Mapped m s table.now links.now ways.now × (from < s.count) × (s.count ≤ length run.old) }
     ensures { Ended (program_of m) (row s) (state (row s) from) 0 run.old run.new result }
 {
-    let steps = shortest_empty::way(m, s, table, links, ways, from, run);
-    if steps == 0 {
-        return Answer::NoWay;
+    match shortest_empty::way(m, s, table, links, ways, from, run) {
+        Some(steps) => Answer::Way { steps },
+        None => Answer::NoWay,
     }
-    Answer::Way { steps }
 }
 
 // A shortest way from one found state to another one; from the empty state there is none.

@@ -8,6 +8,7 @@ use native.Mathlib.Omega.{arith}
 use borrow.Author.Count.{below_more}
 use lib.ListN.{length, take, drop, set}
 use lib.Seq.{take-suc-set, drop-set-lt, drop-drop}
+use Rattle.std.specs.Prelude.{Option, Some, None, MatchOption}
 use Rattle.semantics.specs.Models.{elem, Program, line, Safe}
 use Rattle.semantics.specs.Facts.{Database, state}
 use Rattle.semantics.specs.Tables.{seat}
@@ -16,7 +17,7 @@ use Rattle.semantics.proofs.Tools.{same?, seat-ok}
 use Rattle.semantics.proofs.WalkersMoves.{elem-state, way-append}
 use Rattle.semantics.proofs.WalkersSlots.{takes-within}
 use Rattle.search_ways.specs.Shortest.{Shortest}
-use Rattle.shortest_empty.specs.Emptying.{Empties, Approach, Nearest, Fewest}
+use Rattle.shortest_empty.specs.Emptying.{Empties, Approached, Approach, NearestTo, Nearest, Fewest}
 
 pub take-most : (k : ℕ) (xs : List ℕ) → length (take k xs) ≤ k
 take-most zero xs = omega arith
@@ -24,29 +25,45 @@ take-most (suc k) [] = omega arith
 take-most (suc k) (x ∷ xs) = let r = take-most k xs in omega arith
 
 module _ (P : Program) (S : Database) (e : ℕ) where
-  -- THE NEAREST SLOT SO FAR, with the number of steps to it; and no slot below u is nearer
-  abbrev pub Best : ℕ → ℕ → Type 0
-  Best near k = (near < length S → ((ℓ : ℕ) × Empties P S near ℓ) × ((ls : List ℕ) × Way P S (state S e) ls (state S near) × (length ls ≤ k))) × (k < length S → near < length S)
+  -- no slot below u is so,
+  abbrev NoneBelow : ℕ → Type 0
+  NoneBelow u = (v : ℕ) → v < u → (ls : List ℕ) (ℓ : ℕ) → Way P S (state S e) ls (state S v) → Empties P S v ℓ → ⊥
 
-  abbrev pub NoNearer : ℕ → ℕ → ℕ → Type 0
-  NoNearer u near k = (v : ℕ) → v < u → (ls : List ℕ) (ℓ : ℕ) → Way P S (state S e) ls (state S v) → Empties P S v ℓ → (near < length S) × (k ≤ length ls)
+  -- or slot `near` is, with k steps to it, and none below u is nearer
+  pub record Best (u k near : ℕ) : Type 0 where
+    pub here : near < length S
+    pub empties : (ℓ : ℕ) × Empties P S near ℓ
+    pub way : (ls : List ℕ) × Way P S (state S e) ls (state S near) × (length ls ≤ k)
+    pub least : (v : ℕ) → v < u → (ls : List ℕ) (ℓ : ℕ) → Way P S (state S e) ls (state S v) → Empties P S v ℓ → k ≤ length ls
 
-  module _ (u near k j : ℕ) (a : Approach P S e u j) (none : NoNearer u near k) where
-    pub nearer : u < length S → k ≤ length S → j < k → Best u j × NoNearer (u + 1) u j
-    nearer l few h = (
-      ((λ q. a.some (omega arith)), λ q. l),
-      below_more _ _ (λ v q ls ℓ w x. (l, let r = none v q ls ℓ w x in omega (arith, h, r.1))) (λ ls ℓ w x. (l, (a.least ls ℓ w x).1)),
-    )
+  -- THE NEAREST SLOT SO FAR; without one the number of steps is that of the slots
+  abbrev pub SoFar : ℕ → ℕ → Option ℕ → Type 0
+  SoFar u k near = MatchOption near ((k ≡ length S) × NoneBelow u) (Best u k)
 
-    pub no-nearer : Best near k → k ≤ j → NoNearer (u + 1) near k
-    no-nearer b h = below_more _ _ none (λ ls ℓ w x. let r = a.least ls ℓ w x in (b.1 (omega (arith, h, r.0)), omega (arith, h, r.1)))
+  -- with slot u, to which there is no way, no nearer one, or a nearer one
+  pub sofar-none : (u k : ℕ) (near : Option ℕ) → SoFar u k near → Approach P S e u None → SoFar (u + 1) k near
+  sofar-none u k None (q, h) a = (q, below_more _ _ h (λ ls ℓ w x. a ls ℓ w x))
+  sofar-none u k (Some v) b a = record { here = b.here; empties = b.empties; way = b.way; least = below_more _ _ b.least (λ ls ℓ w x. absurd (a ls ℓ w x)) }
 
-  pub nearest-found : (near k : ℕ) → Best near k → NoNearer (length S) near k → Nearest P S e near
-  nearest-found near k b h =
-      record {
-        some = λ l. let r = b.0 l in (r.0, (r.1.0, r.1.1));
-        least = λ v ls ℓ l w x. let r = h v l ls ℓ w x in let q = (b.0 r.0).1 in (r.0, (q.0, q.1, omega (arith, q.2, r.1)));
-      }
+  pub sofar-other : (u k : ℕ) (near : Option ℕ) (j : ℕ) → SoFar u k near → Approached P S e u j → k ≤ j → SoFar (u + 1) k near
+  sofar-other u k None j (q, h) a l = absurd (omega (arith, q, a.few))
+  sofar-other u k (Some v) j b a l = record { here = b.here; empties = b.empties; way = b.way; least = below_more _ _ b.least (λ ls ℓ w x. omega (arith, a.least ls w)) }
+
+  pub sofar-nearer : (u k : ℕ) (near : Option ℕ) (j : ℕ) → SoFar u k near → Approached P S e u j → u < length S → j < k → SoFar (u + 1) j (Some u)
+  sofar-nearer u k near j b a l h = record { here = l; empties = a.empties; way = a.way; least = below_more _ _ (before near b) (λ ls ℓ w x. a.least ls w) }
+    where
+      before : (near : Option ℕ) → SoFar u k near → (v : ℕ) → v < u → (ls : List ℕ) (ℓ : ℕ) → Way P S (state S e) ls (state S v) → Empties P S v ℓ → j ≤ length ls
+      before None b v q ls ℓ w x = absurd (b.1 v q ls ℓ w x)
+      before (Some n) b v q ls ℓ w x = omega (arith, h, b.least v q ls ℓ w x)
+
+  pub sofar-all : (k : ℕ) (near : Option ℕ) → SoFar (length S) k near → Nearest P S e near
+  sofar-all k None b = λ v ls ℓ l w x. b.1 v l ls ℓ w x
+  sofar-all k (Some u) b = record {
+    here = b.here;
+    empties = b.empties;
+    comes = (b.way.0, b.way.1);
+    least = λ v ls ℓ l w x. (b.way.0, b.way.1, omega (arith, b.way.2, b.least v l ls ℓ w x));
+  }
 
 module _ (P : Program) (safe : Safe P) (S : Database) (whole : Whole P S) where
   -- THE STEP THAT EMPTIES: a way to the empty state leads to some slot, from where a line empties the object
@@ -60,16 +77,16 @@ module _ (P : Program) (safe : Safe P) (S : Database) (whole : Whole P S) where
       (r.0, ℓ ∷ r.1, r.2, r.3, (w.0, w.1, r.4), r.5, omega (arith, r.6)))
       (same? w.0 0)
 
-  module _ (e u : ℕ) (l : e < length S) (live : state S e ≢ 0) (near : Nearest P S e u) where
-    leaving : (ls : List ℕ) → Way P S (state S e) ls 0 → (u < length S) × ((ms : List ℕ) × Way P S (state S e) ms (state S u) × (suc (length ms) ≤ length ls))
+  -- without such a slot there is no way
+  pub no_way : (e : ℕ) → e < length S → state S e ≢ 0 → Nearest P S e None → Comes P S (state S e) 0 → ⊥
+  no_way e l live none c = let r = last_step c.0 (state S e) (elem-state S e l) live c.1 in none r.0 r.1 r.2 r.3 r.4 r.5
+
+  module _ (e u : ℕ) (l : e < length S) (live : state S e ≢ 0) (near : NearestTo P S e u) where
+    leaving : (ls : List ℕ) → Way P S (state S e) ls 0 → (ms : List ℕ) × Way P S (state S e) ms (state S u) × (suc (length ms) ≤ length ls)
     leaving ls w =
         let r = last_step ls (state S e) (elem-state S e l) live w in
         let q = near.least r.0 r.1 r.2 r.3 r.4 r.5 in
-        (q.0, (q.1.0, q.1.1, omega (arith, r.6, q.1.2)))
-
-    -- without such a slot there is no way
-    pub no_way : length S ≤ u → Comes P S (state S e) 0 → ⊥
-    no_way h c = omega (arith, h, (leaving c.0 c.1).0)
+        (q.0, q.1, omega (arith, r.6, q.2))
 
     -- the way to that slot and the line that empties are a shortest way
     pub one_more : (out out₁ : List ℕ) (k ℓ : ℕ) → k < length out₁ → Shortest P S e u out out₁ k → Empties P S u ℓ → Fewest P S (state S e) 0 out (set out₁ k ℓ) (suc k)
@@ -77,7 +94,7 @@ module _ (P : Program) (safe : Safe P) (S : Database) (whole : Whole P S) where
         record {
           few = w.few;
           way = subst (λ (ls : List ℕ). Way P S (state S e) ls 0) (sym (take-suc-set out₁ k ℓ h)) (way-append P S (state S e) (state S u) 0 (take k out₁) (ℓ ∷ []) w.way (0, x, refl));
-          least = λ ls q. let r = (leaving ls q).1 in omega (arith, r.2, w.least r.0 r.1);
+          least = λ ls q. let r = leaving ls q in omega (arith, r.2, w.least r.0 r.1);
           rest = drop-set-lt (suc k) out₁ k ℓ (omega arith) ∙ next out₁ ∙ ap (drop 1) w.rest ∙ sym (next out);
         }
       where

@@ -1,6 +1,6 @@
 -- A SHORTEST WAY TO THE EMPTY STATE, which has no slot: its last step is a line that empties an object of some slot's state.
 -- S is the row of found states, and a slot is a place in it.
-use Rattle.std.specs.Prelude.{◌≡◌, ◌≢◌, List, ℕ, zero, suc, ◌≤◌, ◌<◌, length, take, drop}
+use Rattle.std.specs.Prelude.{◌≡◌, List, ℕ, Option, MatchOption, ◌≤◌, ◌<◌, length, take, drop}
 use Rattle.semantics.specs.Models.{Program, line}
 use Rattle.semantics.specs.Facts.{Database, state}
 use Rattle.semantics.specs.Walkers.{Whole, Takes, Way, Comes}
@@ -28,20 +28,31 @@ pub record Mapped (m : Model) (s : States) (table steps ways : List ℕ) : Type 
 abbrev pub Empties : Program → Database → ℕ → ℕ → Type 0
 Empties P S u ℓ = Takes P S (state S u) 0 (line P ℓ)
 
--- a line that does, or 0 where none does
-pub record Emptier (P : Program) (S : Database) (u ℓ : ℕ) : Type 0 where
-  pub some : ℓ ≢ 0 → Empties P S u ℓ
-  pub none : ℓ ≡ 0 → (k : ℕ) → Empties P S u k → ⊥
+-- a line that does, or that none does
+abbrev pub Emptier : Program → Database → ℕ → Option ℕ → Type 0
+Emptier P S u ℓ = MatchOption ℓ ((k : ℕ) → Empties P S u k → ⊥) (Empties P S u)
 
--- k is the fewest steps from slot e to slot u, from where a line empties the object; no number of steps of S where there is no such way
-pub record Approach (P : Program) (S : Database) (e u k : ℕ) : Type 0 where
-  pub some : k < length S → ((ℓ : ℕ) × Empties P S u ℓ) × ((ls : List ℕ) × Way P S (state S e) ls (state S u) × (length ls ≤ k))
-  pub least : (ls : List ℕ) (ℓ : ℕ) → Way P S (state S e) ls (state S u) → Empties P S u ℓ → (k < length S) × (k ≤ length ls)
+-- from slot u a line empties the object, and k is the fewest steps to it from slot e
+pub record Approached (P : Program) (S : Database) (e u k : ℕ) : Type 0 where
+  pub few : k < length S
+  pub empties : (ℓ : ℕ) × Empties P S u ℓ
+  pub way : (ls : List ℕ) × Way P S (state S e) ls (state S u) × (length ls ≤ k)
+  pub least : (ls : List ℕ) → Way P S (state S e) ls (state S u) → k ≤ length ls
 
--- u is the slot nearest to slot e from where a line empties the object; no slot where there is none
-pub record Nearest (P : Program) (S : Database) (e u : ℕ) : Type 0 where
-  pub some : u < length S → ((ℓ : ℕ) × Empties P S u ℓ) × Comes P S (state S e) (state S u)
-  pub least : (v : ℕ) (ls : List ℕ) (ℓ : ℕ) → v < length S → Way P S (state S e) ls (state S v) → Empties P S v ℓ → (u < length S) × ((ms : List ℕ) × Way P S (state S e) ms (state S u) × (length ms ≤ length ls))
+-- so many steps, or that there is no such way
+abbrev pub Approach : Program → Database → ℕ → ℕ → Option ℕ → Type 0
+Approach P S e u k = MatchOption k ((ls : List ℕ) (ℓ : ℕ) → Way P S (state S e) ls (state S u) → Empties P S u ℓ → ⊥) (Approached P S e u)
+
+-- from slot u a line empties the object, and no other such slot is nearer to slot e
+pub record NearestTo (P : Program) (S : Database) (e u : ℕ) : Type 0 where
+  pub here : u < length S
+  pub empties : (ℓ : ℕ) × Empties P S u ℓ
+  pub comes : Comes P S (state S e) (state S u)
+  pub least : (v : ℕ) (ls : List ℕ) (ℓ : ℕ) → v < length S → Way P S (state S e) ls (state S v) → Empties P S v ℓ → (ms : List ℕ) × Way P S (state S e) ms (state S u) × (length ms ≤ length ls)
+
+-- such a slot, or that there is none
+abbrev pub Nearest : Program → Database → ℕ → Option ℕ → Type 0
+Nearest P S e u = MatchOption u ((v : ℕ) (ls : List ℕ) (ℓ : ℕ) → v < length S → Way P S (state S e) ls (state S v) → Empties P S v ℓ → ⊥) (NearestTo P S e)
 
 -- A SHORTEST WAY from state s to state t: the first k numbers of the list are its lines, and the rest is as it was
 pub record Fewest (P : Program) (S : Database) (s t : ℕ) (out out' : List ℕ) (k : ℕ) : Type 0 where
@@ -54,7 +65,6 @@ pub record Fewest (P : Program) (S : Database) (s t : ℕ) (out out' : List ℕ)
 abbrev pub NoWay : Program → Database → ℕ → ℕ → List ℕ → List ℕ → Type 0
 NoWay P S s t out out' = (Comes P S s t → ⊥) × (out' ≡ out)
 
--- THE WAY to the empty state of so many steps, or none where they are 0
-abbrev pub ToEmpty : Program → Database → ℕ → List ℕ → List ℕ → ℕ → Type 0
-ToEmpty P S s out out' zero = NoWay P S s 0 out out'
-ToEmpty P S s out out' (suc k) = Fewest P S s 0 out out' (suc k)
+-- THE WAY to the empty state of so many steps, or that there is none
+abbrev pub ToEmpty : Program → Database → ℕ → List ℕ → List ℕ → Option ℕ → Type 0
+ToEmpty P S s out out' k = MatchOption k (NoWay P S s 0 out out') (Fewest P S s 0 out out')

@@ -14,26 +14,21 @@ use limits::ATOMIC;
 use model::Model;
 use search_states::States;
 
-// The line of the first clause that takes an object of the state of slot u to the empty state, or 0 where none does.
-fn emptier(m: Model, s: States, table: &[u8], u: usize) -> u32
+// The line of the first clause that takes an object of the state of slot u to the empty state.
+fn emptier(m: Model, s: States, table: &[u8], u: usize) -> Option<u32>
     requires { WellFormed m × Proper s × (length table.now ≡ table_bytes) × Marks table.now (CanTake m s) × (u < s.count) }
     ensures { Emptier (program_of m) (row s) u result }
 {
     let from = s.states[u];
-    let mut i: usize = 0;
-    while i < m.clausecount {
-        if facts_bits::get(table, i * WIDTH + u) {
-            let c = m.clauses[i];
-            if search_ways::turns(c, from, 0) {
-                return c.line;
-            }
+    for i in 0..m.clausecount {
+        if facts_bits::get(table, i * WIDTH + u) && search_ways::turns(m.clauses[i], from, 0) {
+            return Some(m.clauses[i].line);
         }
-        i += 1;
     }
-    0
+    None
 }
 
-// The fewest steps from one slot to another from where a line empties the object, or the number of slots where there is no such way.
+// The fewest steps from one slot to another from where a line empties the object, if there is such a way.
 fn approach(
     m: Model,
     s: States,
@@ -42,41 +37,46 @@ fn approach(
     ways: &[u8],
     from: usize,
     to: usize,
-) -> usize
+) -> Option<usize>
     requires { Mapped m s table.now links.now ways.now × (from < s.count) × (to < s.count) }
     ensures { Approach (program_of m) (row s) from to result }
 {
-    if emptier(m, s, table, to) == 0 {
-        return s.count;
+    if emptier(m, s, table, to).is_none() {
+        return None;
     }
     if !facts_bits::get(ways, from * WIDTH + to) {
-        return s.count;
+        return None;
     }
-    let mut lines = [0u32; ATOMIC];
-    search_ways::way(m, s, table, links, from, to, &mut lines)
+    let mut lines = [0; ATOMIC];
+    Some(search_ways::way(m, s, table, links, from, to, &mut lines))
 }
 
-// The slot nearest to the given one from where a line empties the object, or the number of slots where there is none.
-fn nearest(m: Model, s: States, table: &[u8], links: &[u8], ways: &[u8], from: usize) -> usize
+// The slot nearest to the given one from where a line empties the object.
+fn nearest(
+    m: Model,
+    s: States,
+    table: &[u8],
+    links: &[u8],
+    ways: &[u8],
+    from: usize,
+) -> Option<usize>
     requires { Mapped m s table.now links.now ways.now × (from < s.count) }
     ensures { Nearest (program_of m) (row s) from result }
 {
-    let n = s.count;
-    let mut near = n;
-    let mut fewest = n;
-    let mut u: usize = 0;
-    while u < n {
-        let steps = approach(m, s, table, links, ways, from, u);
-        if steps < fewest {
-            fewest = steps;
-            near = u;
+    let mut near = None;
+    let mut fewest = s.count;
+    for u in 0..s.count {
+        if let Some(steps) = approach(m, s, table, links, ways, from, u) {
+            if steps < fewest {
+                fewest = steps;
+                near = Some(u);
+            }
         }
-        u += 1;
     }
     near
 }
 
-// The lines of a shortest way from a slot to the empty state, and how many they are; 0 where there is no way.
+// The lines of a shortest way from a slot to the empty state, and how many they are, if there is a way.
 pub fn way(
     m: Model,
     s: States,
@@ -85,16 +85,12 @@ pub fn way(
     ways: &[u8],
     from: usize,
     out: &mut [u32],
-) -> usize
+) -> Option<usize>
     requires { Mapped m s table.now links.now ways.now × (from < s.count) × (s.count ≤ length out.old) }
     ensures { ToEmpty (program_of m) (row s) (state (row s) from) out.old out.new result }
 {
-    let u = nearest(m, s, table, links, ways, from);
-    if u < s.count {
-        let k = search_ways::way(m, s, table, links, from, u, out);
-        let line = emptier(m, s, table, u);
-        out[k] = line;
-        return k + 1;
-    }
-    0
+    let u = nearest(m, s, table, links, ways, from)?;
+    let k = search_ways::way(m, s, table, links, from, u, out);
+    out[k] = emptier(m, s, table, u).unwrap();
+    Some(k + 1)
 }

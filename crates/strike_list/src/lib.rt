@@ -26,12 +26,8 @@ fn wanted(action: Action, line: u32, list: &[u32]) -> bool
     ensures { result ≡ (free action && elem line list.now) }
 {
     match action {
-        Action::Rule {
-            relation: _,
-            arity: _,
-        } => false,
-        Action::New { set: _ } => strike_model::among(list, line),
-        Action::Next { plus: _, minus: _ } => strike_model::among(list, line),
+        Action::Rule { .. } => false,
+        Action::New { .. } | Action::Next { .. } => list.contains(&line),
     }
 }
 
@@ -40,19 +36,14 @@ fn gather(m: Model, list: &[u32]) -> Lines
     requires { WellFormed m × (length list.now ≤ most) }
     ensures { result ≡ shown (named (program_of m) list.now) }
 {
-    let n = m.clausecount;
-    let mut lines = [0u32; MOST];
+    let mut lines = [0; MOST];
     let mut count = 0;
-    let mut i = 0;
-    while i < n {
+    for i in 0..m.clausecount {
         let c = m.clauses[i];
-        let action = c.action;
-        let line = c.line;
-        if wanted(action, line, list) {
-            lines[count] = line;
+        if wanted(c.action, c.line, list) {
+            lines[count] = c.line;
             count += 1;
         }
-        i += 1;
     }
     Lines { lines, count }
 }
@@ -62,10 +53,7 @@ pub fn faulty(m: Model, list: &[u32]) -> bool
     requires { WellFormed m }
     ensures { result ≡ is_faulty (program_of m) list.now }
 {
-    if list.len() == 0 {
-        return true;
-    }
-    if list.len() > MOST {
+    if list.is_empty() || list.len() > MOST {
         return true;
     }
     let found = gather(m, list);
@@ -85,18 +73,13 @@ pub fn choose(l: Lines, number: u32) -> Lines
     requires { l.count ≤ most }
     ensures { result ≡ shown (numbered (listed l) number) }
 {
-    let all = l.lines;
-    let m = l.count;
-    let mut lines = [0u32; MOST];
+    let mut lines = [0; MOST];
     let mut count = 0;
-    let mut i = 0;
-    while i < m {
-        let bit = (m - 1 - i) as u32;
-        if labels::has(number, bit) {
-            lines[count] = all[i];
+    for i in 0..l.count {
+        if labels::has(number, (l.count - 1 - i) as u32) {
+            lines[count] = l.lines[i];
             count += 1;
         }
-        i += 1;
     }
     Lines { lines, count }
 }

@@ -7,12 +7,14 @@ use Prim.Native.Nat.{ℕ, zero, suc, ◌+◌, ◌≤◌, ◌<◌}
 use native.Mathlib.Omega.{arith}
 use native.Mathlib.Nat.{not-suc-le-zero}
 use native.Mathlib.Numerals.{add-one}
-use lib.ListN.{length, take, drop, get_or, set, length-set, drop_of_length-le}
-use lib.Seq.{get_or-take, get_or-drop, length-take-le, take-suc, take-suc-set, drop-cons, drop-drop, drop-set-lt}
-use borrow.Author.Tests.{ne_eqb}
+use lib.ListN.{length, take, drop, get_or, set, length-set}
+use lib.Seq.{get_or-take, get_or-drop, length-take-le, take-suc, take-suc-set, drop-drop, drop-set-lt}
+use lib.Dec.{eqb}
+use Rattle.std.specs.List.{list_any}
+use Rattle.std.proofs.lemmas.Bool.Decides.{nat_tests}
 use Rattle.limits.specs.Limits as limit
 use Rattle.semantics.specs.Models.{elem, Line, Safe, SafeQuestion}
-use Rattle.semantics.proofs.Tools.{either, elem-here}
+use Rattle.semantics.proofs.Tools.{either}
 use Rattle.model.specs.declared.Action.{Action}
 use Rattle.model.specs.declared.Action.TheVariants.{Rule, New, Next}
 use Rattle.model.specs.declared.Clause.{Clause}
@@ -24,15 +26,10 @@ use Rattle.striking.specs.Striking.{strike}
 use Rattle.striking.proofs.Striking.{strike-safe}
 use Rattle.strike_model.specs.Models.{Strikes}
 
--- WHETHER A NUMBER IS AHEAD in a list: it is the next one, or among those behind it, or there are no more
-pub elem_at : (x : ℕ) (xs : List ℕ) (i : ℕ) → i < length xs → get_or xs i 0 ≡ x → elem x (drop i xs) ≡ true
-elem_at x xs i l e = rw (drop-cons xs i 0 l, e) (elem-here x (drop (suc i) xs))
-
-pub elem_past : (x : ℕ) (xs : List ℕ) (i : ℕ) → i < length xs → (get_or xs i 0 ≡ x → ⊥) → elem x (drop (i + 1) xs) ≡ elem x (drop i xs)
-elem_past x xs i l n = rw (add-one, drop-cons xs i 0 l, ne_eqb x (get_or xs i 0) (λ q. n (sym q)))
-
-pub elem-none : (x : ℕ) (xs : List ℕ) (i : ℕ) → length xs ≤ i → elem x (drop i xs) ≡ false
-elem-none x xs i l = rw (drop_of_length-le xs l)
+-- a list's `contains` answers whether the number is among its own
+pub list_any-elem : (x : ℕ) (xs : List ℕ) → list_any (λ y. eqb y x) xs ≡ elem x xs
+list_any-elem x [] = refl
+list_any-elem x (y ∷ ys) = let e : eqb y x ≡ eqb x y = grind (arith, nat_tests) in rw (e, list_any-elem x ys)
 
 -- THE CLAUSES of the lines that are not listed
 abbrev pub without : List ℕ → List Clause → List Clause

@@ -1,26 +1,10 @@
 // A model without some of its lines.
 #![tactic(auto)]
 
-ghost use Rattle.std.specs.Prelude.{◌≡◌};
-ghost use Rattle.semantics.specs.Models.{elem};
 ghost use Rattle.model.specs.WellFormed.{WellFormed};
 ghost use Rattle.strike_model.specs.Models.{Strikes};
 
 use model::Model;
-
-// Whether the number is in the list.
-pub fn among(list: &[u32], number: u32) -> bool
-    ensures { result ≡ elem number list.now }
-{
-    let mut i = 0;
-    while i < list.len() {
-        if list[i] == number {
-            return true;
-        }
-        i += 1;
-    }
-    false
-}
 
 // The model without the clauses of the listed lines: the others move up, and keep their line numbers.
 pub fn strike(mut m: Model, lines: &[u32]) -> Model
@@ -29,14 +13,12 @@ pub fn strike(mut m: Model, lines: &[u32]) -> Model
 {
     let n = m.clausecount;
     let mut kept = 0;
-    let mut i = 0;
-    while i < n {
+    for i in 0..n {
         let c = m.clauses[i];
-        if !among(lines, c.line) {
+        if !lines.contains(&c.line) {
             m.clauses[kept] = c;
             kept += 1;
         }
-        i += 1;
     }
     m.clausecount = kept;
     m

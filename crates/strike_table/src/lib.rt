@@ -37,10 +37,7 @@ pub struct Table {
 fn settles(n: u32, v: u8, k: u32) -> bool
     ensures { result ≡ settled n v k }
 {
-    if v == REACHED {
-        return k & n == k;
-    }
-    k & n == n
+    if v == REACHED { k & n == k } else { k & n == n }
 }
 
 // Says v of all choices that it settles.
@@ -48,12 +45,10 @@ fn mark(said: &mut [u8; CHOICES], total: usize, n: u32, v: u8)
     requires { (total ≤ 1024) × (length said.old ≡ 1024) }
     ensures { Marked n v total said.old said.new }
 {
-    let mut k = 0;
-    while k < total {
+    for k in 0..total {
         if settles(n, v, k as u32) {
             said[k] = v;
         }
-        k += 1;
     }
 }
 
@@ -70,11 +65,8 @@ fn reached(m: Model, l: Lines, n: u32, facts: &mut [u8]) -> bool
     ensures { Verdict (strike (program_of m) (numbered (listed l) n)) (question_of m) result × (length facts.new ≡ length facts.old) }
 {
     let chosen = strike_list::choose(l, n);
-    let lines = chosen.lines;
-    let count = chosen.count;
-    let struck = strike_model::strike(m, &lines[..count]);
-    let found = search::search(facts, struck);
-    found.reached
+    let struck = strike_model::strike(m, &chosen.lines[..chosen.count]);
+    search::search(facts, struck).reached
 }
 
 // Decides a choice, unless a decided one has settled it, and says what it settles.
@@ -95,17 +87,13 @@ fn climb(said: &mut [u8; CHOICES], total: usize, m: Model, l: Lines, n: u32, fac
     requires { Ready m l total said.old facts.old × (n < total) }
     ensures { Onward (program_of m) (question_of m) (listed l) total said.old said.new × (length facts.new ≡ length facts.old) }
 {
-    let lines = l.count;
     let mut top = n;
-    let mut i = 0;
-    while i < lines {
+    for i in 0..l.count {
         let next = top | (1 << i);
         decide(said, total, m, l, next, facts);
-        let at = next as usize;
-        if said[at] == REACHED {
+        if said[next as usize] == REACHED {
             top = next;
         }
-        i += 1;
     }
 }
 
@@ -128,10 +116,8 @@ fn complete(said: &mut [u8; CHOICES], total: usize, m: Model, l: Lines, facts: &
     ensures { Complete (program_of m) (question_of m) (listed l) total said.new }
 {
     decide(said, total, m, l, (total - 1) as u32, facts);
-    let mut n = 0;
-    while n < total {
+    for n in 0..total {
         settle(said, total, m, l, n as u32, facts);
-        n += 1;
     }
 }
 

@@ -41,15 +41,11 @@ fn reached(t: Table) -> u32
     requires { t.total ≤ 1024 }
     ensures { result ≡ ones t.said t.total }
 {
-    let said = t.said;
-    let total = t.total;
-    let mut n: u32 = 0;
-    let mut i = 0;
-    while i < total {
-        if said[i] == REACHED {
+    let mut n = 0;
+    for i in 0..t.total {
+        if t.said[i] == REACHED {
             n += 1;
         }
-        i += 1;
     }
     n
 }

@@ -1,22 +1,18 @@
 -- THE `ask` LINE of a text.
 use mathlib.Core.Path.{◌≡◌, refl, sym, ap, ◌∙◌, subst}
-use mathlib.Core.Logic.{⊎_elim}
-use mathlib.Core.Bool.{true, false}
 use mathlib.Core.List.{List, []}
+use mathlib.Core.Option.{none}
 use Prim.Native.Nat.{ℕ, ◌+◌, ◌≤◌, ◌<◌}
 use native.Mathlib.Numerals.{add-one}
 use native.Mathlib.Omega.{arith}
-use lib.Dec.{eqb}
 use lib.ListN.{length, take, drop, get_or, length-drop}
 use lib.Seq.{slice, length-take-le}
-use borrow.Author.Tests.{eqb-true, eqb-false}
 use Rattle.model.specs.Records.{program_of}
 use Rattle.model.specs.declared.Model.{Model}
 use Rattle.grammar.specs.Bytes.{Word, lines}
 use Rattle.grammar.specs.Shapes.{whole, form_of, ask_rest}
 use Rattle.grammar.specs.Models.{question_of}
 use Rattle.grammar.specs.Texts.{accepted, refused, finish}
-use Rattle.grammar.proofs.Tests.{either}
 use Rattle.text_names.specs.Names.{Valid, entry, declared_of}
 use Rattle.text_names.specs.declared.Declared.{Declared}
 use Rattle.text_names.proofs.Laws.{get_or-list_of, slice-prefix}
@@ -46,44 +42,36 @@ names_stand text d e m h v p q =
           ∙ slice-prefix text (get_or d.names i 0) (get_or d.names i 0 + get_or d.lengths i 0) e (inside i l)));
     }
 
-module _ {text : List ℕ} {at n e : ℕ} {d : Declared} {m : Model} (so : Reached text at n d m) (k : AskLine text at e) {f : Model} {r : Asked}
-    (a : AskEnd (declared_of (take e text) d) f (ask_rest (slice (at + 5) e text)) r) where
+module _ {text : List ℕ} {at n e : ℕ} {d : Declared} {m : Model} (so : Reached text at n d m) (k : AskLine text at e) where
   form : form_of (slice at e text) ≡ whole (ask_rest (slice (at + 5) e text))
   form = ask-line (slice at e text) k.word
 
-  pub ask-refused : (r.number ≡ 0 → ⊥) → onwards text at n d m ≡ refused r.number n
-  ask-refused z =
-      let D = declared_of (take e text) d in
-      let P = program_of m in
-      let ls = lines (drop (e + 1) text) in
-      let s = slice at e text in
-      onwards-line so k.line ∙ ⊎_elim
-      (λ (q : eqb r.number 3 ≡ true). let y = eqb-true r.number 3 q in rw y (reads-unshaped n D P ls s k.line.good (form ∙ a.missing y)))
-      (λ (q : eqb r.number 3 ≡ false).
-      let w = a.found (eqb-false r.number 3 q) in
-      rw (w.2 (length P)) (reads-faulty n D P ls s k.line.good _ (form ∙ w.1) (λ y. z (w.2 (length P) ∙ y))))
-      (either (eqb r.number 3))
+  pub ask-unshaped : whole (ask_rest (slice (at + 5) e text)) ≡ none → onwards text at n d m ≡ refused 3 n
+  ask-unshaped h = onwards-line so k.line ∙ reads-unshaped n (declared_of (take e text) d) (program_of m) (lines (drop (e + 1) text)) (slice at e text) k.line.good (form ∙ h)
 
-  module _ (z : r.number ≡ 0) where
-    abbrev found : r.number ≡ 3 → ⊥
-    found y = absurd (omega arith)
+  module _ {f : Model} {r : Asked} (a : AskEnd (declared_of (take e text) d) f (ask_rest (slice (at + 5) e text)) r) where
+    pub ask-refused : (r.number ≡ 0 → ⊥) → onwards text at n d m ≡ refused r.number n
+    ask-refused z =
+        let P = program_of m in
+        onwards-line so k.line
+        ∙ rw (a.number (length P)) (reads-faulty n (declared_of (take e text) d) P (lines (drop (e + 1) text)) (slice at e text) k.line.good _ (form ∙ a.reads) (λ y. z (a.number (length P) ∙ y)))
 
-    onwards-ask : onwards text at n d m ≡ finish n (accepted (declared_of (take e text) d) (program_of m) (question_of (declared_of (take e text) d) (a.found found).0)) (lines (drop (e + 1) text))
-    onwards-ask =
-        let w = a.found found in
-        onwards-line so k.line ∙ reads-ask n (declared_of (take e text) d) (program_of m) (lines (drop (e + 1) text)) (slice at e text) k.line.good w.0 (form ∙ w.1) (sym (w.2 (length (program_of m))) ∙ z)
+    module _ (z : r.number ≡ 0) where
+      onwards-ask : onwards text at n d m ≡ finish n (accepted (declared_of (take e text) d) (program_of m) (question_of (declared_of (take e text) d) a.qs)) (lines (drop (e + 1) text))
+      onwards-ask =
+          onwards-line so k.line ∙ reads-ask n (declared_of (take e text) d) (program_of m) (lines (drop (e + 1) text)) (slice at e text) k.line.good a.qs (form ∙ a.reads) (sym (a.number (length (program_of m))) ∙ z)
 
-    -- row 10
-    pub ask-followed : e + 1 < length text → onwards text at n d m ≡ refused 10 (n + 1)
-    unfolding finish
-    ask-followed h = let w = some-lines (drop (e + 1) text) (omega (arith, length-drop (e + 1) text)) in onwards-ask ∙ rw (w.2, add-one)
+      -- row 10
+      pub ask-followed : e + 1 < length text → onwards text at n d m ≡ refused 10 (n + 1)
+      unfolding finish
+      ask-followed h = let w = some-lines (drop (e + 1) text) (omega (arith, length-drop (e + 1) text)) in onwards-ask ∙ rw (w.2, add-one)
 
-    pub ask-last : length text ≤ e + 1 → f ≡ fitted m d n → Reads (onwards text at n d m) text (record { answer = Accepted; model = r.model })
-    unfolding finish
-    ask-last h y =
-        let g = subst (λ (x : Model). Asks (declared_of (take e text) d) x (a.found found).0 r.model) y ((a.found found).3 z) in
-        let v = valid-there so k.line in
-        let t = k.line.ends in
-        let gone : drop (e + 1) text ≡ [] = nothing text (e + 1) h in
-        let count : n ≡ length (lines text) = (let c = rw (k.line.read, gone) at so.number in omega arith) in
-        rw (onwards-ask, gone) (refl, rw (sym count) (represents (before d n so.holds v) g), names_stand text d e r.model (omega arith) v g.names g.lengths)
+      pub ask-last : length text ≤ e + 1 → f ≡ fitted m d n → Reads (onwards text at n d m) text (record { answer = Accepted; model = r.model })
+      unfolding finish
+      ask-last h y =
+          let g = subst (λ (x : Model). Asks (declared_of (take e text) d) x a.qs r.model) y (a.accepted z) in
+          let v = valid-there so k.line in
+          let t = k.line.ends in
+          let gone : drop (e + 1) text ≡ [] = nothing text (e + 1) h in
+          let count : n ≡ length (lines text) = (let c = rw (k.line.read, gone) at so.number in omega arith) in
+          rw (onwards-ask, gone) (refl, rw (sym count) (represents (before d n so.holds v) g), names_stand text d e r.model (omega arith) v g.names g.lengths)

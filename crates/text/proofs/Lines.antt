@@ -10,12 +10,12 @@ use native.Mathlib.Omega.{arith}
 use lib.Dec.{eqb}
 use lib.ListN.{length, take, drop}
 use lib.Seq.{slice}
-use borrow.Author.Tests.{eqb-true, eqb-false, lt-ltb, le-ltb, eq-eqb, ne_eqb}
+use borrow.Author.Tests.{lt-ltb, le-ltb, eq-eqb, ne_eqb}
 use Rattle.limits.specs.Limits as limit
 use Rattle.model.specs.Records.{program_of}
 use Rattle.model.specs.declared.Model.{Model}
 use Rattle.grammar.specs.Bytes.{bytes, Line, ended, unended, in_front, lines}
-use Rattle.grammar.specs.Shapes.{after, line, form_of}
+use Rattle.grammar.specs.Shapes.{after, line, whole, form_of}
 use Rattle.grammar.specs.Texts.{refused, read_lines, outcome}
 use Rattle.grammar.proofs.Tests.{either}
 use Rattle.text_names.specs.Names.{Valid, declared_of}
@@ -79,33 +79,28 @@ module _ {text : List ℕ} {at n : ℕ} {d : Declared} {m : Model} (so : Reached
     onwards-line = rw (declared-there, l.read)
 
     -- a line that is no `ask` line
+    pub line_unshaped : whole (line (slice at e text)) ≡ none → onwards text at n d m ≡ refused 3 n
+    unfolding form_of
+    line_unshaped h = onwards-line ∙ reads-unshaped n (declared_of (take e text) d) (program_of m) (lines (drop (e + 1) text)) (slice at e text) l.good h
+
     module _ {s : Step} (st : Stepped (take e text) d (program_of m) n (line (slice at e text)) s) where
       pub line_refused : (s.number ≡ 0 → ⊥) → onwards text at n d m ≡ refused s.number n
       unfolding form_of
       line_refused z =
-          let D = declared_of (take e text) d in
-          let ls = lines (drop (e + 1) text) in
-          onwards-line ∙ ⊎_elim
-          (λ (q : eqb s.number 3 ≡ true). let y = eqb-true s.number 3 q in rw y (reads-unshaped n D (program_of m) ls (slice at e text) l.good (st.missing y)))
-          (λ (q : eqb s.number 3 ≡ false). let w = st.found (eqb-false s.number 3 q) in rw w.2 (reads-faulty n D (program_of m) ls (slice at e text) l.good w.0 w.1 (λ y. z (w.2 ∙ y))))
-          (either (eqb s.number 3))
+          onwards-line ∙ rw st.number (reads-faulty n (declared_of (take e text) d) (program_of m) (lines (drop (e + 1) text)) (slice at e text) l.good st.form st.reads (λ y. z (st.number ∙ y)))
 
       module _ (z : s.number ≡ 0) where
-        abbrev found : s.number ≡ 3 → ⊥
-        found y = absurd (omega arith)
-
         pub onwards-on : after (bytes "(ask ") (slice at e text) ≡ none → onwards text at n d m ≡ onwards text (e + 1) (n + 1) s.declared s.model
         unfolding onwards form_of
         onwards-on a =
-            let w = st.found found in
-            let g = w.3 z in
+            let g = st.accepted z in
             let h = l.ends in
-            onwards-line ∙ reads_on n (declared_of (take e text) d) (program_of m) (lines (drop (e + 1) text)) (slice at e text) l.good w.0 (other-form (slice at e text) w.0 a w.1) w.1 (sym w.2 ∙ z)
+            onwards-line ∙ reads_on n (declared_of (take e text) d) (program_of m) (lines (drop (e + 1) text)) (slice at e text) l.good st.form (other-form (slice at e text) st.form a st.reads) st.reads (sym st.number ∙ z)
             ∙ rw (g.3.program, declared-longer text s.declared e (e + 1) (omega arith) (omega arith) g.0, g.2, add-one, add-one)
 
         pub reached-on : Aside m s.model → Reached text (e + 1) (n + 1) s.declared s.model
         reached-on a =
-            let g = (st.found found).3 z in
+            let g = st.accepted z in
             let h = l.ends in
             record {
               place = omega arith;

@@ -44,7 +44,9 @@ fn read_question(text: &[u8], at: usize, e: usize, d: Declared, m: Model, line: 
     ensures { Reads (onwards text.now at line d m) text.now result }
 {
     let f = text_opening::fit(m, d, line);
-    let r = text_ask::read_ask(&text[..e], d, at + 5, f);
+    let Some(r) = text_ask::read_ask(&text[..e], d, at + 5, f) else {
+        return refusal(3, line);
+    };
     if r.number != 0 {
         return refusal(r.number, line);
     }
@@ -75,7 +77,9 @@ fn read_lines(text: &[u8]) -> Reading
         if text_scan::at_bytes(&text[..e], at, b"(ask ") {
             return read_question(text, at, e, d, m, line);
         }
-        let s = text_lines::read_line(&text[..e], at, d, m, line);
+        let Some(s) = text_lines::read_line(&text[..e], at, d, m, line) else {
+            return refusal(3, line);
+        };
         if s.number != 0 {
             return refusal(s.number, line);
         }

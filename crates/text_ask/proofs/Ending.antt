@@ -4,7 +4,7 @@ use mathlib.Core.Logic.{◌⊎◌, ⊎_elim, inl, inr}
 use mathlib.Core.Bool.{Bool, true, false, not, ◌&&◌}
 use mathlib.Core.List.{List, [], ◌∷◌}
 use mathlib.Core.Option.{none}
-use Prim.Native.Nat.{ℕ, zero, suc, ◌≤◌, ◌<◌}
+use Prim.Native.Nat.{ℕ, zero, suc, ◌≤◌}
 use native.Mathlib.Omega.{arith}
 use lib.Dec.{eqb}
 use lib.ListN.{length, take, drop, get_or, replicate, length-map}
@@ -14,7 +14,7 @@ use Rattle.model.specs.Records as model
 use Rattle.model.specs.Records.{padded}
 use Rattle.model.specs.declared.Model.{Model}
 use Rattle.grammar.specs.Forms as forms
-use Rattle.grammar.specs.Shapes.{Read, stage, ask_rest, whole}
+use Rattle.grammar.specs.Shapes.{stage, ask_rest, whole, rest}
 use Rattle.grammar.specs.Declarations.{Declared, extend, place}
 use Rattle.grammar.specs.Rows.{lower, row, body_fault, supported, few, scope_fault, stages_fault, carried, carries_many, fault}
 use Rattle.grammar.specs.Models.{body_of}
@@ -23,7 +23,7 @@ use Rattle.grammar.proofs.Lower.{lower-first, lower-bound, lower-under}
 use Rattle.acceptance.proofs.Questions.{ask_words, carriers-words}
 use Rattle.text_literals.proofs.Adding.{body-bound}
 use Rattle.text_bodies.specs.declared.Body.{Body}
-use Rattle.text_clauses.proofs.Laws.{Row, lower-row, row-row, body-row, row-bound, whole-all, whole_part}
+use Rattle.text_clauses.proofs.Laws.{row-bound, whole-all, whole_part}
 use Rattle.text_carried.specs.Asking as asking
 use Rattle.text_carried.specs.Asking.{carriers_of}
 use Rattle.text_carried.specs.declared.Table.{Table}
@@ -31,10 +31,11 @@ use Rattle.text_carried.specs.declared.Carriers.{Carriers}
 use Rattle.text_carried.proofs.Stages.{marked-carried}
 use Rattle.text_stages.specs.Questions.{Empty, Stored, Holds, Added}
 use Rattle.text_stages.specs.declared.Asking.{Asking}
+use Rattle.text_bodies.specs.Bodies.{StageEnd}
 use Rattle.text_ask.specs.Asks.{StagesEnd, carrying, finished, Asks, AskEnd}
 use Rattle.text_ask.specs.declared.Stages.{Stages}
 use Rattle.text_ask.specs.declared.Asked.{Asked}
-use Rattle.text_ask.proofs.Laws.{Found}
+use Rattle.text_ask.proofs.Laws.{}
 
 -- NO STAGES
 unmarked : (n i : ℕ) → get_or (replicate n false) i false ≡ false
@@ -83,12 +84,6 @@ stages-bound D [] = omega arith
 stages-bound D (q ∷ qs) = lower-bound (lower (body_fault D q) (scope_fault [] q)) (stages_fault D qs) 9
     (lower-bound (body_fault D q) (scope_fault [] q) 9 (let u = body-bound D q in omega arith) (row-bound 9 (not (supported [] q && few [] q)) (omega arith))) (stages-bound D qs)
 
-stages-row : (D : Declared) (qs : List (List forms.Literal)) → Row (stages_fault D qs)
-unfolding stages_fault
-stages-row D [] = inl refl
-stages-row D (q ∷ qs) = lower-row (lower (body_fault D q) (scope_fault [] q)) (stages_fault D qs)
-    (lower-row (body_fault D q) (scope_fault [] q) (body-row D q) (row-row 9 (not (supported [] q && few [] q)) (omega arith))) (stages-row D qs)
-
 -- THE END: where rows 6 to 9 give no number, r has the carried variables
 module _ (s : Asking) {r : Carriers} (z : s.number ≡ 0) (e : r ≡ carriers_of s.table) where
   pub finish-many : r.many ≡ true → record { number = 11; model = s.model } ≡ finished s
@@ -116,10 +111,6 @@ module _ {text : List ℕ} {D : Declared} {m₀ : Model} {qs : List (List forms.
       high : (b : Bool) → (row 11 b ≡ 0) ⊎ (stages_fault D qs ≤ row 11 b)
       high true = inr (let u = stages-bound D qs in omega arith)
       high false = inl refl
-
-  pub finished-row : Row (finished s).number
-  unfolding fault
-  finished-row = rw (finished-number 0) (lower-row (stages_fault D qs) (row 11 (carries_many qs)) (stages-row D qs) (row-row 11 (carries_many qs) (omega arith)))
 
   module _ (empty : Empty m₀) (short : length qs ≤ 4) where
     asks : s.number ≡ 0 → Asks D m₀ qs (carrying s.model (carriers_of s.table).cells)
@@ -159,35 +150,30 @@ module _ {text : List ℕ} {D : Declared} {m₀ : Model} {qs : List (List forms.
         (either (eqb s.number 0))
 
 -- THE LINE
-pub no-ask : {D : Declared} {m₀ m : Model} {read : Read forms.Form} → whole read ≡ none → AskEnd D m₀ read (record { number = 3; model = m })
-no-ask h = record { missing = λ y. h; found = λ y. absurd (y refl) }
-
 pub ask-unopened : (text : List ℕ) (at : ℕ) → stage (drop at text) ≡ none → whole (ask_rest (drop at text)) ≡ none
 unfolding ask_rest
 ask-unopened text at h = rw h
 
-module _ {text : List ℕ} {D : Declared} {m : Model} {at : ℕ} {b : Body} {s f : Asking} {r : Stages} (first : Found text D at b) (start : Holds text D m [] s) (ad : Added text s b f) (others : StagesEnd text D b.end 3 f r) where
-  pub first-held : Holds text D m (first.0 ∷ []) f
-  first-held = ad.added D m [] first.0 (omega arith) start first.4
-
-  pub ask-unended : (r.end ≡ length text → ⊥) → whole (ask_rest (drop at text)) ≡ none
+module _ (text : List ℕ) (at : ℕ) {D : Declared} {b : Body} (first : StageEnd text D at b) where
+  pub ask-unread : rest stage 3 (drop b.end text) ≡ none → whole (ask_rest (drop at text)) ≡ none
   unfolding ask_rest
-  ask-unended z = ⊎_elim
-      (λ (q : eqb r.end 0 ≡ true). rw (first.3, others.missing (eqb-true r.end 0 q)))
-      (λ (q : eqb r.end 0 ≡ false). let w = others.found (eqb-false r.end 0 q) in rw (first.3, w.3) (whole_part (forms.ask_form (first.0 ∷ w.0)) text r.end (let y = w.1 in omega arith)))
-      (either (eqb r.end 0))
+  ask-unread h = rw (first.read, h)
 
-  pub ask-ended : {g : Asked} → Empty m → 0 < length text → r.end ≡ length text → g ≡ finished r.asking → AskEnd D m (ask_rest (drop at text)) g
-  unfolding ask_rest
-  ask-ended empty long z e =
-      let w = others.found (λ y. absurd (omega arith)) in
-      let so : Holds text D m (first.0 ∷ w.0) r.asking = w.4 m (first.0 ∷ []) (let l = w.2 in omega arith) first-held in
-      rw e (record {
-        missing = λ y. absurd (⊎_elim (λ (k : (finished r.asking).number ≡ 0). absurd (omega arith)) (λ (k : 4 ≤ (finished r.asking).number). absurd (omega arith)) (finished-row so));
-        found = λ y. (
-          first.0 ∷ w.0,
-          rw (first.3, w.3) (whole-all (forms.ask_form (first.0 ∷ w.0)) text r.end (omega arith)),
-          finished-number so,
-          finished-asks so empty (let l = w.2 in omega arith),
-        );
-      })
+  module _ {m : Model} {s f : Asking} {r : Stages} (start : Holds text D m [] s) (ad : Added text s b f) (others : StagesEnd text D b.end 3 f r) where
+    first-held : Holds text D m (first.q ∷ []) f
+    first-held = ad.added D m [] first.q (omega arith) start first.holds
+
+    pub ask-unended : (r.end ≡ length text → ⊥) → whole (ask_rest (drop at text)) ≡ none
+    unfolding ask_rest
+    ask-unended z = rw (first.read, others.read) (whole_part (forms.ask_form (first.q ∷ others.more)) text r.end (let y = others.ends in omega arith))
+
+    pub ask-ended : {g : Asked} → Empty m → r.end ≡ length text → g ≡ finished r.asking → AskEnd D m (ask_rest (drop at text)) g
+    unfolding ask_rest
+    ask-ended empty z e =
+        let so : Holds text D m (first.q ∷ others.more) r.asking = others.holds m (first.q ∷ []) (let l = others.few in omega arith) first-held in
+        rw e (record {
+          qs = first.q ∷ others.more;
+          reads = rw (first.read, others.read) (whole-all (forms.ask_form (first.q ∷ others.more)) text r.end (omega arith));
+          number = finished-number so;
+          accepted = finished-asks so empty (let l = others.few in omega arith);
+        })

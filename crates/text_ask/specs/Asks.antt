@@ -1,6 +1,6 @@
 -- What the reader of the `ask` line finds.
 use Rattle.std.specs.Prelude.{◌≡◌, cond, List, ◌++◌, ℕ, ◌+◌, ◌≤◌, ◌<◌, eqb, length, drop}
-use Rattle.std.proofs.Math.Option.{none, some}
+use Rattle.std.proofs.Math.Option.{some}
 use Rattle.limits.specs.Limits as limit
 use Rattle.semantics.specs.Models.{carriers}
 use Rattle.model.specs.Records as model
@@ -25,9 +25,11 @@ Extends text D s more r = (m : Model) (qs : List (List forms.Literal)) → lengt
 
 -- at most n stages, added to those of s
 pub record StagesEnd (text : List ℕ) (D : Declared) (at n : ℕ) (s : Asking) (r : Stages) : Type 0 where
-  pub found : (r.end ≡ 0 → ⊥)
-      → (more : List (List forms.Literal)) × (r.end ≤ length text) × (length more ≤ n) × (rest stage n (drop at text) ≡ some (more, drop r.end text)) × Extends text D s more r.asking
-  pub missing : r.end ≡ 0 → rest stage n (drop at text) ≡ none
+  pub more : List (List forms.Literal)
+  pub ends : r.end ≤ length text
+  pub few : length more ≤ n
+  pub read : rest stage n (drop at text) ≡ some (more, drop r.end text)
+  pub holds : Extends text D s more r.asking
 
 -- the record with the carried variables in their cells
 abbrev pub carrying : Model → List ℕ → Model
@@ -71,6 +73,7 @@ pub record Asks (D : Declared) (m₀ : Model) (qs : List (List forms.Literal)) (
 
 -- the `ask` line that is read, after the declarations D
 pub record AskEnd (D : Declared) (m₀ : Model) (read : Read forms.Form) (r : Asked) : Type 0 where
-  pub missing : r.number ≡ 3 → whole read ≡ none
-  pub found : (r.number ≡ 3 → ⊥)
-      → (qs : List (List forms.Literal)) × (whole read ≡ some (forms.ask_form qs)) × ((clauses : ℕ) → r.number ≡ fault D clauses (forms.ask_form qs)) × (r.number ≡ 0 → Asks D m₀ qs r.model)
+  pub qs : List (List forms.Literal)
+  pub reads : whole read ≡ some (forms.ask_form qs)
+  pub number : (clauses : ℕ) → r.number ≡ fault D clauses (forms.ask_form qs)
+  pub accepted : r.number ≡ 0 → Asks D m₀ qs r.model

@@ -1,10 +1,11 @@
 // The `ask` line after its first word.
 #![tactic(auto)]
 
-ghost use Rattle.std.specs.Prelude.{◌≡◌, List, ◌+◌, ◌≤◌, ◌<◌, length, drop};
+ghost use Rattle.std.specs.Prelude.{◌≡◌, List, ◌+◌, ◌≤◌, ◌<◌, length, drop, MatchOption};
+ghost use Rattle.std.proofs.Math.Option.{none};
 ghost use Rattle.limits.specs.Limits as limit;
 ghost use Rattle.grammar.specs.Forms as forms;
-ghost use Rattle.grammar.specs.Shapes.{ask_rest};
+ghost use Rattle.grammar.specs.Shapes.{rest, stage, ask_rest, whole};
 ghost use Rattle.text_names.specs.Names as names;
 ghost use Rattle.model.specs.declared.Model as models;
 ghost use Rattle.text_stages.specs.Questions as questions;
@@ -18,14 +19,14 @@ use text_stages::Asking;
 // The stages of a question behind its first.
 const FURTHER: usize = STAGES - 1;
 
-// The stages, and where they end: 0 if they do not.
+// The stages, and where they end.
 #[derive(Clone, Copy)]
 pub struct Stages {
     pub asking: Asking,
     pub end: usize,
 }
 
-// The `ask` line: its row number, 3 if it has no shape and 0 if it is accepted, and then the record with its stages.
+// The `ask` line: its row number, 0 if it is accepted, and then the record with its stages.
 #[derive(Clone, Copy)]
 pub struct Asked {
     pub number: u32,
@@ -33,40 +34,28 @@ pub struct Asked {
 }
 
 // At most n stages, each after a space, up to the closing bracket, are added to those before.
-fn read_stages(text: &[u8], d: Declared, at: usize, s: Asking, n: usize) -> Stages
+fn read_stages(text: &[u8], d: Declared, at: usize, s: Asking, n: usize) -> Option<Stages>
     requires { (at ≤ length text.now) × (length text.now < 4294967296) × names.Valid text.now d
         × ((m : models.Model) × (qs : List (List forms.Literal)) × (length qs + n ≤ limit.stages) × questions.Holds text.now (names.declared_of text.now d) m qs s) }
-    ensures { StagesEnd text.now (names.declared_of text.now d) at n s result }
+    ensures { MatchOption result (rest stage n (drop at text.now) ≡ none) (StagesEnd text.now (names.declared_of text.now d) at n s) }
 {
-    let mut g = s;
+    let mut asking = s;
     let mut i = at;
-    let mut k = n;
-    while 0 < k {
-        if text_scan::at_byte(text, i, 41) {
-            return Stages {
-                asking: g,
-                end: i + 1,
-            };
+    for _ in 0..n {
+        if text_scan::at_byte(text, i, b')') {
+            return Some(Stages { asking, end: i + 1 });
         }
-        if text_scan::at_byte(text, i, 32) {
-            let b = text_bodies::read_stage(text, d, i + 1);
-            if b.end == 0 {
-                return Stages { asking: g, end: 0 };
-            }
-            g = text_stages::add(text, g, b);
-            i = b.end;
-            k -= 1;
-        } else {
-            return Stages { asking: g, end: 0 };
+        if !text_scan::at_byte(text, i, b' ') {
+            return None;
         }
+        let b = text_bodies::read_stage(text, d, i + 1)?;
+        asking = text_stages::add(text, asking, b);
+        i = b.end;
     }
-    if text_scan::at_byte(text, i, 41) {
-        return Stages {
-            asking: g,
-            end: i + 1,
-        };
+    if !text_scan::at_byte(text, i, b')') {
+        return None;
     }
-    Stages { asking: g, end: 0 }
+    Some(Stages { asking, end: i + 1 })
 }
 
 // Row 11 after rows 6 to 9, and the carried variables.
@@ -97,32 +86,22 @@ fn finish(s: Asking) -> Asked
 }
 
 // `(ask (L ..) (L ..))`, in a record without stages.
-pub fn read_ask(text: &[u8], d: Declared, at: usize, m: Model) -> Asked
+pub fn read_ask(text: &[u8], d: Declared, at: usize, m: Model) -> Option<Asked>
     requires { (at ≤ length text.now) × (0 < at) × (length text.now < 4294967296) × names.Valid text.now d × questions.Empty m }
-    ensures { AskEnd (names.declared_of text.now d) m (ask_rest (drop at text.now)) result }
+    ensures { MatchOption result (whole (ask_rest (drop at text.now)) ≡ none) (AskEnd (names.declared_of text.now d) m (ask_rest (drop at text.now))) }
 {
-    let b = text_bodies::read_stage(text, d, at);
-    let e = b.end;
-    if e == 0 {
-        return Asked {
-            number: 3,
-            model: m,
-        };
-    }
-    let t = text_carried::none();
+    let b = text_bodies::read_stage(text, d, at)?;
+    let table = text_carried::none();
     let s = Asking {
         number: 0,
-        table: t,
+        table,
         model: m,
     };
     let f = text_stages::add(text, s, b);
-    let r = read_stages(text, d, e, f, FURTHER);
-    if r.end == text.len() {
-        let g = r.asking;
-        return finish(g);
+    let r = read_stages(text, d, b.end, f, FURTHER)?;
+    if r.end != text.len() {
+        return None;
     }
-    Asked {
-        number: 3,
-        model: m,
-    }
+    let g = r.asking;
+    Some(finish(g))
 }

@@ -52,17 +52,14 @@ fn find(text: &[u8], t: Table, a: usize, e: usize) -> usize
     requires { Valid text.now t × (a ≤ e) × (e ≤ length text.now) }
     ensures { result ≡ place (known_of text.now t) (slice a e text.now) }
 {
-    let n = t.count;
-    let mut i = 0;
-    while i < n {
+    for i in 0..t.count {
         let b = t.starts[i];
         let z = t.ends[i];
         if text_scan::same_words(&text[a..e], &text[b..z]) {
             return i;
         }
-        i += 1;
     }
-    i
+    t.count
 }
 
 // The variable of that number stands from a to e, in one stage more.
@@ -85,17 +82,14 @@ pub fn number(text: &[u8], t: Table, s: Scope) -> Numbering
     requires { scopes.Valid text.now s × (t.count + s.count ≤ limit.asked) × ((ws : List Word) × Holds text.now t ws) }
     ensures { Numbers text.now t (scopes.known_of text.now s) result }
 {
-    let n = s.count;
     let mut u = t;
     let mut numbers = [0u32; VARIABLES];
-    let mut j = 0;
-    while j < n {
+    for j in 0..s.count {
         let a = s.starts[j];
         let e = s.ends[j];
         let i = find(text, u, a, e);
         u = meet(u, i, a, e);
         numbers[j] = i as u32;
-        j += 1;
     }
     Numbering { table: u, numbers }
 }
@@ -106,8 +100,7 @@ pub fn carried(t: Table) -> Carriers
 {
     let mut cells = [NONE; CARRIED];
     let mut found = 0;
-    let mut i = 0;
-    while i < ASKED {
+    for i in 0..ASKED {
         let again = t.again[i];
         if again {
             if found == CARRIED {
@@ -116,7 +109,6 @@ pub fn carried(t: Table) -> Carriers
             cells[found] = i as u32;
             found += 1;
         }
-        i += 1;
     }
     Carriers { cells, many: false }
 }

@@ -15,11 +15,11 @@ use borrow.Author.Tests.{eqb-true, eqb-false, eq-eqb, ne_eqb, le-leb, lt-leb, le
 use Rattle.limits.specs.Limits as limit
 use Rattle.grammar.specs.Bytes.{bytes, Word}
 use Rattle.grammar.specs.Forms as forms
-use Rattle.grammar.specs.Shapes.{Read, after, name, arity, state_rest, rel_rest, whole}
+use Rattle.grammar.specs.Shapes.{after, name, arity, state_rest, rel_rest, whole}
 use Rattle.grammar.specs.Models.{declare}
 use Rattle.grammar.specs.Declarations as grammar
 use Rattle.grammar.specs.Declarations.{lookup, count}
-use Rattle.grammar.specs.Rows.{lower, row, again, many_states, many_relations, fault}
+use Rattle.grammar.specs.Rows.{lower, row, again, fault}
 use Rattle.grammar.proofs.Tests.{either}
 use Rattle.text_scan.proofs.Laws.{next, nothing}
 use Rattle.text_names.specs.Names.{found, declared_of, Valid, tally, added}
@@ -27,7 +27,6 @@ use Rattle.text_names.specs.declared.Declared.{Declared}
 use Rattle.text_names.proofs.Laws.{declared-added, valid-added, tally-count}
 use Rattle.text_clauses.proofs.Laws.{whole-all, whole_part}
 use Rattle.text_declarations.specs.Declares.{Limited, state_number, rel_number, Entered, DeclarationEnd, ArityAt}
-use Rattle.text_declarations.specs.declared.Declaration.{Declaration}
 
 -- NUMBERS
 crowded : (b : Bool) → lower 4 (row 5 b) ≡ 4
@@ -145,18 +144,7 @@ limited-rel d name len n c l few h k =
     let m = bumps (n + 1) (omega arith) in
     limited-added d name len (n + 1) c l few (omega arith) (omega (arith, l.states)) (omega arith)
 
--- the number of a declaration is not 3
-not_three : (a b : Bool) → lower (row 4 a) (row 5 b) ≡ 3 → ⊥
-unfolding lower
-not_three true true x = omega arith
-not_three true false x = omega arith
-not_three false true x = omega arith
-not_three false false x = omega arith
-
 -- THE END OF A DECLARATION
-pub unshaped : {text : List ℕ} {d : Declared} {read : Read forms.Form} {r : Declaration} → r.number ≡ 3 → whole read ≡ none → DeclarationEnd text d read r
-unshaped z h = record { missing = λ y. h; found = λ y. absurd (y z) }
-
 module _ (text : List ℕ) (d : Declared) (at e : ℕ) (h : name (drop at text) ≡ some (slice at e text, drop e text)) (k : after (bytes ")") (drop e text) ≡ some (drop (e + 1) text)) where
   abbrev w : Word
   w = slice at e text
@@ -165,8 +153,8 @@ module _ (text : List ℕ) (d : Declared) (at e : ℕ) (h : name (drop at text) 
   unfolding state_rest
   state-reads = rw (h, k)
 
-  pub state-part : {r : Declaration} → r.number ≡ 3 → e < length text → (e + 1 ≡ length text → ⊥) → DeclarationEnd text d (state_rest (drop at text)) r
-  state-part z l q = unshaped z (rw state-reads (whole_part (forms.state_form w) text (e + 1) (omega arith)))
+  pub state-part : e < length text → (e + 1 ≡ length text → ⊥) → whole (state_rest (drop at text)) ≡ none
+  state-part l q = rw state-reads (whole_part (forms.state_form w) text (e + 1) (omega arith))
 
   module _ (q : e + 1 ≡ length text) where
     state-whole : whole (state_rest (drop at text)) ≡ some (forms.state_form w)
@@ -175,8 +163,10 @@ module _ (text : List ℕ) (d : Declared) (at e : ℕ) (h : name (drop at text) 
     pub state-faulty : {number : ℕ} {r : Declared} → number ≡ state_number (declared_of text d) w → (number ≡ 0 → ⊥) → DeclarationEnd text d (state_rest (drop at text)) (record { number = number; declared = r })
     unfolding state_number fault
     state-faulty z y = record {
-      missing = λ x. absurd (not_three (many_states (declared_of text d)) (again (lookup w (declared_of text d))) (sym z ∙ x));
-      found = λ x. (forms.state_form w, state-whole, (λ c. z), λ n. absurd (y n));
+      form = forms.state_form w;
+      reads = state-whole;
+      number = λ c. z;
+      accepted = λ n. absurd (y n);
     }
 
     pub state-added : {r : Declared} → Valid text d → Limited d → at ≤ e → e ≤ length text → state_number (declared_of text d) w ≡ 0 → tally 0 d.codes d.count < limit.states → Entered d at e 0 r
@@ -184,16 +174,13 @@ module _ (text : List ℕ) (d : Declared) (at e : ℕ) (h : name (drop at text) 
     unfolding state_number fault declare
     state-added v l b c z f en = let few = room text d at e v l b c (inl f) in
         record {
-          missing = λ x. absurd (omega arith);
-          found = λ x. (
-            forms.state_form w,
-            state-whole,
-            (λ cl. sym z),
-            λ n. (
-              rw en (entered-valid text d at e v l b c 0 few (omega arith)),
-              rw en (limited-state d at (e - at) v.codes l few f),
-              rw en (entered-names text d at e v l b c 0 few ∙ rw (tally-count text d 0) (let y : 32 * 0 + tally 0 d.codes d.count ≡ tally 0 d.codes d.count = omega arith in rw y)),
-            ),
+          form = forms.state_form w;
+          reads = state-whole;
+          number = λ cl. sym z;
+          accepted = λ n. (
+            rw en (entered-valid text d at e v l b c 0 few (omega arith)),
+            rw en (limited-state d at (e - at) v.codes l few f),
+            rw en (entered-names text d at e v l b c 0 few ∙ rw (tally-count text d 0) (let y : 32 * 0 + tally 0 d.codes d.count ≡ tally 0 d.codes d.count = omega arith in rw y)),
           );
         }
 
@@ -205,21 +192,22 @@ state-few text d u z = ⊎_elim
     (λ (q : leb limit.states (count 0 (declared_of text d)) ≡ false). let y = leb-false limit.states (count 0 (declared_of text d)) q in omega (arith, tally-count text d 0)) (either (leb limit.states (count 0 (declared_of text d))))
 
 -- THE ARITY
-module _ {text : List ℕ} {at : ℕ} where
-  pub arity-past : length text ≤ at → ArityAt text at 3
-  arity-past h = record { missing = λ z. rw (nothing text at h); found = λ z. absurd (z refl) }
+module _ (text : List ℕ) (at : ℕ) where
+  pub arity-past : length text ≤ at → arity (drop at text) ≡ none
+  arity-past h = rw (nothing text at h)
 
   module _ (h : at < length text) where
-    pub arity-low : get_or text at 0 < 48 → ArityAt text at 3
-    arity-low k = record { missing = λ z. rw (next text at h, lt-leb 48 (get_or text at 0) k); found = λ z. absurd (z refl) }
+    pub arity-low : get_or text at 0 < 48 → arity (drop at text) ≡ none
+    arity-low k = rw (next text at h, lt-leb 48 (get_or text at 0) k)
 
-    pub arity-high : 50 < get_or text at 0 → ArityAt text at 3
-    arity-high k = record { missing = λ z. rw (next text at h, le-leb 48 (get_or text at 0) (omega arith), lt-leb (get_or text at 0) 50 k); found = λ z. absurd (z refl) }
+    pub arity-high : 48 ≤ get_or text at 0 → 50 < get_or text at 0 → arity (drop at text) ≡ none
+    arity-high l k = rw (next text at h, le-leb 48 (get_or text at 0) l, lt-leb (get_or text at 0) 50 k)
 
     pub arity-found : 48 ≤ get_or text at 0 → get_or text at 0 ≤ 50 → ArityAt text at (get_or text at 0 - 48)
     arity-found k l = record {
-      missing = λ z. absurd (omega arith);
-      found = λ z. (omega arith, h, rw (next text at h, le-leb 48 (get_or text at 0) k, le-leb (get_or text at 0) 50 l));
+      small = omega arith;
+      within = h;
+      read = rw (next text at h, le-leb 48 (get_or text at 0) k, le-leb (get_or text at 0) 50 l);
     }
 
 -- `rel`
@@ -239,17 +227,17 @@ module _ (text : List ℕ) (d : Declared) (at e n : ℕ) (h : name (drop at text
   shift : e + 1 + 1 ≡ e + 2
   shift = omega arith
 
-  pub rel-unclosed : {r : Declaration} → r.number ≡ 3 → after (bytes ")") (drop (e + 2) text) ≡ none → DeclarationEnd text d (rel_rest (drop at text)) r
+  pub rel-unclosed : after (bytes ")") (drop (e + 2) text) ≡ none → whole (rel_rest (drop at text)) ≡ none
   unfolding rel_rest
-  rel-unclosed z b = unshaped z (rw (h, k, a, shift, b))
+  rel-unclosed b = rw (h, k, a, shift, b)
 
   module _ (b : after (bytes ")") (drop (e + 2) text) ≡ some (drop (e + 2 + 1) text)) where
     rel-reads : rel_rest (drop at text) ≡ some (forms.rel_form v n, drop (e + 3) text)
     unfolding rel_rest
     rel-reads = let z : e + 2 + 1 ≡ e + 3 = omega arith in rw (h, k, a, shift, b, z)
 
-    pub rel-part : {r : Declaration} → r.number ≡ 3 → e + 2 < length text → (e + 3 ≡ length text → ⊥) → DeclarationEnd text d (rel_rest (drop at text)) r
-    rel-part z l q = unshaped z (rw rel-reads (whole_part (forms.rel_form v n) text (e + 3) (omega arith)))
+    pub rel-part : e + 2 < length text → (e + 3 ≡ length text → ⊥) → whole (rel_rest (drop at text)) ≡ none
+    rel-part l q = rw rel-reads (whole_part (forms.rel_form v n) text (e + 3) (omega arith))
 
     module _ (q : e + 3 ≡ length text) where
       rel-whole : whole (rel_rest (drop at text)) ≡ some (forms.rel_form v n)
@@ -258,8 +246,10 @@ module _ (text : List ℕ) (d : Declared) (at e n : ℕ) (h : name (drop at text
       pub rel-faulty : {number : ℕ} {r : Declared} → number ≡ rel_number (declared_of text d) v n → (number ≡ 0 → ⊥) → DeclarationEnd text d (rel_rest (drop at text)) (record { number = number; declared = r })
       unfolding rel_number fault
       rel-faulty z y = record {
-        missing = λ x. absurd (not_three (many_relations (declared_of text d) n) (again (lookup v (declared_of text d))) (sym z ∙ x));
-        found = λ x. (forms.rel_form v n, rel-whole, (λ c. z), λ m. absurd (y m));
+        form = forms.rel_form v n;
+        reads = rel-whole;
+        number = λ c. z;
+        accepted = λ m. absurd (y m);
       }
 
       pub rel-added : {r : Declared} → n ≤ 2 → Valid text d → Limited d → at ≤ e → e ≤ length text → rel_number (declared_of text d) v n ≡ 0
@@ -268,15 +258,12 @@ module _ (text : List ℕ) (d : Declared) (at e n : ℕ) (h : name (drop at text
       unfolding rel_number fault declare
       rel-added m vd l b' c z f en = let few = room text d at e vd l b' c (inr f) in
           record {
-            missing = λ x. absurd (omega arith);
-            found = λ x. (
-              forms.rel_form v n,
-              rel-whole,
-              (λ cl. sym z),
-              λ y. (
-                rw en (entered-valid text d at e vd l b' c (n + 1) few (omega arith)),
-                rw en (limited-rel d at (e - at) n vd.codes l few m f),
-                rw en (entered-names text d at e vd l b' c (n + 1) few ∙ rw (tally-count text d (n + 1))),
-              ),
+            form = forms.rel_form v n;
+            reads = rel-whole;
+            number = λ cl. sym z;
+            accepted = λ y. (
+              rw en (entered-valid text d at e vd l b' c (n + 1) few (omega arith)),
+              rw en (limited-rel d at (e - at) n vd.codes l few m f),
+              rw en (entered-names text d at e vd l b' c (n + 1) few ∙ rw (tally-count text d (n + 1))),
             );
           }

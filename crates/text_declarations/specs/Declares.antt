@@ -1,6 +1,6 @@
 -- What the readers of declarations find.
 use Rattle.std.specs.Prelude.{◌≡◌, List, ℕ, ◌+◌, ◌*◌, ◌-◌, ◌≤◌, ◌<◌, length, drop}
-use Rattle.std.proofs.Math.Option.{none, some}
+use Rattle.std.proofs.Math.Option.{some}
 use Rattle.limits.specs.Limits as limit
 use Rattle.grammar.specs.Bytes.{Word}
 use Rattle.grammar.specs.Forms as forms
@@ -31,11 +31,13 @@ Entered d a e k r = r ≡ added d a (e - a) (32 * k + tally k d.codes d.count)
 
 -- the declaration that is read, after the declarations d
 pub record DeclarationEnd (text : List ℕ) (d : Declared) (read : Read forms.Form) (r : Declaration) : Type 0 where
-  pub missing : r.number ≡ 3 → whole read ≡ none
-  pub found : (r.number ≡ 3 → ⊥) → (f : forms.Form) × (whole read ≡ some f) × ((clauses : ℕ) → r.number ≡ fault (declared_of text d) clauses f)
-      × (r.number ≡ 0 → Valid text r.declared × Limited r.declared × (declared_of text r.declared ≡ declare (declared_of text d) f))
+  pub form : forms.Form
+  pub reads : whole read ≡ some form
+  pub number : (clauses : ℕ) → r.number ≡ fault (declared_of text d) clauses form
+  pub accepted : r.number ≡ 0 → Valid text r.declared × Limited r.declared × (declared_of text r.declared ≡ declare (declared_of text d) form)
 
--- the arity that is next; 3 if there is none
+-- the arity that is next
 pub record ArityAt (text : List ℕ) (at r : ℕ) : Type 0 where
-  pub missing : r ≡ 3 → arity (drop at text) ≡ none
-  pub found : (r ≡ 3 → ⊥) → (r ≤ 2) × (at < length text) × (arity (drop at text) ≡ some (r, drop (at + 1) text))
+  pub small : r ≤ 2
+  pub within : at < length text
+  pub read : arity (drop at text) ≡ some (r, drop (at + 1) text)

@@ -1,17 +1,18 @@
 // The declarations of the bracket text: `state` and `rel` lines after their first word.
 #![tactic(auto)]
 
-ghost use Rattle.std.specs.Prelude.{◌≡◌, ◌+◌, ◌≤◌, ◌<◌, length, drop};
+ghost use Rattle.std.specs.Prelude.{◌≡◌, ◌+◌, ◌≤◌, ◌<◌, length, drop, MatchOption};
+ghost use Rattle.std.proofs.Math.Option.{none};
 ghost use Rattle.std.proofs.Math.Seq.{slice};
 ghost use Rattle.limits.specs.Limits as limit;
-ghost use Rattle.grammar.specs.Shapes.{state_rest, rel_rest};
+ghost use Rattle.grammar.specs.Shapes.{arity, state_rest, rel_rest, whole};
 ghost use Rattle.text_names.specs.Names as names;
 ghost use Rattle.text_declarations.specs.Declares.{Limited, state_number, rel_number, Entered, ArityAt, DeclarationEnd};
 
 use limits::{PAIRS, RELS, STATES};
 use text_names::Declared;
 
-// A declaration: its row number, 3 if it has no shape and 0 if it is accepted, and the declared names with it.
+// A declaration: its row number, 0 if it is accepted, and the declared names with it.
 #[derive(Clone, Copy)]
 pub struct Declaration {
     pub number: u32,
@@ -43,10 +44,8 @@ fn rel_number(text: &[u8], d: Declared, a: usize, e: usize, n: u32) -> u32
     if RELS <= nullary + single + pairs {
         return 4;
     }
-    if n == 2 {
-        if PAIRS <= pairs {
-            return 4;
-        }
+    if n == 2 && PAIRS <= pairs {
+        return 4;
     }
     if text_names::find(text, d, a, e) == text_names::UNDECLARED {
         return 0;
@@ -63,108 +62,71 @@ fn enter(d: Declared, a: usize, e: usize, class: u32) -> Declared
     text_names::add(d, a as u32, (e - a) as u32, 32 * class + index as u32)
 }
 
-// The arity that is next, or 3.
-fn arity_at(text: &[u8], at: usize) -> u32
-    ensures { ArityAt text.now at result }
+// The arity that is next.
+fn arity_at(text: &[u8], at: usize) -> Option<u32>
+    ensures { MatchOption result (arity (drop at text.now) ≡ none) (ArityAt text.now at) }
 {
     if text.len() <= at {
-        return 3;
+        return None;
     }
-    let b = text[at];
-    if b < 48 {
-        return 3;
+    match text[at] {
+        b @ b'0'..=b'2' => Some((b - b'0') as u32),
+        _ => None,
     }
-    if 50 < b {
-        return 3;
-    }
-    (b - 48) as u32
 }
 
 // `(state A)`.
-pub fn read_state(text: &[u8], d: Declared, at: usize) -> Declaration
+pub fn read_state(text: &[u8], d: Declared, at: usize) -> Option<Declaration>
     requires { (at ≤ length text.now) × (length text.now < 4294967296) × names.Valid text.now d × Limited d }
-    ensures { DeclarationEnd text.now d (state_rest (drop at text.now)) result }
+    ensures { MatchOption result (whole (state_rest (drop at text.now)) ≡ none) (DeclarationEnd text.now d (state_rest (drop at text.now))) }
 {
-    let e = text_scan::name_end(text, at);
-    if e == 0 {
-        return Declaration {
-            number: 3,
+    let e = text_scan::name_end(text, at)?;
+    if !text_scan::at_byte(text, e, b')') {
+        return None;
+    }
+    if e + 1 != text.len() {
+        return None;
+    }
+    let number = state_number(text, d, at, e);
+    if number != 0 {
+        return Some(Declaration {
+            number,
             declared: d,
-        };
+        });
     }
-    if text_scan::at_byte(text, e, 41) {
-        if e + 1 == text.len() {
-            let number = state_number(text, d, at, e);
-            if number != 0 {
-                return Declaration {
-                    number,
-                    declared: d,
-                };
-            }
-            let r = enter(d, at, e, 0);
-            return Declaration {
-                number: 0,
-                declared: r,
-            };
-        }
-        return Declaration {
-            number: 3,
-            declared: d,
-        };
-    }
-    Declaration {
-        number: 3,
-        declared: d,
-    }
+    let r = enter(d, at, e, 0);
+    Some(Declaration {
+        number: 0,
+        declared: r,
+    })
 }
 
 // `(rel R n)`.
-pub fn read_rel(text: &[u8], d: Declared, at: usize) -> Declaration
+pub fn read_rel(text: &[u8], d: Declared, at: usize) -> Option<Declaration>
     requires { (at ≤ length text.now) × (length text.now < 4294967296) × names.Valid text.now d × Limited d }
-    ensures { DeclarationEnd text.now d (rel_rest (drop at text.now)) result }
+    ensures { MatchOption result (whole (rel_rest (drop at text.now)) ≡ none) (DeclarationEnd text.now d (rel_rest (drop at text.now))) }
 {
-    let e = text_scan::name_end(text, at);
-    if e == 0 {
-        return Declaration {
-            number: 3,
+    let e = text_scan::name_end(text, at)?;
+    if !text_scan::at_byte(text, e, b' ') {
+        return None;
+    }
+    let n = arity_at(text, e + 1)?;
+    if !text_scan::at_byte(text, e + 2, b')') {
+        return None;
+    }
+    if e + 3 != text.len() {
+        return None;
+    }
+    let number = rel_number(text, d, at, e, n);
+    if number != 0 {
+        return Some(Declaration {
+            number,
             declared: d,
-        };
+        });
     }
-    if text_scan::at_byte(text, e, 32) {
-        let n = arity_at(text, e + 1);
-        if n == 3 {
-            return Declaration {
-                number: 3,
-                declared: d,
-            };
-        }
-        if text_scan::at_byte(text, e + 2, 41) {
-            if e + 3 == text.len() {
-                let number = rel_number(text, d, at, e, n);
-                if number != 0 {
-                    return Declaration {
-                        number,
-                        declared: d,
-                    };
-                }
-                let r = enter(d, at, e, n + 1);
-                return Declaration {
-                    number: 0,
-                    declared: r,
-                };
-            }
-            return Declaration {
-                number: 3,
-                declared: d,
-            };
-        }
-        return Declaration {
-            number: 3,
-            declared: d,
-        };
-    }
-    Declaration {
-        number: 3,
-        declared: d,
-    }
+    let r = enter(d, at, e, n + 1);
+    Some(Declaration {
+        number: 0,
+        declared: r,
+    })
 }

@@ -33,7 +33,7 @@ use Rattle.text_clauses.specs.declared.Reading.{Reading}
 use Rattle.text_record.specs.Stored as stored
 use Rattle.text_record.specs.Stored.{with_clause}
 use Rattle.text_record.proofs.Laws.{stored-room, stored as stored-law}
-use Rattle.text_lines.specs.Lines.{Stepped, Aside, LineEnd}
+use Rattle.text_lines.specs.Lines.{declaring, Stepped, Aside, LineEnd}
 use Rattle.text_lines.specs.declared.Step.{Step}
 use Rattle.text_lines.proofs.Forms.{Only, state-only, rel-only}
 
@@ -57,29 +57,28 @@ module _ {text : List ℕ} {d : Declared} {m : Model} {P : Program} (n : ℕ) {r
     (c : ClauseEnd text (declared_of text d) m.clausecount read r) where
   pub clause-refused : (r.number ≡ 0 → ⊥) → Stepped text d P n read (record { number = r.number; declared = d; model = m })
   clause-refused z = record {
-    missing = λ y. c.missing y;
-    found = λ y. let w = c.found y in (w.0, w.1, w.2 ∙ ap (λ (k : ℕ). fault (declared_of text d) k w.0) so.count, λ x. absurd (z x));
+    form = c.form;
+    reads = c.reads;
+    number = c.number ∙ ap (λ (k : ℕ). fault (declared_of text d) k c.form) so.count;
+    accepted = λ x. absurd (z x);
   }
 
   module _ (z : r.number ≡ 0) where
-    abbrev fine : r.number ≡ 3 → ⊥
-    fine y = absurd (omega arith)
-
     pub clause-room : (m.clausecount < 64) × (m.literalcount + r.frame.size ≤ limit.literals) × (r.frame.size ≤ 8) × (r.frame.scope.count ≤ 3)
     clause-room =
-        let w = c.found fine in
-        let g = w.3 z in
-        let q = clause-form (declared_of text d) m.clausecount n (line_of r.action (body_in r.frame)) w.0 (sym w.2 ∙ z) (g.3 n) in
+        let g = c.accepted z in
+        let q = clause-form (declared_of text d) m.clausecount n (line_of r.action (body_in r.frame)) c.form (sym c.number ∙ z) (g.3 n) in
         (q.0, stored-room m P n r.action r.frame so q.0 g.0 g.1, g.0, g.2)
 
     pub clause-accepted : Stepped text d P n read (record { number = r.number; declared = d; model = with_clause m n r.action r.frame })
     clause-accepted =
-        let w = c.found fine in
-        let g = w.3 z in
-        let q = clause-form (declared_of text d) m.clausecount n (line_of r.action (body_in r.frame)) w.0 (sym w.2 ∙ z) (g.3 n) in
+        let g = c.accepted z in
+        let q = clause-form (declared_of text d) m.clausecount n (line_of r.action (body_in r.frame)) c.form (sym c.number ∙ z) (g.3 n) in
         record {
-          missing = λ y. absurd (fine y);
-          found = λ y. (w.0, w.1, w.2 ∙ ap (λ (k : ℕ). fault (declared_of text d) k w.0) so.count, λ x. (v, li, sym q.1, rw (g.3 n) (stored-law m P n r.action r.frame so q.0 g.0 g.1 g.4)));
+          form = c.form;
+          reads = c.reads;
+          number = c.number ∙ ap (λ (k : ℕ). fault (declared_of text d) k c.form) so.count;
+          accepted = λ x. (v, li, sym q.1, rw (g.3 n) (stored-law m P n r.action r.frame so q.0 g.0 g.1 g.4));
         }
 
 -- A RECORD with one clause more, or none, keeps the rest
@@ -91,10 +90,12 @@ clause-aside n action f = record { relations = refl; names = refl; lengths = ref
 
 -- A DECLARATION leaves the program
 pub declaration-step : {text : List ℕ} {d : Declared} {m : Model} {P : Program} {n : ℕ} {read : Read Form} {r : Declaration} → stored.Holds m P → DeclarationEnd text d read r
-    → Only (λ f. clause (declared_of text d) n f ≡ []) read → Stepped text d P n read (record { number = r.number; declared = r.declared; model = m })
+    → Only (λ f. clause (declared_of text d) n f ≡ []) read → Stepped text d P n read (declaring m r)
 declaration-step {P = P} so e h = record {
-  missing = λ y. e.missing y;
-  found = λ y. let w = e.found y in (w.0, w.1, w.2 (length P), λ x. let g = w.3 x in (g.0, g.1, g.2, rw (h w.0 w.1, append-nil P) so));
+  form = e.form;
+  reads = e.reads;
+  number = e.number (length P);
+  accepted = λ x. let g = e.accepted x in (g.0, g.1, g.2, rw (h e.form e.reads, append-nil P) so);
 }
 
 -- what a `state` or `rel` line reads is no clause
@@ -140,8 +141,4 @@ line-none s a b c d e f = rw (a, b, c, d, e, f)
 -- the line with another word is judged by what follows the word
 pub line-steps : {text : List ℕ} {at : ℕ} {d : Declared} {m : Model} {n : ℕ} {r : Step} (read : Read Form) → line (drop at text) ≡ read
     → ((P : Program) → stored.Holds m P → Stepped text d P n read r) → Aside m r.model → LineEnd text at d m n r
-line-steps read h k a = record { steps = λ P so _. rw h (k P so); aside = a }
-
-pub no_line : {text : List ℕ} {at : ℕ} {d : Declared} {m : Model} {n : ℕ} {r : Step} → r.number ≡ 3 → (after (bytes "(ask ") (drop at text) ≡ none → line (drop at text) ≡ none) → Aside m r.model
-    → LineEnd text at d m n r
-no_line z h a = record { steps = λ P so b. record { missing = λ y. rw (h b); found = λ y. absurd (y z) }; aside = a }
+line-steps read h k a = record { steps = λ P so. rw h (k P so); aside = a }

@@ -1,5 +1,6 @@
 -- Laws of lists.
-use mathlib.Core.Path.{◌≡◌, refl, sym, ap, ◌∙◌}
+use mathlib.Core.Path.{◌≡◌, refl, sym, ap, subst, ◌∙◌}
+use Rattle.std.specs.Prelude.{Option, Some, None, MatchOption}
 use mathlib.Core.Logic.{⊎_elim}
 use mathlib.Core.Bool.{true, false, ◌||◌, or_assoc}
 use mathlib.Core.List as seq
@@ -26,6 +27,7 @@ use Rattle.grammar.specs.Models.{code_of, codes}
 use Rattle.grammar.proofs.Lower.{lower-second, lower-assoc, lower-none}
 use Rattle.grammar.proofs.Tests.{either}
 use Rattle.grammar.proofs.Reading.{Reading, reading-start, reading-more, reading-closed}
+use Rattle.text_scan.specs.Found.{NameEnd}
 use Rattle.text_names.specs.Names.{found}
 use Rattle.text_lists.specs.Lists.{Holds, Extends, NameAdded, RestEnd, ListEnd}
 use Rattle.text_lists.specs.declared.Chosen.{Chosen}
@@ -89,50 +91,62 @@ pub names-start : {text : seq.List ℕ} {D : Declared} {at n : ℕ} {s : Chosen}
 names-start h = record { more = []; reading = reading-start h; holds = λ ws so. rw (append-nil ws) so }
 
 module _ {text : seq.List ℕ} {D : Declared} {at n : ℕ} {s t : Chosen} {i k : ℕ} (so : NamesSo text D at n s t i k) where
-  pub names_more : {r : Chosen} {e : ℕ} → 0 < k → after (bytes ")") (drop i text) ≡ none → after (bytes " ") (drop i text) ≡ some (drop (i + 1) text)
-      → ((i + 1 < e) × (e ≤ length text) × (name (drop (i + 1) text) ≡ some (slice (i + 1) e text, drop e text))) → NameAdded text D t (i + 1) e r → NamesSo text D at n s r e (k - 1)
-  names_more {r} {e} h p q (a, b, m) ad = record {
+  pub names_more : {r : Chosen} {e j : ℕ} → j + 1 ≡ k → after (bytes ")") (drop i text) ≡ none → after (bytes " ") (drop i text) ≡ some (drop (i + 1) text)
+      → NameEnd text (i + 1) e → NameAdded text D t (i + 1) e r → NamesSo text D at n s r e j
+  names_more {r} {e} {j} h p q w ad = record {
     more = so.more ++ (slice (i + 1) e text ∷ []);
-    reading = reading-more so.reading h p q a b m;
+    reading = let z : k - 1 ≡ j = omega arith in subst (Reading name text at n (so.more ++ (slice (i + 1) e text ∷ [])) e) z (reading-more so.reading (omega arith) p q w.begins w.ends w.read);
     holds = λ ws f. rw (← append_assoc) (ad.added (ws ++ so.more) (so.holds ws f));
   }
 
   pub names-closed : i < length text → after (bytes ")") (drop i text) ≡ some (drop (i + 1) text) → RestEnd text D at n s (record { chosen = t; end = i + 1 })
   names-closed h p = record {
-    found = λ q. (so.more, omega (arith, so.reading.begins), omega arith, reading-closed so.reading p, so.holds);
-    missing = λ q. absurd (omega arith);
+    more = so.more;
+    begins = omega (arith, so.reading.begins);
+    ends = omega arith;
+    read = reading-closed so.reading p;
+    holds = so.holds;
   }
-
-pub names-none : {text : seq.List ℕ} {D : Declared} {at n : ℕ} {s t : Chosen} → rest name n (drop at text) ≡ none → RestEnd text D at n s (record { chosen = t; end = 0 })
-names-none h = record { found = λ q. absurd (q refl); missing = λ q. h }
 
 -- LISTS
 pub empty-list : (D : Declared) → Holds D [] (record { fault = 0; set = 0 })
 unfolding list_fault set_of
 empty-list D = record { number = refl; set = λ z. refl }
 
-module _ {text : seq.List ℕ} {D : Declared} {at : ℕ} where
-  pub list-empty : at + 2 ≤ length text → after (bytes "()") (drop at text) ≡ some (drop (at + 2) text) → ListEnd text D at (record { chosen = record { fault = 0; set = 0 }; end = at + 2 })
+module _ (text : seq.List ℕ) (at : ℕ) where
+  pub list-empty : {D : Declared} → at + 2 ≤ length text → after (bytes "()") (drop at text) ≡ some (drop (at + 2) text) → ListEnd text D at (record { chosen = record { fault = 0; set = 0 }; end = at + 2 })
   unfolding list
-  list-empty h p = record { found = λ q. ([], omega arith, h, rw p, empty-list D); missing = λ q. absurd (omega arith) }
+  list-empty {D} h p = record { ws = []; begins = omega arith; ends = h; read = rw p; holds = empty-list D }
 
-  module _ {s : Chosen} (p : after (bytes "()") (drop at text) ≡ none) where
-    pub list-unopened : after (bytes "(") (drop at text) ≡ none → ListEnd text D at (record { chosen = s; end = 0 })
+  module _ (p : after (bytes "()") (drop at text) ≡ none) where
+    pub list-unopened : after (bytes "(") (drop at text) ≡ none → list (drop at text) ≡ none
     unfolding list bracket
-    list-unopened q = record { found = λ z. absurd (z refl); missing = λ z. rw (p, q) }
+    list-unopened q = rw (p, q)
 
     module _ (q : after (bytes "(") (drop at text) ≡ some (drop (at + 1) text)) where
-      pub list-nameless : name (drop (at + 1) text) ≡ none → ListEnd text D at (record { chosen = s; end = 0 })
+      pub list-nameless : name (drop (at + 1) text) ≡ none → list (drop at text) ≡ none
       unfolding list bracket
-      list-nameless m = record { found = λ z. absurd (z refl); missing = λ z. rw (p, q, m) }
+      list-nameless m = rw (p, q, m)
 
-      pub list-found : {e : ℕ} {t : Chosen} {r : List} → s ≡ record { fault = 0; set = 0 } → ((at + 1 < e) × (e ≤ length text) × (name (drop (at + 1) text) ≡ some (slice (at + 1) e text, drop e text)))
-          → NameAdded text D s (at + 1) e t → RestEnd text D e (limit.list - 1) t r → ListEnd text D at r
-      unfolding list bracket
-      list-found {e} {t} {r} z (a, b, m) ad v = record {
-        found = λ y. let w = v.found y in (slice (at + 1) e text ∷ w.0, omega (arith, w.1), w.2, rw (p, q, m, w.3), w.4 (slice (at + 1) e text ∷ []) (ad.added [] (rw z (empty-list D))));
-        missing = λ y. rw (p, q, m, v.missing y);
-      }
+      module _ {e : ℕ} (m : NameEnd text (at + 1) e) where
+        list-unended : rest name (limit.list - 1) (drop e text) ≡ none → list (drop at text) ≡ none
+        unfolding list bracket
+        list-unended v = rw (p, q, m.read, v)
+
+        list-found : {D : Declared} {t : Chosen} {r : List} → NameAdded text D (record { fault = 0; set = 0 }) (at + 1) e t → RestEnd text D e (limit.list - 1) t r → ListEnd text D at r
+        unfolding list bracket
+        list-found {D} ad v = record {
+          ws = slice (at + 1) e text ∷ v.more;
+          begins = let a = m.begins in omega (arith, v.begins);
+          ends = v.ends;
+          read = rw (p, q, m.read, v.read);
+          holds = v.holds (slice (at + 1) e text ∷ []) (ad.added [] (empty-list D));
+        }
+
+        pub list-read : {D : Declared} {t : Chosen} (r : Option List) → NameAdded text D (record { fault = 0; set = 0 }) (at + 1) e t
+            → MatchOption r (rest name (limit.list - 1) (drop e text) ≡ none) (RestEnd text D e (limit.list - 1) t) → MatchOption r (list (drop at text) ≡ none) (ListEnd text D at)
+        list-read None ad v = list-unended v
+        list-read (Some r) ad v = list-found ad v
 
 -- the code's `1 << c`
 pub bit-of : (c : ℕ) → c < 32 → (1 * 2 ^ c) % 4294967296 ≡ 2 ^ c

@@ -1,7 +1,7 @@
 -- What the readers of lists find.
 use Rattle.std.specs.Prelude.{◌≡◌, [], ◌∷◌, ◌++◌, ℕ, ◌≤◌, ◌<◌, length, drop}
 use mathlib.Core.List as seq
-use Rattle.std.proofs.Math.Option.{none, some}
+use Rattle.std.proofs.Math.Option.{some}
 use Rattle.std.proofs.Math.Seq.{slice}
 use Rattle.semantics.specs.Labels.{set_of}
 use Rattle.grammar.specs.Bytes.{Word}
@@ -24,11 +24,18 @@ Extends D s more r = (ws : seq.List Word) → Holds D ws s → Holds D (ws ++ mo
 pub record NameAdded (text : seq.List ℕ) (D : Declared) (s : Chosen) (a e : ℕ) (r : Chosen) : Type 0 where
   pub added : Extends D s (slice a e text ∷ []) r
 
+-- at most n names, added to those of s
 pub record RestEnd (text : seq.List ℕ) (D : Declared) (at n : ℕ) (s : Chosen) (r : List) : Type 0 where
-  pub found : (r.end ≡ 0 → ⊥)
-      → (more : seq.List Word) × (at < r.end) × (r.end ≤ length text) × (rest name n (drop at text) ≡ some (more, drop r.end text)) × Extends D s more r.chosen
-  pub missing : r.end ≡ 0 → rest name n (drop at text) ≡ none
+  pub more : seq.List Word
+  pub begins : at < r.end
+  pub ends : r.end ≤ length text
+  pub read : rest name n (drop at text) ≡ some (more, drop r.end text)
+  pub holds : Extends D s more r.chosen
 
+-- the list that is next
 pub record ListEnd (text : seq.List ℕ) (D : Declared) (at : ℕ) (r : List) : Type 0 where
-  pub found : (r.end ≡ 0 → ⊥) → (ws : seq.List Word) × (at < r.end) × (r.end ≤ length text) × (list (drop at text) ≡ some (ws, drop r.end text)) × Holds D ws r.chosen
-  pub missing : r.end ≡ 0 → list (drop at text) ≡ none
+  pub ws : seq.List Word
+  pub begins : at < r.end
+  pub ends : r.end ≤ length text
+  pub read : list (drop at text) ≡ some (ws, drop r.end text)
+  pub holds : Holds D ws r.chosen

@@ -1,7 +1,9 @@
 // The lists of state relations of `new` and `next` lines.
 #![tactic(auto)]
 
-ghost use Rattle.std.specs.Prelude.{◌+◌, ◌≤◌, ◌<◌, length};
+ghost use Rattle.std.specs.Prelude.{◌≡◌, ◌+◌, ◌≤◌, ◌<◌, length, drop, MatchOption};
+ghost use Rattle.std.proofs.Math.Option.{none};
+ghost use Rattle.grammar.specs.Shapes.{name, rest, list};
 ghost use Rattle.text_names.specs.Names as names;
 ghost use Rattle.text_lists.specs.Lists.{NameAdded, RestEnd, ListEnd};
 
@@ -18,7 +20,7 @@ pub struct Chosen {
     pub set: u32,
 }
 
-// A list, and where it ends: 0 if there is none.
+// A list, and where it ends.
 #[derive(Clone, Copy)]
 pub struct List {
     pub chosen: Chosen,
@@ -39,67 +41,48 @@ fn add_name(text: &[u8], d: Declared, s: Chosen, a: usize, e: usize) -> Chosen
             set: s.set | (1 << code),
         };
     }
-    Chosen {
-        fault: lowest,
-        set: s.set,
-    }
+    Chosen { fault: lowest, ..s }
 }
 
 // At most n names, each after a space, up to the closing bracket, are added.
-fn read_names(text: &[u8], d: Declared, at: usize, s: Chosen, n: usize) -> List
+fn read_names(text: &[u8], d: Declared, at: usize, s: Chosen, n: usize) -> Option<List>
     requires { (at ≤ length text.now) × names.Valid text.now d }
-    ensures { RestEnd text.now (names.declared_of text.now d) at n s result }
+    ensures { MatchOption result (rest name n (drop at text.now) ≡ none) (RestEnd text.now (names.declared_of text.now d) at n s) }
 {
-    let mut t = s;
+    let mut chosen = s;
     let mut i = at;
-    let mut k = n;
-    while 0 < k {
-        if text_scan::at_byte(text, i, 41) {
-            return List {
-                chosen: t,
-                end: i + 1,
-            };
+    for _ in 0..n {
+        if text_scan::at_byte(text, i, b')') {
+            return Some(List { chosen, end: i + 1 });
         }
-        if text_scan::at_byte(text, i, 32) {
-            let e = text_scan::name_end(text, i + 1);
-            if e == 0 {
-                return List { chosen: t, end: 0 };
-            }
-            t = add_name(text, d, t, i + 1, e);
-            i = e;
-            k -= 1;
-        } else {
-            return List { chosen: t, end: 0 };
+        if !text_scan::at_byte(text, i, b' ') {
+            return None;
         }
+        let e = text_scan::name_end(text, i + 1)?;
+        chosen = add_name(text, d, chosen, i + 1, e);
+        i = e;
     }
-    if text_scan::at_byte(text, i, 41) {
-        return List {
-            chosen: t,
-            end: i + 1,
-        };
+    if !text_scan::at_byte(text, i, b')') {
+        return None;
     }
-    List { chosen: t, end: 0 }
+    Some(List { chosen, end: i + 1 })
 }
 
 // The list that is next.
-pub fn read_list(text: &[u8], d: Declared, at: usize) -> List
+pub fn read_list(text: &[u8], d: Declared, at: usize) -> Option<List>
     requires { (at ≤ length text.now) × names.Valid text.now d }
-    ensures { ListEnd text.now (names.declared_of text.now d) at result }
+    ensures { MatchOption result (list (drop at text.now) ≡ none) (ListEnd text.now (names.declared_of text.now d) at) }
 {
-    let s = Chosen { fault: 0, set: 0 };
+    let chosen = Chosen { fault: 0, set: 0 };
     if text_scan::at_bytes(text, at, b"()") {
-        return List {
-            chosen: s,
+        return Some(List {
+            chosen,
             end: at + 2,
-        };
+        });
     }
-    if text_scan::at_byte(text, at, 40) {
-        let e = text_scan::name_end(text, at + 1);
-        if e == 0 {
-            return List { chosen: s, end: 0 };
-        }
-        let t = add_name(text, d, s, at + 1, e);
-        return read_names(text, d, e, t, FURTHER);
+    if !text_scan::at_byte(text, at, b'(') {
+        return None;
     }
-    List { chosen: s, end: 0 }
+    let e = text_scan::name_end(text, at + 1)?;
+    read_names(text, d, e, add_name(text, d, chosen, at + 1, e), FURTHER)
 }

@@ -26,15 +26,12 @@ pub fn find(text: &[u8], d: Declared, a: usize, e: usize) -> u32
     requires { Valid text.now d × (a ≤ e) × (e ≤ length text.now) }
     ensures { (result ≤ 128) × (lookup (slice a e text.now) (declared_of text.now d) ≡ found result) }
 {
-    let n = d.count;
-    let mut i = 0;
-    while i < n {
+    for i in 0..d.count {
         let s = d.names[i] as usize;
         let t = s + d.lengths[i] as usize;
         if text_scan::same_words(&text[a..e], &text[s..t]) {
             return d.codes[i];
         }
-        i += 1;
     }
     UNDECLARED
 }
@@ -44,14 +41,11 @@ pub fn tally_of(d: Declared, k: u32) -> usize
     requires { (d.count ≤ limit.declared) × (length d.codes ≡ limit.declared) }
     ensures { result ≡ tally k d.codes d.count }
 {
-    let n = d.count;
-    let mut i = 0;
     let mut sum: usize = 0;
-    while i < n {
+    for i in 0..d.count {
         if d.codes[i] / 32 == k {
             sum += 1;
         }
-        i += 1;
     }
     sum
 }

@@ -1,21 +1,25 @@
 -- Laws of places in a text, words and lines.
 use mathlib.Core.Path.{◌≡◌, refl, sym, ap, ◌∙◌}
-use mathlib.Core.Logic.{⊎_elim}
-use mathlib.Core.Bool.{Bool, true, false, not, ◌&&◌, and-true, and-false}
+use mathlib.Core.Logic.{⊎_elim, ◌⊎◌}
+use mathlib.Core.Bool.{Bool, true, false, ◌&&◌, ◌||◌, and-true, and-false, or-true}
+use Rattle.std.specs.Prelude.{MatchOption}
+use Rattle.std.specs.Bool.{then_some}
+use Rattle.std.specs.Char.{is_ascii_alphanumeric}
+use Rattle.std.specs.Cmp.Lexicographic.{pointwise}
 use mathlib.Core.List.{List, [], ◌∷◌, ◌++◌, append-nil, append_assoc}
-use mathlib.Core.Option.{none}
+use mathlib.Core.Option.{none, some}
 use Prim.Native.Nat.{ℕ, zero, suc, ◌+◌, ◌-◌, ◌≤◌, ◌<◌}
 use native.Mathlib.Nat.{sub-zero, suc-sub-suc, le_of_suc-le-suc}
 use native.Mathlib.Numerals.{add-one}
 use native.Mathlib.Omega.{arith}
 use lib.Dec.{eqb, leb}
 use lib.ListN.{length, take, drop, get_or, length-drop, drop_of_length-le}
-use lib.Seq.{slice, slice_empty, slice-cons, length-slice, drop-cons, take-suc, length-take-le, drop-append-le, take-nil}
-use borrow.Author.Tests.{lt-leb, le-leb, eq-eqb, ne_eqb}
+use lib.Seq.{slice, slice_empty, slice-cons, drop-drop, drop-cons, take-suc, length-take-le, drop-append-le, take-nil}
+use borrow.Author.Tests.{lt-leb, le-leb, eqb-true, eqb-false, eq-eqb, ne_eqb}
 use Rattle.grammar.specs.Bytes.{bytes, letter, alphanumeric, allowed, every, Line, ended, unended, in_front, lines, Word, same, is_name}
 use Rattle.grammar.specs.Shapes.{after, word, after_word, name}
 use Rattle.grammar.specs.Texts.{judge, bad}
-use Rattle.grammar.proofs.Tests.{either, clash, and_left, and_right, and_both, eqb_same}
+use Rattle.grammar.proofs.Tests.{either, clash, and_left, and_right, and_both}
 use Rattle.text_scan.specs.Found.{NextByte, NextBytes, WordEnd, NameEnd, LineEnd}
 
 -- PLACES
@@ -40,46 +44,17 @@ slice-part [] (suc at) (suc e) h = sym (take-nil (suc e - suc at))
 slice-part (b ∷ text) (suc at) (suc e) h = rw (suc-sub-suc e at) (slice-part text at e (le_of_suc-le-suc h))
 
 -- TESTS
-module _ (b : ℕ) where
-  pub letter-low : b < 65 → letter b ≡ false
-  letter-low h = rw (lt-leb 65 b h, lt-leb 97 b (omega arith))
+or_turn : (a b c : Bool) → (c || a || b) ≡ (a || b || c)
+or_turn true b c = rw or-true
+or_turn false true true = refl
+or_turn false true false = refl
+or_turn false false true = refl
+or_turn false false false = refl
 
-  pub letter-upper : 65 ≤ b → b ≤ 90 → letter b ≡ true
-  letter-upper h k = rw (le-leb 65 b h, le-leb b 90 k)
-
-  pub letter-between : 90 < b → b < 97 → letter b ≡ false
-  letter-between h k = rw (le-leb 65 b (omega arith), lt-leb b 90 h, lt-leb 97 b k)
-
-  pub letter-rest : 97 ≤ b → leb b 122 ≡ letter b
-  letter-rest h = rw (le-leb 65 b (omega arith), lt-leb b 90 (omega arith), le-leb 97 b h)
-
-  pub alphanumeric-letter : letter b ≡ true → alphanumeric b ≡ true
-  unfolding alphanumeric
-  alphanumeric-letter h = rw h
-
-  pub alphanumeric-low : letter b ≡ false → b < 48 → alphanumeric b ≡ false
-  unfolding alphanumeric
-  alphanumeric-low h k = rw (h, lt-leb 48 b k)
-
-  pub alphanumeric-rest : letter b ≡ false → 48 ≤ b → leb b 57 ≡ alphanumeric b
-  unfolding alphanumeric
-  alphanumeric-rest h k = rw (h, le-leb 48 b k)
-
-  pub allowed-word : alphanumeric b ≡ true → allowed b ≡ true
-  unfolding allowed
-  allowed-word h = rw h
-
-  pub allowed-space : b ≡ 32 → allowed b ≡ true
-  unfolding allowed alphanumeric
-  allowed-space h = rw h
-
-  pub allowed-open : b ≡ 40 → allowed b ≡ true
-  unfolding allowed alphanumeric
-  allowed-open h = rw h
-
-  pub allowed-rest : alphanumeric b ≡ false → (b ≡ 32 → ⊥) → (b ≡ 40 → ⊥) → eqb b 41 ≡ allowed b
-  unfolding allowed
-  allowed-rest h p q = rw (h, ne_eqb b 32 p, ne_eqb b 40 q)
+-- as std tests it
+pub alphanumeric-ascii : (b : ℕ) → is_ascii_alphanumeric b ≡ alphanumeric b
+unfolding alphanumeric
+alphanumeric-ascii b = or_turn (leb 65 b && leb b 90) (leb 97 b && leb b 122) (leb 48 b && leb b 57)
 
 -- THE NEXT BYTES
 module _ {text : List ℕ} {at b : ℕ} where
@@ -89,44 +64,25 @@ module _ {text : List ℕ} {at b : ℕ} where
   pub byte-some : at < length text → NextByte text at b (eqb b (get_or text at 0))
   byte-some h = record { found = λ q. (h, rw (next text at h, q)); missing = λ q. rw (next text at h, q) }
 
-after-short : (w s : List ℕ) → length s < length w → after w s ≡ none
-after-short [] s h = absurd (omega arith)
-after-short (b ∷ w) [] h = refl
-after-short (b ∷ w) (c ∷ s) h = ⊎_elim (λ (q : eqb b c ≡ true). rw q (after-short w s (omega arith))) (λ (q : eqb b c ≡ false). rw q) (either (eqb b c))
+-- what std's test of a beginning says
+after-starts : (w s : List ℕ) → pointwise eqb w (take (length w) s) ≡ true → (length w ≤ length s) × (after w s ≡ some (drop (length w) s))
+after-starts [] s h = (omega arith, refl)
+after-starts (b ∷ w) [] h = clash h refl
+after-starts (b ∷ w) (c ∷ s) h =
+    let p = and_left (eqb b c) (pointwise eqb w (take (length w) s)) h in
+    let f = after-starts w s (and_right (eqb b c) (pointwise eqb w (take (length w) s)) h) in
+    (omega (arith, f.0), rw p f.1)
 
-module _ {text : List ℕ} {at : ℕ} {w : List ℕ} where
-  pub bytes-short : at ≤ length text → length text - at < length w → NextBytes text at w false
-  bytes-short h k = record { found = λ q. clash q refl; missing = λ q. after-short w (drop at text) (rw length-drop k) }
+after-other : (w s : List ℕ) → pointwise eqb w (take (length w) s) ≡ false → after w s ≡ none
+after-other [] s h = clash refl h
+after-other (b ∷ w) [] h = refl
+after-other (b ∷ w) (c ∷ s) h = ⊎_elim (λ (q : eqb b c ≡ true). rw q (after-other w s (rw q at h))) (λ (q : eqb b c ≡ false). rw q) (either (eqb b c))
 
-  pub bytes-other : after w (drop at text) ≡ none → NextBytes text at w false
-  bytes-other h = record { found = λ q. clash q refl; missing = λ q. h }
-
-  pub bytes-all : (i : ℕ) → length w ≤ i → i ≤ length w → at + length w ≤ length text → after w (drop at text) ≡ after (drop i w) (drop (at + i) text) → NextBytes text at w true
-  bytes-all i h k l e =
-      let z : i ≡ length w = omega arith in
-      record { found = λ q. (l, e ∙ rw (nothing w i h, z)); missing = λ q. clash refl q }
-
-module _ (text : List ℕ) (at : ℕ) (w : List ℕ) where
-  module _ (i : ℕ) (h : i < length w) (k : at + i < length text) where
-    pub bytes-more : get_or w i 0 ≡ get_or text (at + i) 0 → after (drop i w) (drop (at + i) text) ≡ after (drop (i + 1) w) (drop (at + i + 1) text)
-    bytes-more e = rw (next w i h, next text (at + i) k, e, eqb_same (get_or text (at + i) 0))
-
-    pub bytes-differ : (get_or w i 0 ≡ get_or text (at + i) 0 → ⊥) → after (drop i w) (drop (at + i) text) ≡ none
-    bytes-differ e = rw (next w i h, next text (at + i) k, ne_eqb (get_or w i 0) (get_or text (at + i) 0) e)
-
--- TWO WORDS
-pub same-lengths : (a b : Word) → (length a ≡ length b → ⊥) → same a b ≡ false
-same-lengths [] [] h = absurd (h refl)
-same-lengths [] (c ∷ b) h = refl
-same-lengths (d ∷ a) [] h = refl
-same-lengths (d ∷ a) (c ∷ b) h = ⊎_elim (λ (q : eqb d c ≡ true). rw q (same-lengths a b (λ z. h (ap suc z)))) (λ (q : eqb d c ≡ false). rw q) (either (eqb d c))
-
-module _ (a b : Word) (i : ℕ) (h : i < length a) (k : i < length b) where
-  pub same_more : get_or a i 0 ≡ get_or b i 0 → same (drop i a) (drop i b) ≡ same (drop (i + 1) a) (drop (i + 1) b)
-  same_more e = rw (next a i h, next b i k, e, eqb_same (get_or b i 0))
-
-  pub same-differ : (get_or a i 0 ≡ get_or b i 0 → ⊥) → same (drop i a) (drop i b) ≡ false
-  same-differ e = rw (next a i h, next b i k, ne_eqb (get_or a i 0) (get_or b i 0) e)
+pub bytes_next : {text : List ℕ} {at : ℕ} {w : List ℕ} {r : Bool} → at ≤ length text → r ≡ pointwise eqb w (take (length w) (drop at text)) → NextBytes text at w r
+bytes_next {text} {at} {w} h e = record {
+  found = λ q. let f = after-starts w (drop at text) (sym e ∙ q) in (omega (arith, f.0, length-drop at text), f.1 ∙ rw drop-drop);
+  missing = λ q. after-other w (drop at text) (sym e ∙ q);
+}
 
 -- WORDS
 -- the bytes from at to i belong to the word
@@ -163,40 +119,41 @@ every-word (b ∷ s) = ⊎_elim (λ (q : alphanumeric b ≡ true). rw (q, q) (ev
 
 -- NAMES
 -- a word of letters and digits is a name by its first byte, its length and what it is not
-name_of : (b : ℕ) (w : Word) → every alphanumeric (b ∷ w) ≡ true → is_name (b ∷ w) ≡ (letter b && leb (length w) 15 && not (same (b ∷ w) (bytes "not")))
+pub named : (w : Word) → every alphanumeric w ≡ true → 0 < length w → length w ≤ 16 → same w (bytes "not") ≡ false → letter (get_or w 0 0) ≡ is_name w
 unfolding is_name
-name_of b w h = rw (and_right (alphanumeric b) (every alphanumeric w) h, and-true (letter b))
+named [] h k l m = absurd (omega arith)
+named (b ∷ w) h k l m = rw (and_right (alphanumeric b) (every alphanumeric w) h, m, le-leb (length w) 15 (omega arith)) (sym (and-true (letter b && true && true) ∙ and-true (letter b && true) ∙ and-true (letter b)))
 
-no_name : {text : List ℕ} {at : ℕ} → is_name (word (drop at text)) ≡ false → NameEnd text at 0
-unfolding name
-no_name h = record { found = λ q. absurd (q refl); missing = λ q. rw h }
+pub nameless : (w : Word) → (length w ≡ 0) ⊎ (16 < length w) ⊎ (same w (bytes "not") ≡ true) → is_name w ≡ false
+unfolding is_name
+nameless [] h = refl
+nameless (b ∷ w) h = ⊎_elim (λ q. absurd (omega arith)) (λ h. ⊎_elim
+    (λ q. rw (lt-leb (length w) 15 (omega arith), and-false))
+    (λ q. rw q (rw and-false)) h) h
 
 module _ {text : List ℕ} {at e : ℕ} (end : WordEnd text at e) where
-  pub name-empty : e ≡ at → NameEnd text at 0
+  pub every-slice : every alphanumeric (slice at e text) ≡ true
+  every-slice = rw (← end.read) (every-word (drop at text))
+
+  some_word : is_name (slice at e text) ≡ true → at < e
   unfolding is_name
-  name-empty h = no_name (rw (end.read, h, slice_empty at text))
+  some_word h = ⊎_elim (λ (q : eqb at e ≡ true). clash h (rw (← eqb-true at e q, slice_empty at text))) (λ (q : eqb at e ≡ false). let z = eqb-false at e q in omega (arith, end.begins)) (either (eqb at e))
 
-  module _ (h : at < e) where
-    first : word (drop at text) ≡ get_or text at 0 ∷ slice (suc at) e text
-    first = end.read ∙ slice-cons at e text 0 h end.ends
+  no_name : is_name (slice at e text) ≡ false → name (drop at text) ≡ none
+  unfolding name
+  no_name h = rw (end.read, h)
 
-    named : is_name (word (drop at text)) ≡ (letter (get_or text at 0) && leb (length (slice (suc at) e text)) 15 && not (same (slice at e text) (bytes "not")))
-    named = rw (first, slice-cons at e text 0 h end.ends) (name_of (get_or text at 0) (slice (suc at) e text) (rw first at (every-word (drop at text))))
+  name_here : is_name (slice at e text) ≡ true → NameEnd text at e
+  unfolding name is_name
+  name_here h = record {
+    begins = some_word h;
+    ends = end.ends;
+    read = rw (end.read, h, end.left);
+  }
 
-    pub name-long : 16 < e - at → NameEnd text at 0
-    name-long k = no_name (named ∙ rw (lt-leb (length (slice (suc at) e text)) 15 (omega (arith, length-slice (suc at) e text end.ends))) (rw (and-false (letter (get_or text at 0)))))
-
-    pub name-unlettered : letter (get_or text at 0) ≡ false → NameEnd text at 0
-    name-unlettered k = no_name (named ∙ rw k)
-
-    pub name-not : same (slice at e text) (bytes "not") ≡ true → NameEnd text at 0
-    name-not k = no_name (named ∙ rw k (and-false (letter (get_or text at 0) && leb (length (slice (suc at) e text)) 15)))
-
-    pub name-found : e - at ≤ 16 → letter (get_or text at 0) ≡ true → same (slice at e text) (bytes "not") ≡ false → NameEnd text at e
-    unfolding name
-    name-found k l m =
-        let ok : is_name (word (drop at text)) ≡ true = named ∙ rw (l, m, le-leb (length (slice (suc at) e text)) 15 (omega (arith, length-slice (suc at) e text end.ends))) in
-        record { found = λ q. (h, end.ends, rw (ok, end.read, end.left)); missing = λ q. absurd (omega arith) }
+  pub name_chosen : (r : Bool) → r ≡ is_name (slice at e text) → MatchOption (then_some r e) (name (drop at text) ≡ none) (NameEnd text at)
+  name_chosen true q = name_here (sym q)
+  name_chosen false q = no_name (sym q)
 
 -- LINES
 -- the bytes stand at the beginning of the first line
@@ -270,14 +227,14 @@ module _ {text : List ℕ} {at i : ℕ} (so : LineSo text at i) where
       let r = bad-byte (slice at i text) (get_or text i 0) (lines (drop (i + 1) text)) a in
       record { within = omega arith; found = λ q. absurd (q refl); refused = λ q. (r.0, r.1, so.read ∙ rw (next text i h, ne_eqb (get_or text i 0) 10 k) r.2, r.3) }
 
-  pub line-unended : at < length text → length text ≤ i → LineEnd text at i
+  pub line-unended : at < length text → length text ≤ i → LineEnd text at (length text)
   unfolding judge
   line-unended h k =
       let z : i ≡ length text = omega (arith, so.ends) in
       let w = slice (suc at) i text in
       let b = get_or text at 0 in
       record {
-        within = so.ends;
-        found = λ q. absurd (q z);
+        within = omega arith;
+        found = λ q. absurd (q refl);
         refused = λ q. (unended (b ∷ w), [], so.read ∙ rw (nothing text i k, slice-cons at i text 0 (omega arith) so.ends) (in_fronts-open b w), refl);
       }

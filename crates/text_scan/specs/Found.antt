@@ -23,10 +23,11 @@ pub record WordEnd (text : List ℕ) (at e : ℕ) : Type 0 where
   pub read : word (drop at text) ≡ slice at e text
   pub left : after_word (drop at text) ≡ drop e text
 
--- the name that is next ends at e; 0 if there is none
+-- the name that is next ends at e
 pub record NameEnd (text : List ℕ) (at e : ℕ) : Type 0 where
-  pub found : (e ≡ 0 → ⊥) → (at < e) × (e ≤ length text) × (name (drop at text) ≡ some (slice at e text, drop e text))
-  pub missing : e ≡ 0 → name (drop at text) ≡ none
+  pub begins : at < e
+  pub ends : e ≤ length text
+  pub read : name (drop at text) ≡ some (slice at e text, drop e text)
 
 -- the line that is next ends at byte 10, which stands at e; e is the text's length if row 2 refuses the line
 pub record LineEnd (text : List ℕ) (at e : ℕ) : Type 0 where

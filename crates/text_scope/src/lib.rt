@@ -36,17 +36,14 @@ pub fn find(text: &[u8], s: Scope, a: usize, e: usize) -> usize
     requires { Valid text.now s × (a ≤ e) × (e ≤ length text.now) }
     ensures { result ≡ place (known_of text.now s) (slice a e text.now) }
 {
-    let n = s.count;
-    let mut i = 0;
-    while i < n {
+    for i in 0..s.count {
         let b = s.starts[i];
         let t = s.ends[i];
         if text_scan::same_words(&text[a..e], &text[b..t]) {
             return i;
         }
-        i += 1;
     }
-    i
+    s.count
 }
 
 // The variable of that number stands from a to e, in a literal without `not` or not.
@@ -72,12 +69,8 @@ pub fn all_plain(s: Scope) -> bool
     requires { (s.count ≤ limit.variables) × (length s.plain ≡ limit.variables) }
     ensures { result ≡ all_marked (marks_of s) }
 {
-    let n = s.count;
-    let mut i = 0;
-    while i < n {
-        if s.plain[i] {
-            i += 1;
-        } else {
+    for i in 0..s.count {
+        if !s.plain[i] {
             return false;
         }
     }

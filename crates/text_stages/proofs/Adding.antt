@@ -4,7 +4,6 @@ use mathlib.Core.List.{List, [], ◌∷◌, ◌++◌}
 use Prim.Native.Nat.{ℕ, ◌+◌, ◌≤◌, ◌<◌}
 use native.Mathlib.Omega.{arith}
 use lib.ListN.{length}
-use borrow.Author.Tests.{eq-eqb}
 use Rattle.limits.specs.Limits as limit
 use Rattle.model.specs.declared.Model.{Model}
 use Rattle.grammar.specs.Bytes.{Word}
@@ -15,7 +14,7 @@ use Rattle.grammar.proofs.Lower.{lower-first, lower-none}
 use Rattle.text_scope.specs.Scopes as scopes
 use Rattle.text_literals.specs.Frames as frames
 use Rattle.text_bodies.specs.declared.Body.{Body}
-use Rattle.text_clauses.specs.Clauses.{number_at, final_number}
+use Rattle.text_clauses.specs.Clauses.{final_number}
 use Rattle.text_clauses.proofs.Laws.{final, final-none, body-short}
 use Rattle.text_carried.specs.Asking as asking
 use Rattle.text_carried.specs.Asking.{each}
@@ -28,14 +27,10 @@ pub scope-known : {text : List ℕ} {s : Asking} {b : Body} → Addable text s b
 scope-known p z = let v = (p.frame.body z).scope.valid in (v.count, v.plain)
 
 -- the number of the stages with the one more
-module _ (text : List ℕ) (s : Asking) (b : Body) {own number : ℕ} (o : own ≡ number_at b b.end) (n : number ≡ lower s.number own) where
-  own-final : own ≡ final_number b.frame
-  unfolding number_at
-  own-final = o ∙ rw (eq-eqb b.end b.end refl)
-
+module _ (text : List ℕ) (s : Asking) (b : Body) {own number : ℕ} (o : own ≡ final_number b.frame) (n : number ≡ lower s.number own) where
   module _ {D : Declared} {m₀ : Model} {qs : List (List forms.Literal)} {q : List forms.Literal} (so : Holds text D m₀ qs s) (fr : frames.Holds text D [] 0 q b.frame) where
     own-number : own ≡ lower (body_fault D q) (scope_fault [] q)
-    own-number = own-final ∙ final (omega arith) fr ∙ lower-first 0 (lower (body_fault D q) (scope_fault [] q)) refl
+    own-number = o ∙ final (omega arith) fr ∙ lower-first 0 (lower (body_fault D q) (scope_fault [] q)) refl
 
     number_more : number ≡ stages_fault D (qs ++ (q ∷ []))
     number_more = n ∙ rw (so.number, own-number) (sym (fault-more q D qs))
@@ -46,7 +41,7 @@ module _ (text : List ℕ) (s : Asking) (b : Body) {own number : ℕ} (o : own �
       none = lower-none s.number own (sym n ∙ z)
 
       pub stage_body : frames.Body text D [] q b.frame
-      stage_body = fr.body (final-none b.frame (sym own-final ∙ none.1))
+      stage_body = fr.body (final-none b.frame (sym o ∙ none.1))
 
       pub stored-before : Stored text D m₀ qs s.table s.model
       stored-before = so.stored none.0

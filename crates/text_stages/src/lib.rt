@@ -50,8 +50,8 @@ pub fn add(text: &[u8], s: Asking, b: Body) -> Asking
 {
     let t = s.table;
     let m = s.model;
-    let e = b.end;
-    let own = text_clauses::number_at(b, e);
+    let f = b.frame;
+    let own = text_clauses::final_number(f);
     let number = text_faults::lower_of(s.number, own);
     if number != 0 {
         return Asking {
@@ -60,7 +60,6 @@ pub fn add(text: &[u8], s: Asking, b: Body) -> Asking
             model: m,
         };
     }
-    let f = b.frame;
     let v = f.scope;
     let g = text_carried::number(text, t, v);
     let u = g.table;

@@ -124,15 +124,12 @@ module _ (m : Model) (w : List ℕ) (s : States) (rows table steps ways : List �
   kept ps qs q e f h = rw q (leads-plays (program_of m) (question_of m) (start []) (session (row s) 0 nobody) (building m s 0 s.count) qs (building-leads m w s rec.known [] nobody)
       (subst (λ (g : ℕ → Option ℕ). Plays (program_of m) (question_of m) (session (row s) 0 g) qs) (fun_ext nothing) (h.plays ground fit (row s) begin (length-row s rec.known.proper))))
 
-  pub whole : (run run₁ run₂ : List ℕ) (i e f n r : ℕ) → i ≡ 0 → Behind m s plain 0 rows run run₁ i e f n → r ≡ n + length (building m s 0 s.count) → run₂ ≡ backwards run₁ n (building m s 0 s.count)
+  pub whole : (run run₁ run₂ : List ℕ) (e f n r : ℕ) → Behind m s plain 0 rows run run₁ 0 e f n → r ≡ n + length (building m s 0 s.count) → run₂ ≡ backwards run₁ n (building m s 0 s.count)
       → Written (Kept (program_of m) (question_of m)) limit.shown run 0 run₂ r
-  whole run run₁ run₂ i e f n r z h index written = go (subst (λ (j : ℕ). Behind m s plain 0 rows run run₁ j e f n) z h)
-    where
-      go : Behind m s plain 0 rows run run₁ 0 e f n → Written (Kept (program_of m) (question_of m)) limit.shown run 0 run₂ r
-      go k =
-          let few = rec.known.proper.count in
-          let p = written_on _ _ (Kept (program_of m) (question_of m)) (λ ps qs a b. kept ps qs a e f b) k.most limit.built run run₁ run₂ 0 n r k.played (building-written m w s rec.known 0 (omega arith) run₁ run₂ n r index written) in
-          record { places = p.places; good = p.good; few = omega (arith, p.few, behind-few m w s rows table steps ways rec plain 0 run run₁ 0 e f n k); numerable = p.numerable; written = p.written; index = p.index }
+  whole run run₁ run₂ e f n r k index written =
+      let few = rec.known.proper.count in
+      let p = written_on _ _ (Kept (program_of m) (question_of m)) (λ ps qs a b. kept ps qs a e f b) k.most limit.built run run₁ run₂ 0 n r k.played (building-written m w s rec.known 0 (omega arith) run₁ run₂ n r index written) in
+      record { places = p.places; good = p.good; few = omega (arith, p.few, behind-few m w s rows table steps ways rec plain 0 run run₁ 0 e f n k); numerable = p.numerable; written = p.written; index = p.index }
 
   pub shown : (run run₂ : List ℕ) (r : ℕ) → Written (Kept (program_of m) (question_of m)) limit.shown run 0 run₂ r → limit.shown ≤ length run → (run' : List ℕ) → run' ≡ reverse (take r run₂) ++ drop r run₂ → Shown m run run' r
   shown run run₂ r h long run' e = record {

@@ -18,8 +18,7 @@ pub fn goal(rows: &[u8], k: usize) -> Pair
     requires { (k ≤ limit.stages) × (length rows.now ≡ levels_bytes) × ((e f : ℕ) × Sits rows.now k e f) }
     ensures { Sits rows.now k result.first result.second }
 {
-    let mut f: usize = 0;
-    while f < LISTED {
+    for f in 0..LISTED {
         let row = facts_bits::row(rows, LISTED * k + f);
         let e = facts_bits::next(row, 0);
         if e < LISTED {
@@ -28,11 +27,10 @@ pub fn goal(rows: &[u8], k: usize) -> Pair
                 second: f,
             };
         }
-        f += 1;
     }
     Pair {
-        first: f,
-        second: f,
+        first: LISTED,
+        second: LISTED,
     }
 }
 

@@ -1,14 +1,14 @@
 -- Which of the found states a `new` line made, line by line and clause by clause.
 use mathlib.Core.Path.{◌≡◌, refl, sym, ap, ◌∙◌, subst}
 use mathlib.Core.Logic.{inl, inr, ⊎_elim, ◌↔◌, ◌≢◌}
-use mathlib.Core.Bool.{true, false, false≢true}
+use mathlib.Core.Bool.{Bool, true, false, false≢true}
 use mathlib.Core.List.{List}
 use Prim.Native.Nat.{ℕ, ◌+◌, ◌≤◌, ◌<◌}
 use native.Mathlib.Omega.{arith}
 use borrow.Author.Tests.{ltb-true, ltb-false}
 use lib.Dec.{ltb}
-use lib.ListN.{length, get_or, set, length-set, replicate, get_or-replicate, length-replicate, get_or-eq_default}
-use lib.Seq.{get_or-set_same, get_or-set_other}
+use lib.ListN.{length, get_or, set, take, length-set, replicate, get_or-replicate, length-replicate, get_or-eq_default}
+use lib.Seq.{get_or-set_same, get_or-set_other, get_or-take, length-take-le}
 use Rattle.limits.specs.Limits as limit
 use Rattle.semantics.specs.Models.{line}
 use Rattle.semantics.proofs.Tools.{either, same?, clash}
@@ -22,26 +22,26 @@ use Rattle.search_states.specs.States.{by}
 use Rattle.witness_lineage.specs.Lineage.{is_new, Notes, Born}
 
 -- THE FIRST n LINES are looked at: the others stay
-pub record Sofar (lines : List ℕ) (n ℓ : ℕ) (born born' : List ℕ) : Type 0 where
+pub record Sofar (lines : List ℕ) (n ℓ : ℕ) (born born' : List Bool) : Type 0 where
   pub notes : Notes lines n ℓ born born'
-  pub rest : (i : ℕ) → n ≤ i → get_or born' i 0 ≡ get_or born i 0
+  pub rest : (i : ℕ) → n ≤ i → get_or born' i false ≡ get_or born i false
 
-module _ (lines : List ℕ) (ℓ : ℕ) (born : List ℕ) where
+module _ (lines : List ℕ) (ℓ : ℕ) (born : List Bool) where
   pub sofar-none : Sofar lines 0 ℓ born born
   sofar-none = record { notes = record { long = refl; noted = λ i l. absurd (omega arith) }; rest = λ i l. refl }
 
-  module _ (n : ℕ) (b : List ℕ) (h : Sofar lines n ℓ born b) where
-    pub sofar-note : n < length born → get_or lines n 0 ≡ ℓ → Sofar lines (n + 1) ℓ born (set b n 1)
+  module _ (n : ℕ) (b : List Bool) (h : Sofar lines n ℓ born b) where
+    pub sofar-note : n < length born → get_or lines n 0 ≡ ℓ → Sofar lines (n + 1) ℓ born (set b n true)
     sofar-note l q =
         record {
           notes = record {
             long = simp length-set h.notes.long;
             noted = λ i k. ⊎_elim
-                (λ (z : i ≡ n). ((λ _. inr (rw z q)), λ _. rw z (get_or-set_same b n 1 0 (omega (arith, h.notes.long)))))
-                (λ (z : i ≢ n). rw (get_or-set_other b n i 1 0 z) (h.notes.noted i (omega arith)))
+                (λ (z : i ≡ n). ((λ _. inr (rw z q)), λ _. rw z (get_or-set_same b n true false (omega (arith, h.notes.long)))))
+                (λ (z : i ≢ n). rw (get_or-set_other b n i true false z) (h.notes.noted i (omega arith)))
                 (same? i n);
           };
-          rest = λ i k. get_or-set_other b n i 1 0 (λ z. omega arith) ∙ h.rest i (omega arith);
+          rest = λ i k. get_or-set_other b n i true false (λ z. omega arith) ∙ h.rest i (omega arith);
         }
 
     pub sofar-skip : (get_or lines n 0 ≢ ℓ) → Sofar lines (n + 1) ℓ born b
@@ -57,25 +57,30 @@ module _ (lines : List ℕ) (ℓ : ℕ) (born : List ℕ) where
           rest = λ i k. h.rest i (omega arith);
         }
 
--- THE CLAUSES BELOW k: state i has a 1 if one of them is a `new` clause on the line that it came by
+-- the first lines of a row
+pub notes-cut : (lines : List ℕ) (n ℓ : ℕ) (born born' : List Bool) → n ≤ length lines → Notes (take n lines) (length (take n lines)) ℓ born born' → Notes lines n ℓ born born'
+notes-cut lines n ℓ born born' l h =
+    record { long = h.long; noted = λ i k. rw get_or-take at (h.noted i (omega (arith, length-take-le n lines l))) }
+
+-- THE CLAUSES BELOW k: state i is noted if one of them is a `new` clause on the line that it came by
 module _ (m : Model) (s : States) where
   abbrev Makes : ℕ → ℕ → ℕ → Type 0
   Makes k i j = (j < k) × ((clause_at m j).line ≡ by s i) × (is_new (clause_line m.literals (clause_at m j)) ≡ true)
 
-  abbrev pub Early : ℕ → List ℕ → Type 0
-  Early k born = (length born ≡ limit.atomic) × ((i : ℕ) → i < s.count → (get_or born i 0 ≡ 1) ↔ ((j : ℕ) × Makes k i j))
+  abbrev pub Early : ℕ → List Bool → Type 0
+  Early k born = (length born ≡ limit.atomic) × ((i : ℕ) → i < s.count → (get_or born i false ≡ true) ↔ ((j : ℕ) × Makes k i j))
 
-  pub early-none : Early 0 (replicate {A = ℕ} limit.atomic 0)
-  early-none = (length-replicate {A = ℕ} limit.atomic 0, λ i l. ((λ q. absurd (omega (arith, q, zero i))), λ q. absurd (omega (arith, q.1.0))))
+  pub early-none : Early 0 (replicate {A = Bool} limit.atomic false)
+  early-none = (length-replicate {A = Bool} limit.atomic false, λ i l. ((λ q. clash q (zero i)), λ q. absurd (omega (arith, q.1.0))))
     where
-      zero : (i : ℕ) → get_or (replicate {A = ℕ} limit.atomic 0) i 0 ≡ 0
+      zero : (i : ℕ) → get_or (replicate {A = Bool} limit.atomic false) i false ≡ false
       zero i = ⊎_elim
-          (λ (z : ltb i limit.atomic ≡ true). get_or-replicate limit.atomic i 0 0 (ltb-true i limit.atomic z))
-          (λ (z : ltb i limit.atomic ≡ false). let e : length (replicate {A = ℕ} limit.atomic 0) ≤ i = rw length-replicate (ltb-false i limit.atomic z) in get_or-eq_default (replicate limit.atomic 0) 0 e)
+          (λ (z : ltb i limit.atomic ≡ true). get_or-replicate limit.atomic i false false (ltb-true i limit.atomic z))
+          (λ (z : ltb i limit.atomic ≡ false). let e : length (replicate {A = Bool} limit.atomic false) ≤ i = rw length-replicate (ltb-false i limit.atomic z) in get_or-eq_default (replicate limit.atomic false) false e)
           (either (ltb i limit.atomic))
 
-  module _ (k : ℕ) (b : List ℕ) (h : Early k b) where
-    pub early-note : is_new (clause_line m.literals (clause_at m k)) ≡ true → (b' : List ℕ) → Notes s.lines s.count (clause_at m k).line b b' → Early (k + 1) b'
+  module _ (k : ℕ) (b : List Bool) (h : Early k b) where
+    pub early-note : is_new (clause_line m.literals (clause_at m k)) ≡ true → (b' : List Bool) → Notes s.lines s.count (clause_at m k).line b b' → Early (k + 1) b'
     early-note e b' n = (
       n.long ∙ h.0,
       λ i l.
@@ -100,7 +105,7 @@ module _ (m : Model) (s : States) where
     )
 
   -- all clauses
-  pub early-all : WellFormed m → (b : List ℕ) → Early m.clausecount b → Born m s b
+  pub early-all : WellFormed m → (b : List Bool) → Early m.clausecount b → Born m s b
   early-all wf b h = record { long = h.0; made = λ i l. ((λ q. onward i ((h.1 i l).0 q)), λ q. (h.1 i l).1 (back i q)) }
     where
       onward : (i : ℕ) → (j : ℕ) × Makes m.clausecount i j → is_new (line (program_of m) (by s i)) ≡ true

@@ -1,7 +1,7 @@
 -- Writing a lineage from its last line back, and the lineages of all states.
 use mathlib.Core.Path.{◌≡◌, sym, ap, ◌∙◌}
-use mathlib.Core.Logic.{⊎_elim, ◌≢◌}
-use mathlib.Core.Bool.{true, false}
+use mathlib.Core.Logic.{⊎_elim}
+use mathlib.Core.Bool.{Bool, true, false}
 use mathlib.Core.List.{List, [], ◌∷◌, ◌++◌, append_assoc, append-nil, map-append}
 use Prim.Native.Nat.{ℕ, zero, suc, ◌+◌, ◌≤◌, ◌<◌}
 use native.Mathlib.Omega.{arith}
@@ -13,7 +13,7 @@ use Rattle.semantics.specs.Runs.{step}
 use Rattle.semantics.specs.Tables.{From}
 use Rattle.semantics.specs.Building.{places, grown, lineage, with}
 use Rattle.semantics.specs.Walkers.{raise}
-use Rattle.semantics.proofs.Tools.{either}
+use Rattle.semantics.proofs.Tools.{either, clash}
 use Rattle.model.specs.declared.Model.{Model}
 use Rattle.model.specs.declared.Place.TheVariants.{Step}
 use Rattle.model.specs.Records.{program_of}
@@ -96,13 +96,9 @@ module _ (m : Model) (wf : WellFormed m) (s : States) (proper : Proper s) (found
           (either (is_new (line (program_of m) (by s i))))
 
 -- the same, read from the rows
-module _ (m : Model) (s : States) (ls ps bs : List ℕ) (a : Ancestry m s ls ps bs) where
-  pub trace-inside : (i : ℕ) → i < s.count → (i < length ls) × (i < length ps) × (i < length bs)
-  trace-inside i h = let p = a.proper in (
-    omega (arith, p.count, p.lines, ap length a.lines),
-    omega (arith, p.count, p.origins, ap length a.origins),
-    omega (arith, p.count, a.born.long),
-  )
+module _ (m : Model) (s : States) (born : List Bool) (a : Ancestry m s born) where
+  pub trace-inside : (i : ℕ) → i < s.count → (i < length s.lines) × (i < length s.origins) × (i < length born)
+  trace-inside i h = let p = a.proper in (omega (arith, p.count, p.lines), omega (arith, p.count, p.origins), omega (arith, p.count, a.born.long))
 
   -- there is room for the first line
   pub first-room : (state k : ℕ) (run : List ℕ) → Makes m s state k run → k < length run
@@ -110,16 +106,16 @@ module _ (m : Model) (s : States) (ls ps bs : List ℕ) (a : Ancestry m s ls ps 
       made-room m a.model s a.proper a.found state 0 k run run state k (made_none m a.model s a.proper a.found state 0 k run h.0) h.1
 
   module _ (state o k : ℕ) (run₀ run : List ℕ) (i at : ℕ) (small : o < 255) (h : Made m s state o k run₀ run i at) where
-    number : numeral (Step (get_or ls i 0) o) ≡ number_of (step (by s i) o)
-    number = rw a.lines (step-number m a.model s a.proper a.found i o h.inside small)
+    number : numeral (Step (by s i) o) ≡ number_of (step (by s i) o)
+    number = step-number m a.model s a.proper a.found i o h.inside small
 
-    pub trace-all : get_or bs i 0 ≡ 1 → (at + 1 ≡ k + length (making m s o state)) × (set run at (numeral (Step (get_or ls i 0) o)) ≡ backwards run₀ k (making m s o state))
+    pub trace-all : get_or born i false ≡ true → (at + 1 ≡ k + length (making m s o state)) × (set run at (numeral (Step (by s i) o)) ≡ backwards run₀ k (making m s o state))
     trace-all e = rw number (made_all m a.model s a.proper a.found state o k run₀ run i at h ((a.born.made i h.inside).0 e))
 
-    pub trace-more : get_or bs i 0 ≢ 1 → (get_or ps i 0 < i) × Made m s state o k run₀ (set run at (numeral (Step (get_or ls i 0) o))) (get_or ps i 0) (at + 1)
-    trace-more e = rw (number, a.origins)
+    pub trace-more : get_or born i false ≡ false → (from s i < i) × Made m s state o k run₀ (set run at (numeral (Step (by s i) o))) (from s i) (at + 1)
+    trace-more e = rw number
         (made_more m a.model s a.proper a.found state o k run₀ run i at h
-        (⊎_elim (λ (q : is_new (line (program_of m) (by s i)) ≡ true). absurd (e ((a.born.made i h.inside).1 q))) (λ (q : is_new (line (program_of m) (by s i)) ≡ false). q) (either (is_new (line (program_of m) (by s i))))))
+        (⊎_elim (λ (q : is_new (line (program_of m) (by s i)) ≡ true). clash ((a.born.made i h.inside).1 q) e) (λ (q : is_new (line (program_of m) (by s i)) ≡ false). q) (either (is_new (line (program_of m) (by s i))))))
 
 -- from index k on the table has the steps behind those that make the first n states, each behind b objects, and index `at` is the next
 pub record Built (m : Model) (s : States) (b k : ℕ) (run₀ run : List ℕ) (n at : ℕ) : Type 0 where

@@ -30,23 +30,21 @@ making m s o i = places (with o (lines_to m s i))
 abbrev pub building : Model → States → ℕ → ℕ → List Place
 building m s b n = places (raise (program_of m) (by s) (from s) b n)
 
--- born' has a 1 where born has one, and where the line stands among the first n lines
-pub record Notes (lines : List ℕ) (n ℓ : ℕ) (born born' : List ℕ) : Type 0 where
+-- born' has what born has, and where the line stands among the first n lines
+pub record Notes (lines : List ℕ) (n ℓ : ℕ) (born born' : List Bool) : Type 0 where
   pub long : length born' ≡ length born
-  pub noted : (i : ℕ) → i < n → (get_or born' i 0 ≡ 1) ↔ ((get_or born i 0 ≡ 1) ⊎ (get_or lines i 0 ≡ ℓ))
+  pub noted : (i : ℕ) → i < n → (get_or born' i false ≡ true) ↔ ((get_or born i false ≡ true) ⊎ (get_or lines i 0 ≡ ℓ))
 
--- the states that a `new` line made have a 1, and no other
-pub record Born (m : Model) (s : States) (born : List ℕ) : Type 0 where
+-- the states that a `new` line made are noted, and no other
+pub record Born (m : Model) (s : States) (born : List Bool) : Type 0 where
   pub long : length born ≡ limit.atomic
-  pub made : (i : ℕ) → i < s.count → (get_or born i 0 ≡ 1) ↔ (is_new (line (program_of m) (by s i)) ≡ true)
+  pub made : (i : ℕ) → i < s.count → (get_or born i false ≡ true) ↔ (is_new (line (program_of m) (by s i)) ≡ true)
 
--- how the found states came, row by row
-pub record Ancestry (m : Model) (s : States) (ls ps bs : List ℕ) : Type 0 where
+-- how the found states came, and which of them a `new` line made
+pub record Ancestry (m : Model) (s : States) (bs : List Bool) : Type 0 where
   pub model : WellFormed m
   pub proper : Proper s
   pub found : Discovered (program_of m) s
-  pub lines : ls ≡ s.lines
-  pub origins : ps ≡ s.origins
   pub born : Born m s bs
 
 -- the state is found, and the table has room for its making from index k on

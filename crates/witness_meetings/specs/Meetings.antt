@@ -1,5 +1,6 @@
 -- MEETINGS of a shown run: what is known where one is written, and what the table then has.
 use Rattle.std.specs.Prelude.{◌≡◌, ◌⊎◌, ◌≢◌, true, cond, List, [], ◌∷◌, map, ℕ, suc, ◌+◌, ◌≤◌, ◌<◌, eqb, length, get_or}
+use Rattle.std.specs.Prelude as prelude
 use Rattle.std.proofs.Math.Option.{Option, some}
 use Rattle.limits.specs.Limits as limit
 use Rattle.semantics.specs.Models.{elem, Body, vars, names}
@@ -47,9 +48,10 @@ pub record Numbers (st : Stage) : Type 0 where
   pub few : st.variables ≤ limit.variables
   pub different : (x y : ℕ) → x < st.variables → y < st.variables → number_in st x ≡ number_in st y → x ≡ y
 
--- x is the stage's own number of the variable v, or the number of its variables where it has not v
-abbrev pub Spots : Stage → ℕ → ℕ → Type 0
-Spots st v x = ((x < st.variables) × (number_in st x ≡ v)) ⊎ ((x ≡ st.variables) × ((y : ℕ) → y < st.variables → number_in st y ≢ v))
+-- the answer is the stage's own number of the variable v, or that it has not v
+abbrev pub Spots : Stage → ℕ → prelude.Option ℕ → Type 0
+Spots st v (prelude.Some x) = (x < st.variables) × (number_in st x ≡ v)
+Spots st v prelude.None = (y : ℕ) → y < st.variables → number_in st y ≢ v
 
 -- the choice c, but element e for the variable v where the stage has it
 abbrev pub Names : Stage → ℕ → ℕ → Choice → Choice → Type 0

@@ -30,20 +30,15 @@ pub struct Cast {
     pub second: u32,
 }
 
-// The stage's own number of a variable, or the number of its variables where it has not that one.
-pub fn spot(stage: Stage, variable: u32) -> usize
+// The stage's own number of a variable, if it has the variable.
+pub fn spot(stage: Stage, variable: u32) -> Option<usize>
     requires { Numbers stage }
     ensures { Spots stage variable result }
 {
     let n = stage.variables as usize;
-    let mut i: usize = 0;
-    while i < n {
-        if stage.numbers[i] == variable {
-            return i;
-        }
-        i += 1;
-    }
-    n
+    stage.numbers[..n]
+        .iter()
+        .position(|number| *number == variable)
 }
 
 // The choice with element e for the variable, where the stage has it.
@@ -51,11 +46,10 @@ fn name(stage: Stage, variable: u32, e: usize, c: Choice) -> Choice
     requires { Numbers stage }
     ensures { Names stage variable e c result }
 {
-    let x = spot(stage, variable);
-    if x < stage.variables as usize {
-        return facts_candidates::choose(c, x, e);
+    match spot(stage, variable) {
+        Some(x) => facts_candidates::choose(c, x, e),
+        None => c,
     }
-    c
 }
 
 // The choice with these elements for the carried variables, where stage k + 1 has them.
@@ -122,11 +116,10 @@ fn choose(
 {
     let free = facts_holds::free();
     let fixed = name_both(m, k, first, second, free);
-    let found = seek_stage(work, slots, m, s, k, fixed);
-    if let Found::At(c) = found {
-        return c;
+    match seek_stage(work, slots, m, s, k, fixed) {
+        Found::At(c) => c,
+        Found::Nowhere => fixed,
     }
-    fixed
 }
 
 // The objects of the states chosen for n variables: they stand behind `base` others.
@@ -135,11 +128,9 @@ fn behind(n: usize, base: u32, c: Choice) -> Choice
     ensures { Behind n base c result }
 {
     let mut r = c;
-    let mut x: usize = 0;
-    while x < n {
+    for x in 0..n {
         let e = facts_candidates::element(c, x);
         r = facts_candidates::choose(r, x, base as usize + e);
-        x += 1;
     }
     r
 }
@@ -227,16 +218,12 @@ pub fn opening(
     requires { Known m work.now s × Own width.slots slots.now × (0 < (stage_at m 0).variables) × (j < limit.listed) × (j * width.bytes + width.bytes ≤ length rows.now) × ((σ : ℕ → ℕ) × Opens m work.now s rows.now j first second σ) }
     ensures { (σ : ℕ → ℕ) × Opens m work.now s rows.now j first second σ × Chooses (stage_at m 0) result σ }
 {
-    let n = s.count;
-    let mut u: usize = 0;
-    while u < n {
+    for u in 0..s.count {
         if facts_bits::get(rows, j * WIDTH + u) {
-            let found = attempt(work, slots, m, s, u, first, second);
-            if let Found::At(c) = found {
+            if let Found::At(c) = attempt(work, slots, m, s, u, first, second) {
                 return c;
             }
         }
-        u += 1;
     }
     facts_holds::free()
 }

@@ -8,13 +8,5 @@ pub fn turn(run: &mut [u32], n: usize)
     requires { n ≤ length run.old }
     ensures { run.new ≡ reverse (take n run.old) ++ drop n run.old }
 {
-    let mut i: usize = 0;
-    let mut j = n;
-    while i + 1 < j {
-        j -= 1;
-        let x = run[i];
-        run[i] = run[j];
-        run[j] = x;
-        i += 1;
-    }
+    run[..n].reverse();
 }

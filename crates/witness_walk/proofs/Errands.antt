@@ -5,8 +5,8 @@ use mathlib.Core.List.{List, [], ◌∷◌}
 use Prim.Native.Nat.{ℕ, zero, suc, ◌+◌, ◌-◌, ◌≤◌, ◌<◌}
 use native.Mathlib.Omega.{arith}
 use native.Mathlib.Nat.{not-suc-le-zero}
-use lib.ListN.{length, take, get_or, set}
-use lib.Seq.{slice, slice-cons, length-slice, get_or-take, length-take-le}
+use lib.ListN.{length, take, drop, get_or, set, length-drop}
+use lib.Seq.{drop-cons, length-take-le}
 use Rattle.limits.specs.Limits as limit
 use Rattle.semantics.specs.Facts.{Database, state}
 use Rattle.semantics.specs.Runs.{Place, step}
@@ -40,18 +40,15 @@ numerable-at o [] i l h = absurd (not-suc-le-zero l)
 numerable-at o (ℓ ∷ ls) zero l h = h.0
 numerable-at o (ℓ ∷ ls) (suc i) l h = numerable-at o ls i (omega arith) h.1
 
--- ONE STEP MORE is written, before those from line i on
-module _ (run₀ lines : List ℕ) (k n o : ℕ) (long : n ≤ length lines) (numerable : AllNumerable (places (with o (take n lines)))) where
-  told-number : (i : ℕ) → i < n → numeral (Step (get_or lines i 0) o) ≡ number_of (step (get_or lines i 0) o)
-  told-number i l = let h = rw (get_or-take n lines i 0 l) at (numerable-at o (take n lines) i (rw (length-take-le n lines long) l) numerable) in omega (arith, h.0, h.1)
+-- ONE STEP MORE is written, before those behind line i
+module _ (run₀ lines : List ℕ) (k o : ℕ) (numerable : AllNumerable (places (with o lines))) where
+  told-number : (i : ℕ) → i < length lines → numeral (Step (get_or lines i 0) o) ≡ number_of (step (get_or lines i 0) o)
+  told-number i l = let h = numerable-at o lines i l numerable in omega (arith, h.0, h.1)
 
-  pub told_more : (run : List ℕ) (i at x : ℕ) → 0 < i → i ≤ n → at ≡ k + (n - i) → run ≡ backwards run₀ k (places (with o (slice i n lines))) → x ≡ numeral (Step (get_or lines (i - 1) 0) o)
-      → set run at x ≡ backwards run₀ k (places (with o (slice (i - 1) n lines)))
-  told_more run zero at x p l e h q = absurd (omega arith)
-  told_more run (suc i) at x p l e h q =
-      let minus : suc i - 1 ≡ i = omega arith in
-      rw (minus, slice-cons i n lines 0 l long) (ap (set run at) ((rw minus at q) ∙ told-number i l) ∙ ap (λ (r : List ℕ). set r at (number_of (step (get_or lines i 0) o))) h
-      ∙ (rw (e, ← length-slice (suc i) n lines long, ← length-places o (slice (suc i) n lines)) (backwards-more run₀ k (places (with o (slice (suc i) n lines))) (step (get_or lines i 0) o))))
+  pub told_more : (run : List ℕ) (i at x : ℕ) → i < length lines → at ≡ k + (length lines - suc i) → run ≡ backwards run₀ k (places (with o (drop (suc i) lines))) → x ≡ numeral (Step (get_or lines i 0) o)
+      → set run at x ≡ backwards run₀ k (places (with o (drop i lines)))
+  told_more run i at x l e h q = rw (drop-cons lines i 0) (ap (set run at) (q ∙ told-number i l) ∙ ap (λ (r : List ℕ). set r at (number_of (step (get_or lines i 0) o))) h
+      ∙ (rw (e, ← length-drop (suc i) lines, ← length-places o (drop (suc i) lines)) (backwards-more run₀ k (places (with o (drop (suc i) lines))) (step (get_or lines i 0) o))))
 
 -- A SHORTEST WAY IS WRITTEN, with fewer places than there are states
 module _ (m : Model) (wf : WellFormed m) (s : States) (proper : Proper s) (e t o : ℕ) (small : o < limit.objects) (out lines : List ℕ) (n : ℕ) (h : Shortest (program_of m) (row s) e t out lines n) where

@@ -246,10 +246,6 @@ module _ (m : Model) (w : List ℕ) (s : States) (rows table steps ways : List �
     pub behind-index : (run : List ℕ) (i e f at : ℕ) → Behind m s cast until rows run₀ run i e f at → at ≤ limit.carried * limit.walked + limit.stages
     behind-index run i e f at h = omega (arith, behind-few run i e f at h, h.played.index, h.played.few)
 
-    -- a level that is not the first, with the one before
-    pub behind-level : (run : List ℕ) (i e f at : ℕ) → until < i → Behind m s cast until rows run₀ run i e f at → Behind m s cast until rows run₀ run (suc (i - 1)) e f at
-    behind-level run i e f at p h = let z : i ≡ suc (i - 1) = omega arith in subst (λ (n : ℕ). Behind m s cast until rows run₀ run n e f at) z h
-
     -- ONE STAGE BACK: its meeting is written, then the second object's errand, then the first's
     pub behind-back : (run run₁ run₂ run₃ : List ℕ) (k e f u v at at₁ at₂ at₃ : ℕ) → until ≤ k → Behind m s cast until rows run₀ run (suc k) e f at → LeadsTo m rows ways k e f u v
         → Written (Met m s cast k e f) 1 run at run₁ at₁

@@ -2,7 +2,10 @@
 use mathlib.Core.Path.{◌≡◌, refl}
 use mathlib.Core.Bool.{Bool, true, false}
 use mathlib.Core.List.{List}
-use Prim.Native.Nat.{ℕ, ◌+◌, ◌*◌, ◌<◌}
+use Prim.Native.Nat.{ℕ, ◌+◌, ◌*◌, ◌≤◌, ◌<◌}
+use native.Mathlib.Omega.{arith}
+use Rattle.std.specs.Prelude as prelude
+use Rattle.std.specs.Option.{MatchOption}
 use Rattle.limits.specs.Limits as limit
 use Rattle.semantics.proofs.Tools.{clash}
 use Rattle.model.specs.declared.Model.{Model}
@@ -18,6 +21,13 @@ said false A h q = clash q refl
 pub denied : (r : Bool) (A : Type 0) → Says r A → r ≡ false → A → ⊥
 denied true A h q = clash refl q
 denied false A h q = h
+
+-- what a search over the slots found
+pub listed_slot : (P : ℕ → Type 0) (o : prelude.Option ℕ)
+    → MatchOption o ((k : ℕ) → 0 ≤ k → k < limit.listed → P k → ⊥) (λ i. (0 ≤ i) × (i < limit.listed) × P i × ((k : ℕ) → 0 ≤ k → k < i → P k → ⊥))
+    → MatchOption o ((u : ℕ) → u < limit.listed → P u → ⊥) (λ u. (u < limit.listed) × P u)
+listed_slot P prelude.None h = λ u l. h u (omega arith) l
+listed_slot P (prelude.Some u) h = (h.1, h.2)
 
 -- a pair that leads on: slot v of the second object is tried first, and then a slot of its row
 module _ (m : Model) (rows ways : List ℕ) (k e f : ℕ) (one two begun began : Bool) (first : one ≡ holder m 0 k) (second : two ≡ holder m 1 k) (before : begun ≡ chosen m 0 k) (before' : began ≡ chosen m 1 k) (u v : ℕ) where

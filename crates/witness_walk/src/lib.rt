@@ -1,7 +1,7 @@
 // The walk of the carried objects along the levels, with the meetings, written from its end.
 #![tactic(auto)]
 
-ghost use Rattle.std.specs.Prelude.{◌≡◌, true, List, ℕ, ◌+◌, ◌-◌, ◌*◌, ◌≤◌, ◌<◌, length, take};
+ghost use Rattle.std.specs.Prelude.{◌≡◌, true, List, ℕ, suc, ◌+◌, ◌-◌, ◌*◌, ◌≤◌, ◌<◌, length, MatchOption};
 ghost use Rattle.limits.specs.Limits as limit;
 ghost use Rattle.semantics.specs.Building.{places, with};
 ghost use Rattle.model.specs.Records.{program_of};
@@ -29,10 +29,9 @@ pub struct Pair {
     pub second: usize,
 }
 
-// A level, the slots of the carried objects there, and the index at which the place before is written.
+// The slots of the carried objects on a level, and the index at which the place before is written.
 #[derive(Clone, Copy)]
 pub struct Stand {
-    pub level: usize,
     pub first: usize,
     pub second: usize,
     pub at: usize,
@@ -43,9 +42,7 @@ fn holds(m: Model, v: usize, k: usize) -> bool
     requires { WellFormed m × (v < limit.carried) × (k < m.stagecount) }
     ensures { result ≡ holder m v k }
 {
-    let stage = m.stages[k];
-    let variables = stage.variables as usize;
-    witness_meetings::spot(stage, m.carried[v]) < variables
+    witness_meetings::spot(m.stages[k], m.carried[v]).is_some()
 }
 
 // Does it stand in one of the first k stages?
@@ -53,25 +50,21 @@ fn carries(m: Model, v: usize, k: usize) -> bool
     requires { WellFormed m × (v < limit.carried) × (k ≤ m.stagecount) }
     ensures { result ≡ chosen m v k }
 {
-    let mut i: usize = 0;
-    while i < k {
+    for i in 0..k {
         if holds(m, v, i) {
             return true;
         }
-        i += 1;
     }
     false
 }
 
-// Writes the first n of the lines as steps of the object, the last first, from index k on. Returns the index behind them.
-fn tell(run: &mut [u32], lines: &[u32], n: usize, object: u32, k: usize) -> usize
-    requires { (n ≤ length lines.now) × AllNumerable (places (with object (take n lines.now))) × (k + n ≤ length run.old) }
-    ensures { (result ≡ k + n) × (run.new ≡ backwards run.old k (places (with object (take n lines.now)))) }
+// Writes the lines as steps of the object, the last first, from index k on. Returns the index behind them.
+fn tell(run: &mut [u32], lines: &[u32], object: u32, k: usize) -> usize
+    requires { AllNumerable (places (with object lines.now)) × (k + length lines.now ≤ length run.old) }
+    ensures { (result ≡ k + length lines.now) × (run.new ≡ backwards run.old k (places (with object lines.now))) }
 {
-    let mut i = n;
     let mut at = k;
-    while 0 < i {
-        i -= 1;
+    for i in (0..lines.len()).rev() {
         let line = lines[i];
         run[at] = model::number_of(Place::Step { line, object });
         at += 1;
@@ -96,7 +89,7 @@ pub fn lead(
 {
     let mut lines = [0u32; LISTED];
     let n = search_ways::way(m, s, table, steps, from, to, &mut lines);
-    tell(run, &lines, n, object, at)
+    tell(run, &lines[..n], object, at)
 }
 
 // Writes what the object of cell v does before stage k + 1 is met, the last step first, from index `at` on. Returns the index behind it.
@@ -139,22 +132,12 @@ fn moves(ways: &[u8], stands: bool, began: bool, u: usize, e: usize) -> bool
     facts_bits::get(ways, u * WIDTH + e)
 }
 
-// The first slot of row j from which an object can go to slot e, or LISTED where there is none.
-fn source(rows: &[u8], ways: &[u8], j: usize, stands: bool, began: bool, e: usize) -> usize
+// The first slot of row j from which an object can go to slot e, if there is one.
+fn source(rows: &[u8], ways: &[u8], j: usize, stands: bool, began: bool, e: usize) -> Option<usize>
     requires { (length ways.now ≡ matrix_bytes) × (length rows.now ≡ levels_bytes) × (j * width.bytes + width.bytes ≤ levels_bytes) × (e < limit.listed) }
-    ensures found { result < limit.listed → Source rows.now ways.now j stands began e result }
-    ensures first { (u : ℕ) → u < limit.listed → Source rows.now ways.now j stands began e u → result < limit.listed }
+    ensures { MatchOption result ((u : ℕ) → u < limit.listed → Source rows.now ways.now j stands began e u → ⊥) (λ u. (u < limit.listed) × Source rows.now ways.now j stands began e u) }
 {
-    let mut u: usize = 0;
-    while u < LISTED {
-        if facts_bits::get(rows, j * WIDTH + u) {
-            if moves(ways, stands, began, u, e) {
-                return u;
-            }
-        }
-        u += 1;
-    }
-    u
+    (0..LISTED).find(|u| facts_bits::get(rows, j * WIDTH + *u) && moves(ways, stands, began, *u, e))
 }
 
 // A pair of level k that leads to a pair of the next level.
@@ -166,23 +149,20 @@ fn previous(rows: &[u8], ways: &[u8], m: Model, k: usize, first: usize, second: 
     let two = holds(m, 1, k);
     let begun = carries(m, 0, k);
     let began = carries(m, 1, k);
-    let mut v: usize = 0;
-    while v < LISTED {
+    for v in 0..LISTED {
         if moves(ways, two, began, v, second) {
-            let u = source(rows, ways, LISTED * k + v, one, begun, first);
-            if u < LISTED {
+            if let Some(u) = source(rows, ways, LISTED * k + v, one, begun, first) {
                 return Pair {
                     first: u,
                     second: v,
                 };
             }
         }
-        v += 1;
     }
     Pair { first, second }
 }
 
-// Writes the places by which the carried objects came to a pair of their level from the level before, and goes back to their pair there.
+// Writes the places by which the carried objects came to a pair of level k + 1 from level k, and goes back to their pair there.
 fn back(
     run: &mut [u32],
     work: &[u8],
@@ -194,22 +174,33 @@ fn back(
     steps: &[u8],
     ways: &[u8],
     cast: Cast,
+    k: usize,
     p: Stand,
 ) -> Stand
-    requires { Recorded m work.now s rows.now table.now steps.now ways.now × Own width.slots slots.now × Numbered s cast × (limit.run ≤ length run.old) × ((until : ℕ) × (run₀ : List ℕ) × (until < p.level) × Behind m s cast until rows.now run₀ run.old p.level p.first p.second p.at) }
-    ensures { ((until : ℕ) (run₀ : List ℕ) → until < p.level → Behind m s cast until rows.now run₀ run.old p.level p.first p.second p.at → Behind m s cast until rows.now run₀ run.new result.level result.first result.second result.at) × (result.level < p.level) × (length run.new ≡ length run.old) }
+    requires { Recorded m work.now s rows.now table.now steps.now ways.now × Own width.slots slots.now × Numbered s cast × (limit.run ≤ length run.old) × ((until : ℕ) × (run₀ : List ℕ) × (until ≤ k) × Behind m s cast until rows.now run₀ run.old (suc k) p.first p.second p.at) }
+    ensures { (until : ℕ) (run₀ : List ℕ) → until ≤ k → Behind m s cast until rows.now run₀ run.old (suc k) p.first p.second p.at → Behind m s cast until rows.now run₀ run.new k result.first result.second result.at }
 {
-    let k = p.level - 1;
     let first = p.first;
     let second = p.second;
-    let one = cast.first;
-    let two = cast.second;
     let q = previous(rows, ways, m, k, first, second);
     let met = witness_meetings::meet(run, work, slots, m, s, cast, k, first, second, p.at);
-    let then = errand(run, m, s, table, steps, 1, k, q.second, second, two, met);
-    let at = errand(run, m, s, table, steps, 0, k, q.first, first, one, then);
+    let then = errand(
+        run,
+        m,
+        s,
+        table,
+        steps,
+        1,
+        k,
+        q.second,
+        second,
+        cast.second,
+        met,
+    );
+    let at = errand(
+        run, m, s, table, steps, 0, k, q.first, first, cast.first, then,
+    );
     Stand {
-        level: k,
         first: q.first,
         second: q.second,
         at,
@@ -232,17 +223,15 @@ pub fn walk(
     goal: Pair,
 ) -> Stand
     requires { Recorded m work.now s rows.now table.now steps.now ways.now × Own width.slots slots.now × Numbered s cast × (until ≤ m.stagecount) × Sits rows.now m.stagecount goal.first goal.second × (limit.run ≤ length run.old) }
-    ensures { Behind m s cast until rows.now run.old run.new result.level result.first result.second result.at × (result.level ≡ until) }
+    ensures { Behind m s cast until rows.now run.old run.new until result.first result.second result.at }
 {
     let mut p = Stand {
-        level: m.stagecount,
         first: goal.first,
         second: goal.second,
         at: 0,
     };
-    while until < p.level {
-        let q = back(run, work, slots, m, s, rows, table, steps, ways, cast, p);
-        p = q;
+    for k in (until..m.stagecount).rev() {
+        p = back(run, work, slots, m, s, rows, table, steps, ways, cast, k, p);
     }
     p
 }

@@ -1,4 +1,3 @@
-use borrow.Author.Tests.{not-true, not-false}
 use mathlib.Core.Path.{◌≡◌, refl, subst}
 use mathlib.Core.Bool.{true}
 use native.Mathlib.Omega.{arith}
@@ -11,11 +10,11 @@ use Rattle.analyzer_verdict.proofs.conclude.Goals.{Else-not-found}
 
 pub returns-then-not-found : goal.returns-then-not-found
 returns-then-not-found c =
-    (c.requires.3, subst (Verdict (program_of c.args.m) (question_of c.args.m)) (not-true _ c.if-not-found.true) c.requires.1.verdict, refl)
+    (c.requires.3, subst (Verdict (program_of c.args.m) (question_of c.args.m)) c.if-not-found.true c.requires.1.verdict, refl)
 
 -- the search says reached
 reached : (c : Else-not-found) → c.args.found.reached ≡ true
-reached c = (not-false _ c.if-not-found.false)
+reached c = c.if-not-found.false
 
 pub witness-places-requires : goal.witness-places-requires
 witness-places-requires c =

@@ -6,24 +6,23 @@ use Rattle.asbestos.proofs.Same.{proper-append}
 use Rattle.asbestos_writer.specs.Writing.{kind_at, kinds_of}
 use Rattle.asbestos_writer.proofs.Checks.{proper-all, one-bad}
 use Rattle.asbestos_writer.proofs.all_proper.Goals as goal
+use Rattle.asbestos_writer.proofs.all_proper.Goals.{then-kinds-i-ge-LEVELS-via-then-kinds-i-ge-LEVELS, then-kinds-i-ge-LEVELS-via-else-kinds-i-ge-LEVELS+then-kinds-i-ge-LEVELS-2}
 
 pub returns-then-kinds-i-ge-LEVELS : goal.returns-then-kinds-i-ge-LEVELS
 returns-then-kinds-i-ge-LEVELS c =
     let a = c.args in
-    sym (one-bad a.kinds.now a.count c.loop-i.i (omega arith) (λ h. omega (arith, h.0, c.if-kinds-i-ge-LEVELS.true)))
-
-pub returns-then-kinds-i-ge-LEVELS-2 : goal.returns-then-kinds-i-ge-LEVELS-2
-returns-then-kinds-i-ge-LEVELS-2 c =
-    let a = c.args in
-    sym (one-bad a.kinds.now a.count c.loop-i.i (omega arith) (λ h. omega (arith, h.1, c.if-kinds-i-ge-LEVELS-2.true)))
+    sym (one-bad a.kinds.now a.count c.loop-i.i (omega arith) (λ h. elim c.then-kinds-i-ge-LEVELS.branch [
+      | then-kinds-i-ge-LEVELS-via-then-kinds-i-ge-LEVELS w ↦ omega (arith, h.0, w.if-kinds-i-ge-LEVELS.true)
+      | then-kinds-i-ge-LEVELS-via-else-kinds-i-ge-LEVELS+then-kinds-i-ge-LEVELS-2 w ↦ omega (arith, h.1, w.if-kinds-i-ge-LEVELS-2.true)
+    ]))
 
 pub loop-i-preserved : goal.loop-i-preserved
 loop-i-preserved c =
     let l = c.loop-i in
-    (omega arith, rw (add-one l.i) (proper-append (kinds_of c.args.kinds.now l.i) (kind_at c.args.kinds.now l.i) l.invariant.1 (omega arith, omega arith)))
+    rw (add-one l.i) (proper-append (kinds_of c.args.kinds.now l.i) (kind_at c.args.kinds.now l.i) l.invariant (omega arith, omega arith))
 
 pub returns : goal.returns
 returns c =
     let a = c.args in
     let l = c.loop-i in
-    sym (proper-all (kinds_of a.kinds.now a.count) (rw (le_antisymm l.invariant.0 c.loop-i-test.false) at l.invariant.1))
+    sym (proper-all (kinds_of a.kinds.now a.count) (rw (le_antisymm l.auto.i-end c.loop-i-test.false) at l.invariant))

@@ -6,7 +6,7 @@ use Rattle.asbestos_writer.proofs.Checks.{kind-proper, kinds-room, written-kind}
 use Rattle.asbestos_writer.proofs.put_kinds.Goals as goal
 
 pub loop-i-init : goal.loop-i-init
-loop-i-init c = (search rules, writes-none c.args.out.now c.args.at (omega arith))
+loop-i-init c = writes-none c.args.out.now c.args.at (omega arith)
 
 pub put_kind-next-requires : goal.put_kind-next-requires
 put_kind-next-requires c =
@@ -14,17 +14,17 @@ put_kind-next-requires c =
     let a = c.args in
     let l = c.loop-i in
     let h = kind-proper a.kinds.now a.count p.1 l.i (omega arith) in
-    (h.0, h.1, omega (arith, p.0, p.2, l.invariant.1.next, kept l.invariant.1, kinds-room a.kinds.now a.count p.1 l.i l.invariant.0))
+    (h.0, h.1, omega (arith, p.0, p.2, l.invariant.next, kept l.invariant, kinds-room a.kinds.now a.count p.1 l.i (omega arith)))
 
 pub loop-i-preserved : goal.loop-i-preserved
 loop-i-preserved c =
     let p = c.requires in
     let a = c.args in
     let l = c.loop-i in
-    (omega arith, written-kind a.kinds.now a.count p.1 l.i (omega arith) l.invariant.1 c.put_kind-next.ensures)
+    written-kind a.kinds.now a.count p.1 l.i (omega arith) l.invariant c.put_kind-next.ensures
 
 pub shape_of-out : goal.shape_of-out
-shape_of-out c = kept c.loop-i.invariant.1
+shape_of-out c = kept c.loop-i.invariant
 
 pub returns : goal.returns
-returns c = rw (le_antisymm c.loop-i.invariant.0 c.loop-i-test.false) at c.loop-i.invariant.1
+returns c = rw (le_antisymm c.loop-i.auto.i-end c.loop-i-test.false) at c.loop-i.invariant

@@ -7,7 +7,7 @@ returns-then-mark-eq0 c =
     let a = c.args in
     rw (eq-eqb a.mark 0 c.if-mark-eq0.true) c.put_bytes.ensures
 
-pub returns : goal.returns
-returns c =
+pub returns-else-mark-eq0 : goal.returns-else-mark-eq0
+returns-else-mark-eq0 c =
     let a = c.args in
-    rw (ne_eqb a.mark 0 c.if-mark-eq0.false) c.put_bytes-2.ensures
+    rw (ne_eqb a.mark 0 c.if-mark-eq0.false) c.put_bytes-else-mark-eq0.ensures

@@ -1,11 +1,8 @@
 -- `put_receiving` meets its contract.
 use Rattle.listing_bytes.specs.Writing.{Writes}
-use Prim.Native.Nat.{suc, ◌≤◌, ◌-◌}
+use Prim.Native.Nat.{suc}
 use Rattle.asbestos_writer.specs.Parts.{receiving}
 use Rattle.asbestos_writer.proofs.put_receiving.Given as goal
 
 abbrev pub invariant-loop-k : goal.invariant-loop-k
-invariant-loop-k l = (l.k ≤ suc l.receive) × Writes l.initial.out l.at (receiving l.k) l.next l.out
-
-abbrev pub decreases-loop-k : goal.decreases-loop-k
-decreases-loop-k l = suc l.receive - l.k
+invariant-loop-k l = Writes l.initial.out l.at (receiving l.k) l.next l.out

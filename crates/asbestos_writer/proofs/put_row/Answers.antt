@@ -8,20 +8,20 @@ use Rattle.asbestos_writer.proofs.Bytes.{row-short, written-each}
 use Rattle.asbestos_writer.proofs.put_row.Goals as goal
 
 pub loop-b-init : goal.loop-b-init
-loop-b-init c = (search rules, writes-none c.args.out.now c.args.at (omega arith))
+loop-b-init c = writes-none c.args.out.now c.args.at (omega arith)
 
 pub put_entry-next-requires : goal.put_entry-next-requires
 put_entry-next-requires c =
     let l = c.loop-b in
-    (c.requires.1, omega (arith, c.requires), omega (arith, c.requires, l.invariant.1.next, kept l.invariant.1, row-short c.args.a c.requires.1 l.b (omega (arith, c.requires))))
+    (c.requires.1, omega (arith, c.requires), omega (arith, c.requires, l.invariant.next, kept l.invariant, row-short c.args.a c.requires.1 l.b (omega (arith, c.requires))))
 
 pub loop-b-preserved : goal.loop-b-preserved
 loop-b-preserved c =
     let l = c.loop-b in
-    (omega arith, written-each l.b (λ (b : ℕ). entry_forms c.args.a b) l.invariant.1 c.put_entry-next.ensures)
+    written-each l.b (λ (b : ℕ). entry_forms c.args.a b) l.invariant c.put_entry-next.ensures
 
 pub shape_of-out : goal.shape_of-out
-shape_of-out c = kept c.loop-b.invariant.1
+shape_of-out c = kept c.loop-b.invariant
 
 pub returns : goal.returns
-returns c = let e : c.loop-b.b ≡ suc c.args.port = omega arith in rw e at c.loop-b.invariant.1
+returns c = let e : c.loop-b.b ≡ suc c.args.port = omega arith in rw e at c.loop-b.invariant

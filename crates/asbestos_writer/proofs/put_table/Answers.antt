@@ -9,20 +9,20 @@ use Rattle.asbestos_writer.proofs.Bytes.{table-short, written-each}
 use Rattle.asbestos_writer.proofs.put_table.Goals as goal
 
 pub loop-a-init : goal.loop-a-init
-loop-a-init c = (search rules, writes-none c.args.out.now c.args.at (omega arith))
+loop-a-init c = writes-none c.args.out.now c.args.at (omega arith)
 
 pub put_row-next-requires : goal.put_row-next-requires
 put_row-next-requires c =
     let l = c.loop-a in
-    (c.requires.0, omega arith, omega (arith, c.requires, l.invariant.1.next, kept l.invariant.1, table-short c.args.port c.requires.0 l.a l.invariant.0))
+    (c.requires.0, omega arith, omega (arith, c.requires, l.invariant.next, kept l.invariant, table-short c.args.port c.requires.0 l.a (omega arith)))
 
 pub loop-a-preserved : goal.loop-a-preserved
 loop-a-preserved c =
     let l = c.loop-a in
-    (omega arith, written-each l.a (λ (a : ℕ). row_forms c.args.port a) l.invariant.1 c.put_row-next.ensures)
+    written-each l.a (λ (a : ℕ). row_forms c.args.port a) l.invariant c.put_row-next.ensures
 
 pub shape_of-out : goal.shape_of-out
-shape_of-out c = kept c.loop-a.invariant.1
+shape_of-out c = kept c.loop-a.invariant
 
 pub returns : goal.returns
-returns c = let e : c.loop-a.a ≡ levels = omega arith in rw e at c.loop-a.invariant.1
+returns c = let e : c.loop-a.a ≡ levels = omega arith in rw e at c.loop-a.invariant

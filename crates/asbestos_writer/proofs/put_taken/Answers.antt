@@ -7,7 +7,7 @@ returns-then-c-a c =
     let a = c.args in
     rw (eq-eqb a.c a.a c.if-c-a.true) c.put_bytes.ensures
 
-pub returns : goal.returns
-returns c =
+pub returns-else-c-a : goal.returns-else-c-a
+returns-else-c-a c =
     let a = c.args in
     rw (ne_eqb a.c a.a c.if-c-a.false) c.put_level.ensures

@@ -6,5 +6,5 @@ use Rattle.cure.proofs.size.Goals as goal
 pub returns-then-v-eq-REACHED : goal.returns-then-v-eq-REACHED
 returns-then-v-eq-REACHED c = rw (eq-eqb _ 1 c.if-v-eq-REACHED.true) refl
 
-pub returns : goal.returns
-returns c = rw (ne_eqb _ 1 c.if-v-eq-REACHED.false) (ap (λ (k : Lines). k.count) c.choose-c.ensures)
+pub returns-else-v-eq-REACHED : goal.returns-else-v-eq-REACHED
+returns-else-v-eq-REACHED c = rw (ne_eqb _ 1 c.if-v-eq-REACHED.false) (ap (λ (k : Lines). k.count) c.choose.ensures)

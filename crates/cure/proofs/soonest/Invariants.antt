@@ -5,7 +5,4 @@ use Rattle.cure.proofs.Scans.{Scanned}
 use Rattle.cure.proofs.soonest.Given as goal
 
 abbrev pub invariant-loop-i : goal.invariant-loop-i
-invariant-loop-i l = (l.i ≤ l.total) × (l.total ≤ 1024) × Scanned (size_at (listed l.l) l.said) l.total l.i l.best l.least
-
-abbrev pub decreases-loop-i : goal.decreases-loop-i
-decreases-loop-i l = l.i
+invariant-loop-i l = (l.fn.t.total ≤ 1024) × Scanned (size_at (listed l.l) l.fn.t.said) l.fn.t.total l.i l.best l.least

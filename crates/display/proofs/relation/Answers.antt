@@ -1,15 +1,7 @@
-use native.Mathlib.Omega.{arith}
-use Rattle.display.proofs.Laws.{no_text, no-relation, few-relations, declared-relation}
+use Rattle.grammar.specs.Texts.{outcome}
+use Rattle.display.specs.Shown.{relation_at}
+use Rattle.display.proofs.Laws.{shown_relation}
 use Rattle.display.proofs.relation.Goals as goal
 
-pub returns-in-Refused : goal.returns-in-Refused
-returns-in-Refused c = let a = c.args in let r = c.read-reading in no_text a.text.now r.result r.ensures a.i c.in-Refused.number c.in-Refused.line c.in-Refused.is
-
-pub recorded-requires : goal.recorded-requires
-recorded-requires c = let a = c.args in let r = c.read-reading in omega (arith, c.if-i-relations.true, few-relations a.text.now r.result r.ensures a.i c.in_default.is)
-
-pub returns-then-i-relations : goal.returns-then-i-relations
-returns-then-i-relations c = let a = c.args in let r = c.read-reading in let e = c.recorded.ensures in declared-relation a.text.now r.result r.ensures a.i c.in_default.is c.if-i-relations.true c.recorded.result e.0 e.1 e.2
-
 pub returns : goal.returns
-returns c = let a = c.args in let r = c.read-reading in no-relation a.text.now r.result r.ensures a.i c.in_default.is c.if-i-relations.false
+returns c = let a = c.args in rw c.unwrap_or.ensures (shown_relation a.text.now (relation_at (outcome a.text.now) a.i) c.relation_in.result c.relation_in.ensures)

@@ -1,4 +1,4 @@
-use Rattle.display_parts.proofs.Laws.{no-clause}
+use Rattle.display_parts.proofs.Laws.{gives_none, no-clause}
 use Rattle.display_parts.proofs.clause_part.Goals as goal
 
 pub rule_part-requires : goal.rule_part-requires
@@ -11,4 +11,4 @@ pub next_part-requires : goal.next_part-requires
 next_part-requires c = c.at_bytes-3.ensures.found c.if-at_bytes-3.true
 
 pub returns : goal.returns
-returns c = rw (no-clause c.args.line.now (c.at_bytes.ensures.missing c.if-at_bytes.false) (c.at_bytes-2.ensures.missing c.if-at_bytes-2.false) (c.at_bytes-3.ensures.missing c.if-at_bytes-3.false)) c.nothing.ensures
+returns c = gives_none _ _ (no-clause c.args.line.now (c.at_bytes.ensures.missing c.if-at_bytes.false) (c.at_bytes-2.ensures.missing c.if-at_bytes-2.false) (c.at_bytes-3.ensures.missing c.if-at_bytes-3.false))

@@ -1,4 +1,4 @@
-use Rattle.display_parts.proofs.Laws.{no-stage}
+use Rattle.display_parts.proofs.Laws.{gives_none, no-stage}
 use Rattle.display_parts.proofs.locate.Goals as goal
 
 pub returns-then-n-eq0 : goal.returns-then-n-eq0
@@ -8,4 +8,4 @@ pub stage_part-requires : goal.stage_part-requires
 stage_part-requires c = let f = c.at_bytes.ensures.found c.if-at_bytes.true in (c.if-n-eq0.false, f.0, f.1)
 
 pub returns : goal.returns
-returns c = rw (no-stage c.args.n c.if-n-eq0.false c.args.line.now (c.at_bytes.ensures.missing c.if-at_bytes.false)) c.nothing.ensures
+returns c = gives_none _ _ (no-stage c.args.n c.if-n-eq0.false c.args.line.now (c.at_bytes.ensures.missing c.if-at_bytes.false))

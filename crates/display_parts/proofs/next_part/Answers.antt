@@ -1,20 +1,17 @@
-use Rattle.display_parts.proofs.Laws.{next-nameless, next-listless, next-half, next-unended, next-found}
+use Rattle.display_parts.proofs.Laws.{gives_none, next-nameless, next-listless, next-half, next-unended, next-found}
 use Rattle.display_parts.proofs.next_part.Goals as goal
 
-pub returns-then-x-eq0 : goal.returns-then-x-eq0
-returns-then-x-eq0 c = let p = c.requires in rw (next-nameless c.args.line.now p.0 p.1 (c.name_end-x.ensures.missing c.if-x-eq0.true)) c.nothing.ensures
+pub returns-in_err-x : goal.returns-in_err-x
+returns-in_err-x c = let p = c.requires in rw c.from_residual.ensures (gives_none _ _ (next-nameless c.args.line.now p.0 p.1 c.in_err-x.ensures))
 
-pub returns-then-p-eq0 : goal.returns-then-p-eq0
-returns-then-p-eq0 c = let p = c.requires in rw (next-listless c.args.line.now p.0 p.1 c.name_end-x.ensures c.if-x-eq0.false (c.spaced_list_end-p.ensures.missing c.if-p-eq0.true)) c.nothing-then-p-eq0.ensures
+pub returns-in_err-p : goal.returns-in_err-p
+returns-in_err-p c = let p = c.requires in rw c.from_residual-in_err-p.ensures (gives_none _ _ (next-listless c.args.line.now p.0 p.1 c.in_ok-x.ensures c.in_err-p.ensures))
 
-pub returns-then-b-eq0 : goal.returns-then-b-eq0
-returns-then-b-eq0 c = let p = c.requires in rw (next-half c.args.line.now p.0 p.1 c.name_end-x.ensures c.if-x-eq0.false c.spaced_list_end-p.ensures c.if-p-eq0.false (c.spaced_list_end-b.ensures.missing c.if-b-eq0.true)) c.nothing-then-b-eq0.ensures
+pub returns-in_err-b : goal.returns-in_err-b
+returns-in_err-b c = let p = c.requires in rw c.from_residual-in_err-b.ensures (gives_none _ _ (next-half c.args.line.now p.0 p.1 c.in_ok-x.ensures c.in_ok-p.ensures c.in_err-b.ensures))
 
-pub literals_end-e-requires : goal.literals_end-e-requires
-literals_end-e-requires c = (c.spaced_list_end-b.ensures.found c.if-b-eq0.false).2
-
-pub returns-then-e-line : goal.returns-then-e-line
-returns-then-e-line c = let p = c.requires in next-found c.args.line.now p.0 p.1 c.name_end-x.ensures c.if-x-eq0.false c.spaced_list_end-p.ensures c.if-p-eq0.false c.spaced_list_end-b.ensures c.if-b-eq0.false c.literals_end-e.ensures c.if-e-line.true
+pub returns-then-not-closes : goal.returns-then-not-closes
+returns-then-not-closes c = let p = c.requires in gives_none _ _ (next-unended c.args.line.now p.0 p.1 c.in_ok-x.ensures c.in_ok-p.ensures c.in_ok-b.ensures c.if-not-closes.ensures)
 
 pub returns : goal.returns
-returns c = let p = c.requires in rw (next-unended c.args.line.now p.0 p.1 c.name_end-x.ensures c.if-x-eq0.false c.spaced_list_end-p.ensures c.if-p-eq0.false c.spaced_list_end-b.ensures c.if-b-eq0.false c.literals_end-e.ensures c.if-e-line.false) c.nothing-2.ensures
+returns c = let p = c.requires in next-found c.args.line.now p.0 p.1 c.in_ok-x.ensures c.in_ok-p.ensures c.in_ok-b.ensures c.if-not-closes.ensures

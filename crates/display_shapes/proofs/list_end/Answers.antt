@@ -1,21 +1,14 @@
-use native.Mathlib.Omega.{arith}
-use Rattle.display_shapes.proofs.Laws.{ends-name, list-empty, list-unopened, list-nameless, list-found}
+use Rattle.display_shapes.proofs.Laws.{list-empty, list-unopened, list-nameless, list-found}
 use Rattle.display_shapes.proofs.list_end.Goals as goal
 
 pub returns-then-at_bytes : goal.returns-then-at_bytes
-returns-then-at_bytes c = let f = c.at_bytes.ensures.found c.if-at_bytes.true in list-empty f.0 f.1
+returns-then-at_bytes c = let f = c.at_bytes.ensures.found c.if-at_bytes.true in list-empty c.args.text.now c.args.at f.0 f.1
 
-pub name_end-e-requires : goal.name_end-e-requires
-name_end-e-requires c = omega (arith, (c.at_byte.ensures.found c.if-at_byte.true).0)
+pub returns-then-not-at_byte : goal.returns-then-not-at_byte
+returns-then-not-at_byte c = list-unopened c.args.text.now c.args.at (c.at_bytes.ensures.missing c.if-at_bytes.false) (c.at_byte.ensures.missing c.if-not-at_byte.true)
 
-pub returns-then-e-eq0 : goal.returns-then-e-eq0
-returns-then-e-eq0 c = list-nameless (c.at_bytes.ensures.missing c.if-at_bytes.false) (c.at_byte.ensures.found c.if-at_byte.true).1 (c.name_end-e.ensures.missing c.if-e-eq0.true)
-
-pub names_end-requires : goal.names_end-requires
-names_end-requires c = (c.name_end-e.ensures.found c.if-e-eq0.false).1
-
-pub returns-then-at_byte : goal.returns-then-at_byte
-returns-then-at_byte c = list-found (c.at_bytes.ensures.missing c.if-at_bytes.false) (c.at_byte.ensures.found c.if-at_byte.true).1 (ends-name c.name_end-e.ensures) c.if-e-eq0.false c.names_end.ensures
+pub returns-in_err-e : goal.returns-in_err-e
+returns-in_err-e c = rw c.from_residual.ensures (list-nameless c.args.text.now c.args.at (c.at_bytes.ensures.missing c.if-at_bytes.false) (c.at_byte.ensures.found c.if-not-at_byte.false).1 c.in_err-e.ensures)
 
 pub returns : goal.returns
-returns c = list-unopened (c.at_bytes.ensures.missing c.if-at_bytes.false) (c.at_byte.ensures.missing c.if-at_byte.false)
+returns c = list-found c.args.text.now c.args.at (c.at_bytes.ensures.missing c.if-at_bytes.false) (c.at_byte.ensures.found c.if-not-at_byte.false).1 c.in_ok-e.ensures c.items_end.result c.items_end.ensures

@@ -1,16 +1,11 @@
-use mathlib.Core.Path.{sym, ◌∙◌}
-use native.Mathlib.Omega.{arith}
-use Rattle.display_variables.proofs.Laws.{fresh-none, fresh-known, fresh-found}
+use Rattle.display_variables.proofs.Laws.{stale-none, stale-known, fresh-found}
 use Rattle.display_variables.proofs.fresh_end.Goals as goal
 
-pub returns-then-e-eq0 : goal.returns-then-e-eq0
-returns-then-e-eq0 c = fresh-none (c.behind_end-e.ensures.missing c.if-e-eq0.true)
+pub returns-in_err-end : goal.returns-in_err-end
+returns-in_err-end c = let a = c.args in rw c.from_residual.ensures (stale-none a.line.now a.p a.i c.in_err-end.ensures)
 
-pub known-requires : goal.known-requires
-known-requires c = let p = c.requires in let f = c.behind_end-e.ensures.found c.if-e-eq0.false in (p.0, p.1, omega (arith, p.2), omega (arith, f.0), f.1)
-
-pub returns-then-known : goal.returns-then-known
-returns-then-known c = fresh-known c.behind_end-e.ensures c.if-e-eq0.false (sym c.known.ensures ∙ c.if-known.true)
+pub returns-then-is_known : goal.returns-then-is_known
+returns-then-is_known c = let a = c.args in stale-known a.line.now a.p a.i c.in_ok-end.ensures c.if-is_known.ensures
 
 pub returns : goal.returns
-returns c = fresh-found c.behind_end-e.ensures c.if-e-eq0.false (sym c.known.ensures ∙ c.if-known.false)
+returns c = let a = c.args in fresh-found a.line.now a.p a.i c.in_ok-end.ensures c.if-is_known.ensures

@@ -1,9 +1,6 @@
-use Prim.Native.Nat.{◌-◌}
+-- So many variables stand before byte i.
 use Rattle.display_variables.proofs.Laws.{Counted}
 use Rattle.display_variables.proofs.later.Given as goal
 
 abbrev pub invariant-loop-i : goal.invariant-loop-i
-invariant-loop-i l = Counted l.line l.p l.j l.i l.c
-
-abbrev pub decreases-loop-i : goal.decreases-loop-i
-decreases-loop-i l = l.to - l.i
+invariant-loop-i l = Counted l.line l.p l.j l.i l.count

@@ -49,7 +49,7 @@ why_place-requires c = let a = c.args in
     let d = c.derive in
     let sees : Sees a.m q.result (take a.s.objects a.s.states) g.result d.new.work = record { views = g.ensures.views.0; known = d.ensures.1 (row_of g.result) (row-length _ g.result g.ensures.views.0) g.ensures.views.1.states } in
     let l = lent (goal.at.why_place-requires c).Start g.result d.new.work q.result sees (q.ensures a.m (record { accepted = c.requires.0; numbered = n.ensures; literals = refl })) n.result n.ensures in
-    (a.m, g.result, a.s.states, l)
+    rw c.position.ensures (a.m, g.result, a.s.states, l)
 
 pub returns : goal.returns
 returns c = let a = c.args in
@@ -59,4 +59,4 @@ returns c = let a = c.args in
     let d = c.derive in
     let sees : Sees a.m q.result (take a.s.objects a.s.states) g.result d.new.work = record { views = g.ensures.views.0; known = d.ensures.1 (row_of g.result) (row-length _ g.result g.ensures.views.0) g.ensures.views.1.states } in
     let l = lent (goal.at.returns c).Start g.result d.new.work q.result sees (q.ensures a.m (record { accepted = c.requires.0; numbered = n.ensures; literals = refl })) n.result n.ensures in
-    (c.why_place.ensures a.m g.result a.s.states l, d.ensures.0 ∙ g.ensures.work_len_unchanged)
+    ((rw c.position.ensures at c.why_place.ensures) a.m g.result a.s.states l, d.ensures.0 ∙ g.ensures.work_len_unchanged)

@@ -17,4 +17,4 @@ pub returns : goal.returns
 returns c =
     let a = c.args in
     let r = c.play_run-ending in
-    subst (λ (b : Bool). Stands a.m a.places.now b r.result.session) (sym c.whole.ensures) (stands a.m a.places.now r.result.session r.result.answer r.ensures.replays.0 r.ensures.ends)
+    rw (c.then_some.ensures, c.whole.ensures) (stands a.m a.places.now r.result.session r.result.answer r.ensures.replays.0 r.ensures.ends)

@@ -10,30 +10,20 @@ use Rattle.replay_runs.specs.Endings.{Stopped}
 use Rattle.from_here_places.specs.Stands.{Stands}
 use Rattle.from_here_verdict.proofs.Laws.{not-created, without-variable, too_many, told}
 use Rattle.from_here_verdict.proofs.judge.Goals as goal
-use Rattle.from_here_verdict.proofs.judge.Goals.{Else-first-eq0, Else-not-standing}
+use Rattle.from_here_verdict.proofs.judge.Goals.{Else-first-eq0}
 
-pub returns-then-not-standing : goal.returns-then-not-standing
-returns-then-not-standing c =
-    let a = c.args in
-    let s = c.stand-standing in
-    inl ((λ t l k. subst (λ (b : Bool). Stands a.m a.places.now b s.result.session) (not-true _ c.if-not-standing.true) s.ensures t l), (c.refuse.ensures, refl))
-
--- the places lead to the state
-stopped : (c : Else-not-standing) → let a = c.args in Stopped a.m a.places.now (length a.places.now) c.stand-standing.result.session
-stopped c =
-    let a = c.args in
-    let s = c.stand-standing in
-    subst (λ (b : Bool). Stands a.m a.places.now b s.result.session) (not-false _ c.if-not-standing.false) s.ensures
+pub returns-in_default : goal.returns-in_default
+returns-in_default c = inl ((λ t l k. c.in_default.ensures t l), (c.refuse.ensures, refl))
 
 pub returns-then-object-s : goal.returns-then-object-s
 returns-then-object-s c =
     let a = c.args in
-    not-created a.m c.requires.0 a.places.now _ (stopped (goal.at.returns-then-object-s c).Else-not-standing) a.object _ _ _ c.if-object-s.true (c.refuse-then-object-s.ensures, refl)
+    not-created a.m c.requires.0 a.places.now _ c.in-Some.ensures a.object _ _ _ c.if-object-s.true (c.refuse-then-object-s.ensures, refl)
 
 pub returns-then-first-eq0 : goal.returns-then-first-eq0
 returns-then-first-eq0 c =
     let a = c.args in
-    without-variable a.m c.requires.0 a.places.now _ (stopped (goal.at.returns-then-first-eq0 c).Else-not-standing) a.object _ _ _ c.if-object-s.false c.if-first-eq0.true (c.refuse-then-first-eq0.ensures, refl)
+    without-variable a.m c.requires.0 a.places.now _ c.in-Some.ensures a.object _ _ _ c.if-object-s.false c.if-first-eq0.true (c.refuse-then-first-eq0.ensures, refl)
 
 -- stage 1 has a variable
 some : (c : Else-first-eq0) → 0 < (stage_at c.args.m 0).variables
@@ -42,14 +32,14 @@ some c = omega (arith, c.if-first-eq0.false)
 pub returns-then-s-gt-EARLIER : goal.returns-then-s-gt-EARLIER
 returns-then-s-gt-EARLIER c =
     let a = c.args in
-    too_many a.m c.requires.0 a.places.now _ (stopped (goal.at.returns-then-s-gt-EARLIER c).Else-not-standing) a.object _ _ _ c.if-object-s.false (some (goal.at.returns-then-s-gt-EARLIER c).Else-first-eq0) c.if-s-gt-EARLIER.true (c.refuse-then-s-gt-EARLIER.ensures, refl)
+    too_many a.m c.requires.0 a.places.now _ c.in-Some.ensures a.object _ _ _ c.if-object-s.false (some (goal.at.returns-then-s-gt-EARLIER c).Else-first-eq0) c.if-s-gt-EARLIER.true (c.refuse-then-s-gt-EARLIER.ensures, refl)
 
 pub ask-requires : goal.ask-requires
 ask-requires c =
     let a = c.args in
-    (record { model = c.requires.0; places = a.places.now; stopped = stopped (goal.at.ask-requires c).Else-not-standing; created = c.if-object-s.false; few = c.if-s-gt-EARLIER.false; variable = some (goal.at.ask-requires c).Else-first-eq0 }, c.requires.2)
+    (record { model = c.requires.0; places = a.places.now; stopped = c.in-Some.ensures; created = c.if-object-s.false; few = c.if-s-gt-EARLIER.false; variable = some (goal.at.ask-requires c).Else-first-eq0 }, c.requires.2)
 
 pub returns : goal.returns
 returns c =
     let a = c.args in
-    told a.m c.requires.0 a.places.now _ (stopped (goal.at.returns c).Else-not-standing) a.object _ _ _ c.if-object-s.false (some (goal.at.returns c).Else-first-eq0) c.if-s-gt-EARLIER.false c.ask.ensures
+    told a.m c.requires.0 a.places.now _ c.in-Some.ensures a.object _ _ _ c.if-object-s.false (some (goal.at.returns c).Else-first-eq0) c.if-s-gt-EARLIER.false c.ask.ensures

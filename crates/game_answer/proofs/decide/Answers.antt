@@ -7,23 +7,30 @@ use Rattle.game_lists.specs.Lists.{faulty}
 use Rattle.game_lists.proofs.Laws.{of-form}
 use Rattle.game_answer.specs.Telling.{faulted}
 use Rattle.game_answer.proofs.decide.Goals as goal
-use Rattle.game_answer.proofs.decide.Goals.{Else-faulty-2}
+use Rattle.game_answer.proofs.decide.Goals.{Else-faulty-2, then-faulty-via-then-faulty, then-faulty-via-else-faulty+then-faulty-2}
 
 -- neither list is refused
 good : (c : Else-faulty-2) → let a = c.args in faulted (program_of a.m) a.attacker.now a.guardian.now ≡ false
 good c =
     let a = c.args in
-    ap (λ (b : Bool). b || faulty (program_of a.m) a.guardian.now) (sym c.faulty.ensures ∙ c.if-faulty.false) ∙ (sym c.faulty-2.ensures ∙ c.if-faulty-2.false)
+    ap (λ (b : Bool). b || faulty (program_of a.m) a.guardian.now) (sym c.faulty.ensures ∙ c.if-faulty.false) ∙ (sym c.faulty-else-faulty.ensures ∙ c.if-faulty-2.false)
 
 pub returns-then-faulty : goal.returns-then-faulty
 returns-then-faulty c =
     let a = c.args in
-    rw c.refuse.ensures (inl (refl, ap (λ (b : Bool). b || faulty (program_of a.m) a.guardian.now) (sym c.faulty.ensures ∙ c.if-faulty.true), refl), refl, c.refuse.ensures)
-
-pub returns-then-faulty-2 : goal.returns-then-faulty-2
-returns-then-faulty-2 c =
-    let a = c.args in
-    rw c.refuse-then-faulty-2.ensures (inl (refl, or_right (faulty (program_of a.m) a.attacker.now) (faulty (program_of a.m) a.guardian.now) (sym c.faulty-2.ensures ∙ c.if-faulty-2.true), refl), refl, c.refuse-then-faulty-2.ensures)
+    let found = faulty (program_of a.m) in
+    rw c.refuse.ensures (
+      inl (
+        refl,
+        elim (c.then-faulty.branch) [
+          | then-faulty-via-then-faulty w ↦ ap (λ (b : Bool). b || found a.guardian.now) (sym c.faulty.ensures ∙ w.if-faulty.true)
+          | then-faulty-via-else-faulty+then-faulty-2 w ↦ or_right (found a.attacker.now) (found a.guardian.now) (sym w.faulty-else-faulty.ensures ∙ w.if-faulty-2.true)
+        ],
+        refl,
+      ),
+      refl,
+      c.refuse.ensures,
+    )
 
 pub returns-then-not-single : goal.returns-then-not-single
 returns-then-not-single c =

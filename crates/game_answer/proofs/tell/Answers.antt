@@ -38,8 +38,8 @@ meeting-met-requires c =
 pub solve-ranks-requires : goal.solve-ranks-requires
 solve-ranks-requires c = board (goal.at.solve-ranks-requires c).After-meeting-met
 
-pub arranged-numbers-requires : goal.arranged-numbers-requires
-arranged-numbers-requires c =
+pub arranged-moves-requires : goal.arranged-moves-requires
+arranged-moves-requires c =
     let h = c.requires.2 in (h.proper, h.listing)
 
 pub returns : goal.returns
@@ -49,4 +49,4 @@ returns c =
     let t = c.own-theirs in
     let k = c.meeting-met in
     let v = c.solve-ranks in
-    (refl, telling a.m c.requires.0 c.requires.1 a.facts.now a.found c.requires.2 a.attacker.now a.guardian.now o.result t.result k.result o.ensures t.ensures k.ensures v.result (board (goal.at.returns c).After-meeting-met) v.ensures _ c.arranged-numbers.ensures refl refl)
+    (refl, telling a.m c.requires.0 c.requires.1 a.facts.now a.found c.requires.2 a.attacker.now a.guardian.now o.result t.result k.result o.ensures t.ensures k.ensures v.result (board (goal.at.returns c).After-meeting-met) v.ensures _ c.arranged-moves.ensures refl refl)

@@ -2,12 +2,12 @@ use mathlib.Core.Path.{◌≡◌, sym, ap, ◌∙◌, subst}
 use mathlib.Core.List.{List}
 use Prim.Native.Nat.{ℕ, ◌+◌}
 use native.Mathlib.Omega.{arith}
-use lib.ListN.{length, length-replicate}
+use lib.ListN.{length}
 use lib.Seq.{take_all}
 use Rattle.semantics.specs.Models.{elem}
 use Rattle.model.specs.Records.{clause_at}
 use Rattle.search_states.specs.States.{row}
-use Rattle.search_ways.specs.Moves.{matrix_bytes, Marks}
+use Rattle.search_ways.specs.Moves.{Marks}
 use Rattle.game_moves.specs.Own.{OwnBelow}
 use Rattle.game_moves.proofs.Laws.{own-none, own-more, own-skip, own-all}
 use Rattle.game_moves.proofs.own.Goals as goal
@@ -18,49 +18,23 @@ listed : (c : After-among) → let a = c.args in c.among.result ≡ elem (clause
 listed c = let a = c.args in c.among.ensures ∙ ap (elem (clause_at a.m c.loop-i.i).line) (take_all (length a.list.now) a.list.now (omega arith))
 
 pub loop-i-init : goal.loop-i-init
-loop-i-init c =
-    let a = c.args in (omega arith, length-replicate {A = ℕ} matrix_bytes 0, own-none a.m a.table.now (row a.s) a.list.now)
-
-pub offset_bounds-m-i : goal.offset_bounds-m-i
-offset_bounds-m-i c = record { fits = omega (arith, c.requires.0.clauses, c.loop-i-test.true) }
-
-pub bounds-m-i : goal.bounds-m-i
-bounds-m-i c = omega (arith, c.requires.0.clauses, c.loop-i-test.true)
-
-pub slice_bounds-lead_clause-end-then-among : goal.slice_bounds-lead_clause-end-then-among
-slice_bounds-lead_clause-end-then-among c = sym c.loop-i.invariant.1
-
-pub lead_clause-requires : goal.lead_clause-requires
-lead_clause-requires c =
-    (omega (arith, c.requires.1.count, c.requires.1.states), c.requires.1.count, omega (arith, c.requires.0.clauses, c.loop-i-test.true), c.requires.3, c.loop-i.invariant.1)
-
-pub overflow_add-i : goal.overflow_add-i
-overflow_add-i c =
-    record { fits = omega (arith, c.requires.0.clauses, c.loop-i-test.true) }
-
-pub loop-i-smaller : goal.loop-i-smaller
-loop-i-smaller c = omega (arith, c.loop-i-test.true)
+loop-i-init c = let a = c.args in own-none a.m a.table.now (row a.s) a.list.now
 
 pub loop-i-preserved : goal.loop-i-preserved
 loop-i-preserved c =
     let a = c.args in
     let l = c.loop-i in
-    let h = c.loop-i-test.true in
-    let e = sym (listed (goal.at.loop-i-preserved c).After-among) in (
-      omega (arith, h),
-      elim (c.if-among.branch) [ then-among w ↦ ap length w.moves-is ∙ (w.lead_clause.auto.moves ∙ l.invariant.1) | else-among w ↦ ap length w.moves-is ∙ l.invariant.1 ],
-      elim (c.if-among.branch) [
-        | then-among w ↦ subst (λ (t : List ℕ). Marks t (OwnBelow a.m a.table.now (row a.s) a.list.now (l.i + 1))) (sym w.moves-is)
-            (own-more a.m a.table.now (row a.s) a.list.now l.i l.moves l.invariant.2 (e ∙ w.if-among.true) _ w.lead_clause.ensures)
-        | else-among w ↦ subst (λ (t : List ℕ). Marks t (OwnBelow a.m a.table.now (row a.s) a.list.now (l.i + 1))) (sym w.moves-is)
-            (own-skip a.m a.table.now (row a.s) a.list.now l.i l.moves l.invariant.2 (e ∙ w.if-among.false))
-      ],
-    )
+    let e = sym (listed (goal.at.loop-i-preserved c).After-among) in
+    elim (c.if-among.branch) [
+      | then-among w ↦ subst (λ (t : List ℕ). Marks t (OwnBelow a.m a.table.now (row a.s) a.list.now (l.i + 1))) (sym w.moves-is)
+          (own-more a.m a.table.now (row a.s) a.list.now l.i l.moves l.invariant (e ∙ w.if-among.true) _ w.lead_clause.ensures)
+      | else-among w ↦ subst (λ (t : List ℕ). Marks t (OwnBelow a.m a.table.now (row a.s) a.list.now (l.i + 1))) (sym w.moves-is)
+          (own-skip a.m a.table.now (row a.s) a.list.now l.i l.moves l.invariant (e ∙ w.if-among.false))
+    ]
 
 pub returns : goal.returns
 returns c =
     let a = c.args in
     let l = c.loop-i in
-    let e : l.i ≡ a.m.clausecount = omega (arith, l.invariant.0, c.loop-i-test.false) in
     own-all a.m c.requires.0 a.s c.requires.1 c.requires.2 a.table.now c.requires.4 a.list.now l.moves
-    (subst (λ (k : ℕ). Marks l.moves (OwnBelow a.m a.table.now (row a.s) a.list.now k)) e l.invariant.2)
+    (subst (λ (k : ℕ). Marks l.moves (OwnBelow a.m a.table.now (row a.s) a.list.now k)) (omega arith) l.invariant)

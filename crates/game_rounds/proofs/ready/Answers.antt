@@ -1,26 +1,14 @@
-use native.Mathlib.Omega.{arith}
+use mathlib.Core.Path.{◌∙◌}
 use Rattle.game_rounds.specs.Board.{side_of}
 use Rattle.game_rounds.proofs.Slots.{ready-stuck, ready-some, ready-all}
 use Rattle.game_rounds.proofs.ready.Goals as goal
-
-pub row-requires : goal.row-requires
-row-requires c = omega (arith, c.requires.0, c.requires.1, c.requires.2)
-
-pub offset_bounds-ranks-e : goal.offset_bounds-ranks-e
-offset_bounds-ranks-e c = record { fits = omega (arith, c.requires.0, c.requires.1) }
-
-pub bounds-ranks-e : goal.bounds-ranks-e
-bounds-ranks-e c = omega (arith, c.requires.0, c.requires.1, c.requires.3)
 
 pub returns-then-vacant : goal.returns-then-vacant
 returns-then-vacant c =
     let a = c.args in
     let w = c.row in
     let v = c.vacant in
-    ready-stuck a.moves.now a.e a.n c.requires.0 a.ranks.now a.round w.result w.ensures v.result v.ensures c.if-vacant.true (side_of a.attacks)
-
-pub some_sooner-requires : goal.some_sooner-requires
-some_sooner-requires c = (c.requires.0, c.requires.1, c.requires.2, c.requires.3)
+    c.sooner.ensures ∙ ready-stuck a.moves.now a.e a.n c.requires.0 a.ranks.now a.round w.result w.ensures v.result v.ensures c.if-vacant.true (side_of a.attacks)
 
 pub returns-then-attacks : goal.returns-then-attacks
 returns-then-attacks c =
@@ -28,9 +16,6 @@ returns-then-attacks c =
     let w = c.row in
     let v = c.vacant in
     rw c.if-attacks.true (ready-some a.moves.now a.e a.n c.requires.0 a.ranks.now a.round w.result w.ensures v.result v.ensures c.requires.4 c.if-vacant.false c.some_sooner.result c.some_sooner.ensures)
-
-pub all_sooner-requires : goal.all_sooner-requires
-all_sooner-requires c = (c.requires.0, c.requires.1, c.requires.2, c.requires.3)
 
 pub returns : goal.returns
 returns c =

@@ -14,38 +14,22 @@ use Rattle.game_stage.proofs.meeting.Goals as goal
 use Rattle.game_stage.proofs.meeting.Goals.{else-meets, then-meets}
 
 pub loop-e-init : goal.loop-e-init
-loop-e-init c = (omega arith, length-replicate {A = ℕ} width.bytes 0, λ S z x. row-none _)
+loop-e-init c = (length-replicate {A = ℕ} width.bytes 0, λ S z x. row-none _)
 
 pub meets-requires : goal.meets-requires
 meets-requires c =
     (c.requires.2, c.slots-slots.ensures, omega (arith, c.requires.1.count), evaluable c.args.m c.requires.0 c.requires.4, c.requires.4.1, omega (arith, c.requires.1.count, c.loop-e-test.true))
 
-pub slice_bounds-put-end : goal.slice_bounds-put-end
-slice_bounds-put-end c = sym c.loop-e.invariant.1
-
-pub put-requires : goal.put-requires
-put-requires c =
-    omega (arith, c.requires.1.count, c.loop-e-test.true, c.loop-e.invariant.1)
-
-pub overflow_add-e : goal.overflow_add-e
-overflow_add-e c =
-    record { fits = omega (arith, c.requires.1.count, c.loop-e-test.true) }
-
-pub loop-e-smaller : goal.loop-e-smaller
-loop-e-smaller c = omega (arith, c.loop-e-test.true)
-
 pub loop-e-preserved : goal.loop-e-preserved
 loop-e-preserved c =
     let a = c.args in
-    let l = c.loop-e in
-    let h = c.loop-e-test.true in (
-      omega (arith, h),
-      elim (c.if-meets.branch) [ then-meets w ↦ ap length (w.met-is ∙ w.put.ensures) ∙ (with-bit-length l.met l.e ∙ l.invariant.1) | else-meets w ↦ ap length w.met-is ∙ l.invariant.1 ],
+    let l = c.loop-e in (
+      elim (c.if-meets.branch) [ then-meets w ↦ ap length (w.met-is ∙ w.put.ensures) ∙ (with-bit-length l.met l.e ∙ l.invariant.0) | else-meets w ↦ ap length w.met-is ∙ l.invariant.0 ],
       λ S z x.
           let law = shows-met a.m c.requires.0 c.requires.4 S a.work.now x l.e in
           let told = c.meets.ensures S x.states z in
-          let p = l.invariant.2 S z x in
-          elim (c.if-meets.branch) [ then-meets w ↦ subst (λ (r : List ℕ). Below (Met a.m S) (l.e + 1) r) (sym (w.met-is ∙ w.put.ensures)) (row_more (Met a.m S) l.e l.met p (law.0 (told.0 w.if-meets.true)) (omega (arith, c.requires.1.count, h, l.invariant.1))) | else-meets w ↦ subst (λ (r : List ℕ). Below (Met a.m S) (l.e + 1) r) (sym w.met-is) (row-skip (Met a.m S) l.e l.met p (λ d. clash (told.1 (law.1 d)) w.if-meets.false)) ],
+          let p = l.invariant.1 S z x in
+          elim (c.if-meets.branch) [ then-meets w ↦ subst (λ (r : List ℕ). Below (Met a.m S) (l.e + 1) r) (sym (w.met-is ∙ w.put.ensures)) (row_more (Met a.m S) l.e l.met p (law.0 (told.0 w.if-meets.true)) (omega (arith, c.requires.1.count, l.invariant.0))) | else-meets w ↦ subst (λ (r : List ℕ). Below (Met a.m S) (l.e + 1) r) (sym w.met-is) (row-skip (Met a.m S) l.e l.met p (λ d. clash (told.1 (law.1 d)) w.if-meets.false)) ],
     )
 
 pub returns : goal.returns
@@ -53,5 +37,5 @@ returns c =
     let a = c.args in
     let l = c.loop-e in
     let n = length-row a.s c.requires.1 in
-    let p = l.invariant.2 (row a.s) n c.requires.3 in
-    record { long = l.invariant.1; bits = λ e h. ((λ q. ((p e h).0 q).1), λ d. (p e h).1 (omega (arith, n, c.loop-e-test.false, met-below a.m c.requires.0 c.requires.4 (row a.s) e d), d)) }
+    let p = l.invariant.1 (row a.s) n c.requires.3 in
+    record { long = l.invariant.0; bits = λ e h. ((λ q. ((p e h).0 q).1), λ d. (p e h).1 (omega (arith, n, c.loop-e-test.false, met-below a.m c.requires.0 c.requires.4 (row a.s) e d), d)) }

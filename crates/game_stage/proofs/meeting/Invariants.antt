@@ -1,5 +1,5 @@
 use mathlib.Core.Path.{◌≡◌}
-use Prim.Native.Nat.{ℕ, ◌-◌, ◌≤◌}
+use Prim.Native.Nat.{ℕ}
 use lib.ListN.{length}
 use Rattle.semantics.specs.Facts.{Database}
 use Rattle.model.specs.declared.Model.{Model}
@@ -15,7 +15,4 @@ abbrev pub Met : Model → Database → ℕ → Type 0
 Met m S e = MetAt (program_of m) S (stage_of m.literals (stage_at m 0)) (number_in (stage_at m 0) 0) e
 
 abbrev pub invariant-loop-e : goal.invariant-loop-e
-invariant-loop-e l = (l.e ≤ l.n) × (length l.met ≡ width.bytes) × ((S : Database) → length S ≡ l.n → Exact l.m S l.work → Below (Met l.m S) l.e l.met)
-
-abbrev pub decreases-loop-e : goal.decreases-loop-e
-decreases-loop-e l = l.n - l.e
+invariant-loop-e l = (length l.met ≡ width.bytes) × ((S : Database) → length S ≡ l.s.count → Exact l.m S l.work → Below (Met l.m S) l.e l.met)

@@ -1,3 +1,6 @@
+use mathlib.Core.Path.{◌≡◌}
+use native.Mathlib.Omega.{arith}
+use lib.ListN.{length}
 use Rattle.handin.proofs.Laws.{line-start, line-more, line-found, line-all}
 use borrow.Author.Rules.{rules}
 use Rattle.handin.proofs.line_end.Goals as goal
@@ -12,4 +15,6 @@ pub loop-i-preserved : goal.loop-i-preserved
 loop-i-preserved c = line-more c.loop-i.invariant (search rules) c.if-handin-i-eq10.false
 
 pub returns : goal.returns
-returns c = line-all c.loop-i.invariant (search rules) (search rules)
+returns c =
+    let e : c.loop-i.i ≡ length c.args.handin.now = omega (arith, c.loop-i.invariant.ends) in
+    rw e at (line-all c.loop-i.invariant (search rules) (search rules))

@@ -1,5 +1,7 @@
 use mathlib.Core.Path.{sym, ap, ◌∙◌}
 use native.Mathlib.Omega.{arith}
+use borrow.Author.Tests.{eqb-true}
+use Rattle.std.specs.Prelude.{Some}
 use Rattle.handin.specs.Answers.{told}
 use Rattle.handin.proofs.Laws.{reading-long, reading-empty, reading-yes, reading-no, reading-none}
 use Rattle.handin.proofs.read.Goals as goal
@@ -7,14 +9,14 @@ use Rattle.handin.proofs.read.Goals as goal
 pub returns-then-handin-gt-HANDIN : goal.returns-then-handin-gt-HANDIN
 returns-then-handin-gt-HANDIN c = ap told (sym (reading-long c.args.handin.now c.if-handin-gt-HANDIN.true))
 
-pub returns-then-handin-eq0 : goal.returns-then-handin-eq0
-returns-then-handin-eq0 c = ap told (sym (reading-empty c.args.handin.now c.if-handin-eq0.true))
+pub returns-then-is_empty : goal.returns-then-is_empty
+returns-then-is_empty c = ap told (sym (reading-empty c.args.handin.now (eqb-true _ 0 (sym c.if-is_empty.ensures))))
 
-pub returns-in-Yes : goal.returns-in-Yes
-returns-in-Yes c = c.after_yes.ensures ∙ ap told (sym (reading-yes c.args.handin.now (omega (arith, c.if-handin-gt-HANDIN.false)) c.line_end-e.ensures (sym c.read_verdict-verdict.ensures ∙ c.in-Yes.is)))
+pub returns-in-Some-true : goal.returns-in-Some-true
+returns-in-Some-true c = c.after_yes.ensures ∙ ap told (sym (reading-yes c.args.handin.now (omega (arith, c.if-handin-gt-HANDIN.false)) c.line_end-e.ensures (sym c.in-Some-true.ensures ∙ ap Some c.in-Some-true.field-0-test)))
 
-pub returns-in-No : goal.returns-in-No
-returns-in-No c = c.after_no.ensures ∙ ap told (sym (reading-no c.args.handin.now (omega (arith, c.if-handin-gt-HANDIN.false)) c.line_end-e.ensures (sym c.read_verdict-verdict.ensures ∙ c.in-No.is)))
+pub returns-in-Some-false : goal.returns-in-Some-false
+returns-in-Some-false c = c.after_no.ensures ∙ ap told (sym (reading-no c.args.handin.now (omega (arith, c.if-handin-gt-HANDIN.false)) c.line_end-e.ensures (sym c.in-Some-false.ensures ∙ ap Some c.in-Some-false.field-0-test)))
 
-pub returns-in-Unclear : goal.returns-in-Unclear
-returns-in-Unclear c = ap told (sym (reading-none c.args.handin.now (omega (arith, c.if-handin-gt-HANDIN.false)) c.line_end-e.ensures (sym c.read_verdict-verdict.ensures ∙ c.in-Unclear.is)))
+pub returns-in-None : goal.returns-in-None
+returns-in-None c = ap told (sym (reading-none c.args.handin.now (omega (arith, c.if-handin-gt-HANDIN.false)) c.line_end-e.ensures (sym c.in-None.ensures)))

@@ -18,18 +18,6 @@ overflow_add-result c = record { fits = omega (arith, c.loop-i.invariant.0, c.lo
 pub returns-then-places-eq-RUN : goal.returns-then-places-eq-RUN
 returns-then-places-eq-RUN c = ap told (sym (run-full c.loop-i.invariant.3 c.args.first c.loop-i-test.true c.if-places-eq-RUN.true))
 
-pub slice_bounds-read_line-count : goal.slice_bounds-read_line-count
-slice_bounds-read_line-count c = c.line_end-e.ensures.begins
-
-pub overflow_cast-result-in_default : goal.overflow_cast-result-in_default
-overflow_cast-result-in_default c = record { fits = omega (arith, c.loop-i.invariant.0, c.loop-i.invariant.1, c.loop-i.invariant.2, c.loop-i.invariant.3.few) }
-
-pub overflow_add-result-in_default : goal.overflow_add-result-in_default
-overflow_add-result-in_default c = record { fits = omega (arith, c.loop-i.invariant.0, c.loop-i.invariant.1, c.loop-i.invariant.2, c.loop-i.invariant.3.few) }
-
-pub returns-in_default : goal.returns-in_default
-returns-in_default c = ap told (sym (run-bad c.loop-i.invariant.3 c.args.first c.line_end-e.ensures (λ v e. c.in_default.not-Place v (c.read_line-said.ensures ∙ e))))
-
 pub overflow_add-places : goal.overflow_add-places
 overflow_add-places c = record { fits = omega (arith, c.loop-i.invariant.0, c.loop-i.invariant.1, c.loop-i.invariant.2, c.loop-i.invariant.3.few) }
 
@@ -39,8 +27,11 @@ overflow_add-i c = record { fits = omega (arith, c.line_end-e.ensures.ends, c.lo
 pub loop-i-smaller : goal.loop-i-smaller
 loop-i-smaller c = omega (arith, c.line_end-e.ensures.begins, c.line_end-e.ensures.ends, c.loop-i-test.true)
 
+pub returns-in_default : goal.returns-in_default
+returns-in_default c = ap told (sym (run-bad c.loop-i.invariant.3 c.args.first c.line_end-e.ensures (sym c.in_default.ensures)))
+
 pub loop-i-preserved : goal.loop-i-preserved
-loop-i-preserved c = let i = c.loop-i.invariant in (i.0, i.1, i.2, (run_more i.3 c.line_end-e.ensures (sym c.read_line-said.ensures ∙ c.in-Place.is) (omega (arith, i.3.few, c.if-places-eq-RUN.false))).0)
+loop-i-preserved c = let i = c.loop-i.invariant in (i.0, i.1, i.2, (run_more i.3 c.line_end-e.ensures (sym c.in-Some.ensures) (omega (arith, i.3.few, c.if-places-eq-RUN.false))).0)
 
 pub returns : goal.returns
 returns c = ap (Yes c.args.first) c.loop-i.invariant.3.count ∙ ap told (sym (run_end c.loop-i.invariant.3 c.args.first (search rules)))

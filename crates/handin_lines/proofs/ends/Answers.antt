@@ -1,8 +1,5 @@
-use Rattle.handin_lines.proofs.Laws.{ends_there, ends-not}
+use Rattle.handin_lines.proofs.Laws.{ends_there}
 use Rattle.handin_lines.proofs.ends.Goals as goal
 
 pub returns-then-at_byte : goal.returns-then-at_byte
 returns-then-at_byte c = let f = c.at_byte.ensures.found c.if-at_byte.true in ends_there c.args.line.now c.args.at f.0 f.1
-
-pub returns : goal.returns
-returns c = ends-not c.args.line.now c.args.at (c.at_byte.ensures.missing c.if-at_byte.false)

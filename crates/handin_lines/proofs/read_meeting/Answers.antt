@@ -2,38 +2,19 @@ use mathlib.Core.Path.{◌∙◌}
 use Rattle.handin_lines.proofs.Shapes.{meet-stageless, meet-none, meet_one, meet-two, meet-three}
 use Rattle.handin_lines.proofs.read_meeting.Goals as goal
 
-pub returns-then-n-eq0 : goal.returns-then-n-eq0
-returns-then-n-eq0 c = meet-stageless c.read_below-n.ensures c.if-n-eq0.true
+pub returns-in_err-n : goal.returns-in_err-n
+returns-in_err-n c = c.from_residual.ensures ∙ meet-stageless _ c.in_err-n.ensures
 
-pub read_object-a-requires : goal.read_object-a-requires
-read_object-a-requires c = (c.read_below-n.ensures.found c.if-n-eq0.false).1
+pub returns-in_default : goal.returns-in_default
+returns-in_default c = c.end_meeting.ensures ∙ meet-none c.in_ok-n.ensures c.in_default.ensures
 
-pub end_meeting-requires : goal.end_meeting-requires
-end_meeting-requires c = (c.read_below-n.ensures.found c.if-n-eq0.false).1
+pub returns-in_default-read_object : goal.returns-in_default-read_object
+returns-in_default-read_object c = c.end_meeting-in_default-read_object.ensures ∙ meet_one c.in_ok-n.ensures c.in-Some.ensures c.in_default-read_object.ensures
 
-pub returns-then-a-eq0 : goal.returns-then-a-eq0
-returns-then-a-eq0 c = c.end_meeting.ensures ∙ meet-none c.read_below-n.ensures c.if-n-eq0.false c.read_object-a.ensures c.if-a-eq0.true
-
-pub read_object-b-requires : goal.read_object-b-requires
-read_object-b-requires c = (c.read_object-a.ensures.found c.if-a-eq0.false).1
-
-pub end_meeting-requires-then-b-eq0 : goal.end_meeting-requires-then-b-eq0
-end_meeting-requires-then-b-eq0 c = (c.read_object-a.ensures.found c.if-a-eq0.false).1
-
-pub returns-then-b-eq0 : goal.returns-then-b-eq0
-returns-then-b-eq0 c = c.end_meeting-then-b-eq0.ensures ∙ meet_one c.read_below-n.ensures c.if-n-eq0.false c.read_object-a.ensures c.if-a-eq0.false c.read_object-b.ensures c.if-b-eq0.true
-
-pub read_object-c-requires : goal.read_object-c-requires
-read_object-c-requires c = (c.read_object-b.ensures.found c.if-b-eq0.false).1
-
-pub end_meeting-requires-then-c-eq0 : goal.end_meeting-requires-then-c-eq0
-end_meeting-requires-then-c-eq0 c = (c.read_object-b.ensures.found c.if-b-eq0.false).1
-
-pub returns-then-c-eq0 : goal.returns-then-c-eq0
-returns-then-c-eq0 c = c.end_meeting-then-c-eq0.ensures ∙ meet-two c.read_below-n.ensures c.if-n-eq0.false c.read_object-a.ensures c.if-a-eq0.false c.read_object-b.ensures c.if-b-eq0.false c.read_object-c.ensures c.if-c-eq0.true
-
-pub end_meeting-requires-2 : goal.end_meeting-requires-2
-end_meeting-requires-2 c = (c.read_object-c.ensures.found c.if-c-eq0.false).1
+pub returns-in_default-read_object-2 : goal.returns-in_default-read_object-2
+returns-in_default-read_object-2 c =
+    c.end_meeting-in_default-read_object-2.ensures ∙ meet-two c.in_ok-n.ensures c.in-Some.ensures c.in-Some-read_object.ensures c.in_default-read_object-2.ensures
 
 pub returns : goal.returns
-returns c = c.end_meeting-2.ensures ∙ meet-three c.read_below-n.ensures c.if-n-eq0.false c.read_object-a.ensures c.if-a-eq0.false c.read_object-b.ensures c.if-b-eq0.false c.read_object-c.ensures c.if-c-eq0.false
+returns c =
+    c.end_meeting-2.ensures ∙ meet-three c.in_ok-n.ensures c.in-Some.ensures c.in-Some-read_object.ensures c.in-Some-read_object-2.ensures

@@ -1,18 +1,19 @@
-use native.Mathlib.Omega.{arith}
+use Prim.Native.Nat.{◌+◌}
+use lib.Dec.{eqb}
 use Rattle.handin_lines.proofs.Laws.{number-empty, number-single, number-zero, number-found}
 use Rattle.handin_lines.proofs.read_number.Goals as goal
+use Rattle.handin_lines.proofs.read_number.Goals.{else-r-at-2-via-then-r-at-2+else-line-at-eq48, else-r-at-2-via-else-r-at-2}
 
 pub returns-then-r-at : goal.returns-then-r-at
 returns-then-r-at c = number-empty c.read_digits-r.ensures c.if-r-at.true
 
-pub returns-then-r-at-2 : goal.returns-then-r-at-2
-returns-then-r-at-2 c = number-single c.read_digits-r.ensures c.if-r-at-2.true
-
-pub bounds-line-at : goal.bounds-line-at
-bounds-line-at c = let e = c.read_digits-r.ensures in omega (arith, e.ends, e.count, c.if-r-at.false)
-
 pub returns-then-line-at-eq48 : goal.returns-then-line-at-eq48
-returns-then-line-at-eq48 c = number-zero c.read_digits-r.ensures c.if-r-at.false c.if-r-at-2.false c.if-line-at-eq48.true
+returns-then-line-at-eq48 c = number-zero c.read_digits-r.ensures c.if-r-at.false c.if-r-at-2.true c.if-line-at-eq48.true
 
 pub returns : goal.returns
-returns c = number-found c.read_digits-r.ensures c.if-r-at.false c.if-r-at-2.false c.if-line-at-eq48.false
+returns c =
+    let e = c.read_digits-r.ensures in
+    elim c.else-r-at-2.branch [
+      | else-r-at-2-via-then-r-at-2+else-line-at-eq48 w ↦ number-found e c.if-r-at.false w.if-r-at-2.true w.if-line-at-eq48.false
+      | else-r-at-2-via-else-r-at-2 w ↦ number-single e w.if-r-at-2.false
+    ]

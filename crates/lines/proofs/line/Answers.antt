@@ -13,16 +13,16 @@ pub clause-requires : goal.clause-requires
 clause-requires c =
     let a = c.args in
     let r = c.read-reading in
-    (omega (arith, c.if-i-m.true), few-clauses a.text.now r.result r.ensures a.i c.in_default.is)
+    (omega (arith, c.if-i-reading.true), few-clauses a.text.now r.result r.ensures a.i c.in_default.is)
 
-pub returns-then-i-m : goal.returns-then-i-m
-returns-then-i-m c =
+pub returns-then-i-reading : goal.returns-then-i-reading
+returns-then-i-reading c =
     let a = c.args in
     let r = c.read-reading in
-    c.clause.ensures ∙ clause-line a.text.now r.result r.ensures a.i c.in_default.is c.if-i-m.true
+    c.clause.ensures ∙ clause-line a.text.now r.result r.ensures a.i c.in_default.is c.if-i-reading.true
 
 pub returns : goal.returns
 returns c =
     let a = c.args in
     let r = c.read-reading in
-    no_line a.text.now r.result r.ensures a.i c.in_default.is c.if-i-m.false
+    no_line a.text.now r.result r.ensures a.i c.in_default.is c.if-i-reading.false

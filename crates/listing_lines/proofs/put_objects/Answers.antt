@@ -7,15 +7,6 @@ use Rattle.listing_bytes.proofs.Decimal.{word-short}
 use Rattle.listing_bytes.proofs.Writing.{writes-none, item}
 use Rattle.listing_lines.proofs.put_objects.Goals as goal
 
-pub returns-then-first-eq-NONE : goal.returns-then-first-eq-NONE
-returns-then-first-eq-NONE c =
-    rw (eq-eqb c.args.first 255 c.if-first-eq-NONE.true) (writes-none c.args.out.now c.args.at (omega arith))
-
-pub returns-then-second-eq-NONE : goal.returns-then-second-eq-NONE
-returns-then-second-eq-NONE c =
-    rw (ne_eqb c.args.first 255 c.if-first-eq-NONE.false, eq-eqb c.args.second 255 c.if-second-eq-NONE.true)
-    (item [] [] (writes-none c.args.out.now c.args.at (omega arith)) c.put_number-one.ensures)
-
 pub put_number-two-requires : goal.put_number-two-requires
 put_number-two-requires c =
     omega (arith, c.put_number-one.ensures.next, word-short c.args.first c.ranges.first)

@@ -9,8 +9,8 @@ returns-then-reached c =
     let e = c.if-reached.true in
     rw e (whole-line c.put_bytes.ensures)
 
-pub returns : goal.returns
+pub returns-else-reached : goal.returns-else-reached
 unfolding verdict_line
-returns c =
+returns-else-reached c =
     let e = c.if-reached.false in
-    rw e (whole-line c.put_bytes-2.ensures)
+    rw e (whole-line c.put_bytes-else-reached.ensures)

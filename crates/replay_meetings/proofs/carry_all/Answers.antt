@@ -9,4 +9,4 @@ use Rattle.replay_meetings.proofs.carry_all.Goals as goal
 pub returns : goal.returns
 returns c =
     let a = c.args in
-    (refl, each-cell (λ (v : ℕ). get_or (c.carry-first.result ∷ c.carry-second.result ∷ []) v 0 ≡ carried_on (get_or a.carried v 0) (get_or a.objects v 0)) c.carry-first.ensures c.carry-second.ensures)
+    (refl, each-cell (λ (v : ℕ). get_or (c.carry.result ∷ c.carry-2.result ∷ []) v 0 ≡ carried_on (get_or a.carried v 0) (get_or a.objects v 0)) c.carry.ensures c.carry-2.ensures)

@@ -1,12 +1,6 @@
-use mathlib.Core.Path.{◌≡◌}
-use mathlib.Core.Logic.{◌≢◌}
-use Prim.Native.Nat.{ℕ, ◌-◌, ◌≤◌, ◌<◌}
-use lib.ListN.{length}
+use Rattle.std.proofs.Common.{ℕ, ◌<◌, ◌≢◌}
 use Rattle.model.specs.Records.{number_in}
 use Rattle.replay_meetings.proofs.named.Given as goal
 
 abbrev pub invariant-loop-x : goal.invariant-loop-x
-invariant-loop-x l = (l.x ≤ l.n) × (l.n ≡ l.g.variables) × (l.n ≤ 3) × (length l.g.numbers ≡ 3) × ((k : ℕ) → k < l.x → number_in l.g k ≢ l.number)
-
-abbrev pub decreases-loop-x : goal.decreases-loop-x
-decreases-loop-x l = l.n - l.x
+invariant-loop-x l = (k : ℕ) → k < l.x → number_in l.fn.g k ≢ l.fn.number

@@ -5,12 +5,13 @@ use Rattle.model.specs.Records.{stage_body, stage_at}
 use Rattle.facts_rests.specs.Rests.{Within}
 use Rattle.replay_meetings.proofs.Meetings.{of-record, part-within, part-good}
 use Rattle.replay_meetings.proofs.needs.Goals as goal
+use Rattle.replay_meetings.proofs.needs.Goals.{then-stage-eq0-via-then-stage-eq0, then-stage-eq0-via-else-stage-eq0+then-stage-numbers}
 
 pub returns-then-stage-eq0 : goal.returns-then-stage-eq0
-returns-then-stage-eq0 c = λ m plain os i l e. absurd (omega (arith, e, c.if-stage-eq0.true))
-
-pub returns-then-stage-numbers : goal.returns-then-stage-numbers
-returns-then-stage-numbers c = λ m plain os i l e. absurd (omega (arith, e, l, plain.numbered.stages, c.if-stage-numbers.true))
+returns-then-stage-eq0 c = λ m plain os i l e. elim c.then-stage-eq0.branch [
+  | then-stage-eq0-via-then-stage-eq0 w ↦ absurd (omega (arith, e, w.if-stage-eq0.true))
+  | then-stage-eq0-via-else-stage-eq0+then-stage-numbers w ↦ absurd (omega (arith, e, l, plain.numbered.stages, w.if-stage-numbers.true))
+]
 
 pub add-requires : goal.add-requires
 add-requires c =

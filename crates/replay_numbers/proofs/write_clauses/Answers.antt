@@ -1,13 +1,10 @@
-use mathlib.Core.Path.{◌≡◌, refl, subst}
+use mathlib.Core.Path.{◌≡◌, subst}
 use mathlib.Core.List.{List}
 use Prim.Native.Nat.{ℕ}
 use native.Mathlib.Omega.{arith}
 use Rattle.replay_numbers.specs.Numbers.{clause_place, Written, ClausesIn}
-use Rattle.replay_numbers.proofs.Parts.{clauses-none, clauses-more}
+use Rattle.replay_numbers.proofs.Parts.{clauses-more}
 use Rattle.replay_numbers.proofs.write_clauses.Goals as goal
-
-pub loop-i-init : goal.loop-i-init
-loop-i-init c = (omega arith, refl, clauses-none c.args.m c.args.out.now)
 
 pub clause_numbers-requires : goal.clause_numbers-requires
 clause_numbers-requires c =
@@ -23,13 +20,13 @@ loop-i-preserved c =
     let w = c.requires.0 in
     let f = c.write in
     let written = subst (λ (part : List ℕ). Written l.out (clause_place l.i) part 8 f.new.out) c.clause_numbers.ensures f.ensures in
-    (omega arith, l.invariant.1, clauses-more c.args.m l.i c.args.out.now l.out f.new.out l.invariant.2 written)
+    clauses-more c.args.m l.i c.args.out.now l.out f.new.out l.invariant written
 
 pub shape_of-out : goal.shape_of-out
-shape_of-out c = c.loop-i.invariant.2.long
+shape_of-out c = c.loop-i.invariant.long
 
 pub returns : goal.returns
 returns c =
     let l = c.loop-i in
     let e : l.i ≡ c.args.m.clausecount = omega arith in
-    subst (λ (n : ℕ). ClausesIn c.args.m n c.args.out.now l.out) e l.invariant.2
+    subst (λ (n : ℕ). ClausesIn c.args.m n c.args.out.now l.out) e l.invariant

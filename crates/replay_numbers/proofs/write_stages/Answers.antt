@@ -1,13 +1,10 @@
-use mathlib.Core.Path.{◌≡◌, refl, subst}
+use mathlib.Core.Path.{◌≡◌, subst}
 use mathlib.Core.List.{List}
 use Prim.Native.Nat.{ℕ}
 use native.Mathlib.Omega.{arith}
 use Rattle.replay_numbers.specs.Numbers.{stage_place, Written, StagesIn}
-use Rattle.replay_numbers.proofs.Parts.{stages-none, stages-more}
+use Rattle.replay_numbers.proofs.Parts.{stages-more}
 use Rattle.replay_numbers.proofs.write_stages.Goals as goal
-
-pub loop-i-init : goal.loop-i-init
-loop-i-init c = (omega arith, refl, stages-none c.args.m c.args.out.now)
 
 pub stage_numbers-requires : goal.stage_numbers-requires
 stage_numbers-requires c =
@@ -23,13 +20,13 @@ loop-i-preserved c =
     let w = c.requires.0 in
     let f = c.write in
     let written = subst (λ (part : List ℕ). Written l.out (stage_place l.i) part 8 f.new.out) c.stage_numbers.ensures f.ensures in
-    (omega arith, l.invariant.1, stages-more c.args.m l.i c.args.out.now l.out f.new.out l.invariant.2 (w.numbers l.i h) written)
+    stages-more c.args.m l.i c.args.out.now l.out f.new.out l.invariant (w.numbers l.i h) written
 
 pub shape_of-out : goal.shape_of-out
-shape_of-out c = c.loop-i.invariant.2.long
+shape_of-out c = c.loop-i.invariant.long
 
 pub returns : goal.returns
 returns c =
     let l = c.loop-i in
     let e : l.i ≡ c.args.m.stagecount = omega arith in
-    subst (λ (n : ℕ). StagesIn c.args.m n c.args.out.now l.out) e l.invariant.2
+    subst (λ (n : ℕ). StagesIn c.args.m n c.args.out.now l.out) e l.invariant

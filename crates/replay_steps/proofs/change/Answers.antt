@@ -1,23 +1,18 @@
-use Rattle.semantics.specs.Runs.{step}
 use mathlib.Core.Path.{refl, subst}
-use mathlib.Core.Logic.{inr}
 use native.Mathlib.Omega.{arith}
 use Rattle.model.specs.declared.Action.TheVariants.{Next}
 use Rattle.model.specs.Records.{clause_body}
 use Rattle.facts_find.specs.Bodies.{Decides}
 use Rattle.replay_session.specs.Sessions.{session_in}
-use Rattle.replay_steps.proofs.Steps.{on-action, part-within, part-good, part-supported, part-vars, line-variables, next-variable, slots-enough, only, objects-below, next-kept, next-other, next-fails, left-as-before}
+use Rattle.replay_steps.proofs.Steps.{on-action, part-within, part-good, part-supported, part-vars, line-variables, next-variable, slots-enough, only, objects-below, next-kept, next-other, next-fails}
 use Rattle.replay_steps.proofs.change.Goals as goal
 
-pub returns-then-o-n : goal.returns-then-o-n
-returns-then-o-n c =
-    let a = c.args in record {
-      tried_by = (λ m v t.
-          left-as-before m a.states.now a.at (step a.c.line a.object) c.disallow.result c.disallow.ensures.allowed_value t.ready.long
-          (next-other m (session_in a.states.now a.at) v a.work.now t.ready t.left a.c.line a.object a.plus a.minus (clause_body a.literals.now a.c) a.c.variables
-          (on-action m v (session_in a.states.now a.at) a.literals.now a.slots.now a.work.now a.c t (Next a.plus a.minus) c.requires.2) c.if-o-n.true));
-      gives = c.disallow.ensures.gives;
-    }
+pub returns-then-o-n-clause-tried_by : goal.returns-then-o-n-clause-tried_by
+returns-then-o-n-clause-tried_by c =
+    let a = c.args in
+    (λ m v t.
+    (next-other m (session_in a.states.now a.at) v a.work.now t.ready t.left a.c.line a.object a.plus a.minus (clause_body a.literals.now a.c) a.c.variables
+    (on-action m v (session_in a.states.now a.at) a.literals.now a.slots.now a.work.now a.c t (Next a.plus a.minus) c.requires.2) c.if-o-n.true))
 
 pub decide-found-requires : goal.decide-found-requires
 decide-found-requires c =
@@ -26,16 +21,13 @@ decide-found-requires c =
     let z = session_in a.states.now a.at in
     (t.ready.sees.known.agree, slots-enough m v z a.literals.now a.slots.now a.work.now a.c t, part-within m v z a.literals.now a.slots.now a.work.now a.c t, part-good m v z a.literals.now a.slots.now a.work.now a.c t, part-supported m v z a.literals.now a.slots.now a.work.now a.c t)
 
-pub returns-in_default : goal.returns-in_default
-returns-in_default c =
-    let a = c.args in record {
-      tried_by = (λ m v t.
-          left-as-before m a.states.now a.at (step a.c.line a.object) c.disallow-in_default.result c.disallow-in_default.ensures.allowed_value t.ready.long
-          (next-fails m (session_in a.states.now a.at) v a.work.now t.ready t.left a.c.line a.object a.plus a.minus (clause_body a.literals.now a.c) a.c.variables
-          (on-action m v (session_in a.states.now a.at) a.literals.now a.slots.now a.work.now a.c t (Next a.plus a.minus) c.requires.2)
-          (subst (Decides a.c.variables _) c.in_default.is (c.decide-found.ensures m v (session_in a.states.now a.at) t.ready t.rests t.seats refl))));
-      gives = c.disallow-in_default.ensures.gives;
-    }
+pub returns-in_default-clause-tried_by : goal.returns-in_default-clause-tried_by
+returns-in_default-clause-tried_by c =
+    let a = c.args in
+    (λ m v t.
+    (next-fails m (session_in a.states.now a.at) v a.work.now t.ready t.left a.c.line a.object a.plus a.minus (clause_body a.literals.now a.c) a.c.variables
+    (on-action m v (session_in a.states.now a.at) a.literals.now a.slots.now a.work.now a.c t (Next a.plus a.minus) c.requires.2)
+    (subst (Decides a.c.variables _) c.in_default.is (c.decide-found.ensures m v (session_in a.states.now a.at) t.ready t.rests t.seats refl))))
 
 pub number-stood-requires : goal.number-stood-requires
 number-stood-requires c =
@@ -45,13 +37,16 @@ number-stood-requires c =
     let first = subst (Decides a.c.variables _) c.in-At.is (c.decide-found.ensures m v z t.ready t.rests t.seats refl) in
     objects-below m z v a.work.now t.ready t.left a.c.line a.object (clause_body a.literals.now a.c) a.c.variables (only a.object) _ (part-vars m v z a.literals.now a.slots.now a.work.now a.c t) first.good
 
-pub returns : goal.returns
-returns c =
-    let a = c.args in record {
-      tried_by = (λ m v t.
-          let first = subst (Decides a.c.variables _) c.in-At.is (c.decide-found.ensures m v (session_in a.states.now a.at) t.ready t.rests t.seats refl) in
-          rw (c.onward-after.ensures, c.relabel-state.ensures) (next-kept m (session_in a.states.now a.at) v a.work.now t.ready t.left a.c.line a.object a.plus a.minus (clause_body a.literals.now a.c) a.c.variables
-          (on-action m v (session_in a.states.now a.at) a.literals.now a.slots.now a.work.now a.c t (Next a.plus a.minus) c.requires.2)
-          (line-variables m v (session_in a.states.now a.at) a.literals.now a.slots.now a.work.now a.c t (Next a.plus a.minus) c.requires.2) (next-variable m v (session_in a.states.now a.at) a.literals.now a.slots.now a.work.now a.c t a.plus a.minus c.requires.2) c.requires.1 c.if-o-n.false _ c.number-stood.result first c.number-stood.ensures));
-      gives = rw c.onward-after.ensures (inr (record { here = c.if-o-n.false; grows = omega arith; few = c.requires.0.2.ready.fits.objects; rest = λ p l n. l }));
-    }
+pub returns-clause-tried_by : goal.returns-clause-tried_by
+returns-clause-tried_by c =
+    let a = c.args in
+    (λ m v t.
+    let first = subst (Decides a.c.variables _) c.in-At.is (c.decide-found.ensures m v (session_in a.states.now a.at) t.ready t.rests t.seats refl) in
+    rw (c.onward.ensures, c.relabel-state.ensures) (next-kept m (session_in a.states.now a.at) v a.work.now t.ready t.left a.c.line a.object a.plus a.minus (clause_body a.literals.now a.c) a.c.variables
+    (on-action m v (session_in a.states.now a.at) a.literals.now a.slots.now a.work.now a.c t (Next a.plus a.minus) c.requires.2)
+    (line-variables m v (session_in a.states.now a.at) a.literals.now a.slots.now a.work.now a.c t (Next a.plus a.minus) c.requires.2) (next-variable m v (session_in a.states.now a.at) a.literals.now a.slots.now a.work.now a.c t a.plus a.minus c.requires.2) c.requires.1 c.if-o-n.false _ c.number-stood.result first c.number-stood.ensures))
+
+pub returns-clause-gives : goal.returns-clause-gives
+returns-clause-gives c =
+    let a = c.args in
+    rw c.onward.ensures ((record { here = c.if-o-n.false; grows = omega arith; few = c.requires.0.2.ready.fits.objects; rest = λ p l n. l }))

@@ -1,23 +1,18 @@
-use Rattle.semantics.specs.Runs.{step}
 use mathlib.Core.Path.{refl, subst}
-use mathlib.Core.Logic.{inr}
 use native.Mathlib.Omega.{arith}
 use Rattle.model.specs.declared.Action.TheVariants.{New}
 use Rattle.model.specs.Records.{clause_body}
 use Rattle.facts_find.specs.Bodies.{Decides}
 use Rattle.replay_session.specs.Sessions.{session_in}
-use Rattle.replay_steps.proofs.Steps.{on-action, part-within, part-good, part-supported, part-vars, line-variables, slots-enough, only, objects-below, new-kept, new-other, new-fails, left-as-before}
+use Rattle.replay_steps.proofs.Steps.{on-action, part-within, part-good, part-supported, part-vars, line-variables, slots-enough, only, objects-below, new-kept, new-other, new-fails}
 use Rattle.replay_steps.proofs.create.Goals as goal
 
-pub returns-then-object-n : goal.returns-then-object-n
-returns-then-object-n c =
-    let a = c.args in record {
-      tried_by = (λ m v states t.
-          left-as-before m states a.at (step a.c.line a.object) c.disallow.result c.disallow.ensures.allowed_value t.ready.long
-          (new-other m (session_in states a.at) v a.work.now t.ready t.left a.c.line a.object a.set (clause_body a.literals.now a.c) a.c.variables
-          (on-action m v (session_in states a.at) a.literals.now a.slots.now a.work.now a.c t (New a.set) c.requires.2) c.if-object-n.true));
-      gives = c.disallow.ensures.gives;
-    }
+pub returns-then-object-n-clause-tried_by : goal.returns-then-object-n-clause-tried_by
+returns-then-object-n-clause-tried_by c =
+    let a = c.args in
+    (λ m v states t.
+    (new-other m (session_in states a.at) v a.work.now t.ready t.left a.c.line a.object a.set (clause_body a.literals.now a.c) a.c.variables
+    (on-action m v (session_in states a.at) a.literals.now a.slots.now a.work.now a.c t (New a.set) c.requires.2) c.if-object-n.true))
 
 pub decide-found-requires : goal.decide-found-requires
 decide-found-requires c =
@@ -26,16 +21,13 @@ decide-found-requires c =
     let z = session_in c.requires.0.2 a.at in
     (t.ready.sees.known.agree, slots-enough m v z a.literals.now a.slots.now a.work.now a.c t, part-within m v z a.literals.now a.slots.now a.work.now a.c t, part-good m v z a.literals.now a.slots.now a.work.now a.c t, part-supported m v z a.literals.now a.slots.now a.work.now a.c t)
 
-pub returns-in_default : goal.returns-in_default
-returns-in_default c =
-    let a = c.args in record {
-      tried_by = (λ m v states t.
-          left-as-before m states a.at (step a.c.line a.object) c.disallow-in_default.result c.disallow-in_default.ensures.allowed_value t.ready.long
-          (new-fails m (session_in states a.at) v a.work.now t.ready t.left a.c.line a.object a.set (clause_body a.literals.now a.c) a.c.variables
-          (on-action m v (session_in states a.at) a.literals.now a.slots.now a.work.now a.c t (New a.set) c.requires.2)
-          (subst (Decides a.c.variables _) c.in_default.is (c.decide-found.ensures m v (session_in states a.at) t.ready t.rests t.seats refl))));
-      gives = c.disallow-in_default.ensures.gives;
-    }
+pub returns-in_default-clause-tried_by : goal.returns-in_default-clause-tried_by
+returns-in_default-clause-tried_by c =
+    let a = c.args in
+    (λ m v states t.
+    (new-fails m (session_in states a.at) v a.work.now t.ready t.left a.c.line a.object a.set (clause_body a.literals.now a.c) a.c.variables
+    (on-action m v (session_in states a.at) a.literals.now a.slots.now a.work.now a.c t (New a.set) c.requires.2)
+    (subst (Decides a.c.variables _) c.in_default.is (c.decide-found.ensures m v (session_in states a.at) t.ready t.rests t.seats refl))))
 
 pub number-stood-requires : goal.number-stood-requires
 number-stood-requires c =
@@ -45,13 +37,16 @@ number-stood-requires c =
     let first = subst (Decides a.c.variables _) c.in-At.is (c.decide-found.ensures m v z t.ready t.rests t.seats refl) in
     objects-below m z v a.work.now t.ready t.left a.c.line a.object (clause_body a.literals.now a.c) a.c.variables (only 255) _ (part-vars m v z a.literals.now a.slots.now a.work.now a.c t) first.good
 
-pub returns : goal.returns
-returns c =
-    let a = c.args in record {
-      tried_by = (λ m v states t.
-          let first = subst (Decides a.c.variables _) c.in-At.is (c.decide-found.ensures m v (session_in states a.at) t.ready t.rests t.seats refl) in
-          rw c.onward-after.ensures (new-kept m (session_in states a.at) v a.work.now t.ready t.left a.c.line a.object a.set (clause_body a.literals.now a.c) a.c.variables
-          (on-action m v (session_in states a.at) a.literals.now a.slots.now a.work.now a.c t (New a.set) c.requires.2)
-          (line-variables m v (session_in states a.at) a.literals.now a.slots.now a.work.now a.c t (New a.set) c.requires.2) c.if-object-n.false _ c.number-stood.result first c.number-stood.ensures));
-      gives = rw c.onward-after.ensures (inr (record { here = omega arith; grows = omega arith; few = omega (arith, c.requires.1, c.if-object-n.false); rest = λ p l n. omega arith }));
-    }
+pub returns-clause-tried_by : goal.returns-clause-tried_by
+returns-clause-tried_by c =
+    let a = c.args in
+    (λ m v states t.
+    let first = subst (Decides a.c.variables _) c.in-At.is (c.decide-found.ensures m v (session_in states a.at) t.ready t.rests t.seats refl) in
+    rw c.onward.ensures (new-kept m (session_in states a.at) v a.work.now t.ready t.left a.c.line a.object a.set (clause_body a.literals.now a.c) a.c.variables
+    (on-action m v (session_in states a.at) a.literals.now a.slots.now a.work.now a.c t (New a.set) c.requires.2)
+    (line-variables m v (session_in states a.at) a.literals.now a.slots.now a.work.now a.c t (New a.set) c.requires.2) c.if-object-n.false _ c.number-stood.result first c.number-stood.ensures))
+
+pub returns-clause-gives : goal.returns-clause-gives
+returns-clause-gives c =
+    let a = c.args in
+    rw c.onward.ensures ((record { here = omega arith; grows = omega arith; few = omega (arith, c.requires.1, c.if-object-n.false); rest = λ p l n. omega arith }))

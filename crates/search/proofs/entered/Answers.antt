@@ -5,19 +5,19 @@ use Rattle.search.proofs.Laws.{pair-here, none_more, no-pair}
 use Rattle.search.proofs.entered.Goals as goal
 
 pub loop-f-init : goal.loop-f-init
-loop-f-init c = (omega arith, λ e g l q. absurd (omega (arith, q)))
+loop-f-init c = λ e g l q. absurd (omega (arith, q))
 
 pub returns-then-next-lt-LISTED : goal.returns-then-next-lt-LISTED
 returns-then-next-lt-LISTED c =
     let a = c.args in
-    ((λ q. pair-here a.rows.now a.k c.loop-f.f c.row-row.result c.row-row.ensures c.next.result c.next.ensures (omega (arith, c.loop-f-test.true)) c.if-next-lt-LISTED.true), λ q. refl)
+    ((λ q. pair-here a.rows.now a.k c.loop-f.f c.row-row.result c.row-row.ensures c.next.result c.next.ensures (omega arith) c.if-next-lt-LISTED.true), λ q. refl)
 
 pub loop-f-preserved : goal.loop-f-preserved
 loop-f-preserved c =
     let a = c.args in
-    (omega (arith, c.loop-f-test.true), none_more a.rows.now a.k c.loop-f.f c.row-row.result c.row-row.ensures c.next.result c.next.ensures c.if-next-lt-LISTED.false c.loop-f.invariant.1)
+    none_more a.rows.now a.k c.loop-f.f c.row-row.result c.row-row.ensures c.next.result c.next.ensures c.if-next-lt-LISTED.false c.loop-f.invariant
 
 pub returns : goal.returns
 returns c =
     let a = c.args in
-    ((λ q. absurd (false≢true q)), λ q. absurd (no-pair a.rows.now a.k c.loop-f.f c.loop-f-test.false c.loop-f.invariant.1 q))
+    ((λ q. absurd (false≢true q)), λ q. absurd (no-pair a.rows.now a.k c.loop-f.f (omega arith) c.loop-f.invariant q))

@@ -25,7 +25,6 @@ pub loop-k-init : goal.loop-k-init
 loop-k-init c =
     let put = c.put in
     let e = c.put.ensures in (
-      omega arith,
       c.slots-slots.ensures,
       ap length e ∙ with-bit-length (replicate levels_bytes 0) 0,
       refl,
@@ -47,7 +46,7 @@ met-as c =
     let a = c.args in
     let l = c.loop-k in
     let asked = c.asked_at in
-    c.asked-t.ensures ∙ same-meeting (stage_at a.m l.k) a.m.carried l.first (chosen a.m 0 l.k) l.second (chosen a.m 1 l.k) asked.result (besides a.p l.k) l.invariant.3 l.invariant.4 asked.ensures
+    c.asked-t.ensures ∙ same-meeting (stage_at a.m l.k) a.m.carried l.first (chosen a.m 0 l.k) l.second (chosen a.m 1 l.k) asked.result (besides a.p l.k) l.invariant.2 l.invariant.3 asked.ensures
 
 pub pass-requires : goal.pass-requires
 pass-requires c =
@@ -56,13 +55,7 @@ pass-requires c =
     let here = c.loop-k-test.true in
     let slots = c.slots-slots.result in
     let few : a.s.count ≤ limit.listed = omega (arith, c.requires.1.proper.count) in
-    (subst (λ (t : Meeting). Ready a.work.now slots a.s.count a.m.literals t) (sym (met-as (goal.at.pass-requires c).After-asked-t)) (stage-ready a.m c.requires.0 l.k here a.p c.requires.3 a.work.now slots a.s.count c.requires.1.agree l.invariant.1 few), c.requires.2, l.invariant.2, omega (arith, c.requires.0.stages, here), l.invariant.5)
-
-pub overflow_add-k : goal.overflow_add-k
-overflow_add-k c = record { fits = omega (arith, c.requires.0.stages, c.loop-k-test.true) }
-
-pub loop-k-smaller : goal.loop-k-smaller
-loop-k-smaller c = omega (arith, c.loop-k-test.true)
+    (subst (λ (t : Meeting). Ready a.work.now slots a.s.count a.m.literals t) (sym (met-as (goal.at.pass-requires c).After-asked-t)) (stage-ready a.m c.requires.0 l.k here a.p c.requires.3 a.work.now slots a.s.count c.requires.1.agree l.invariant.0 few), c.requires.2, l.invariant.1, omega (arith, c.requires.0.stages, here), l.invariant.4)
 
 pub loop-k-preserved : goal.loop-k-preserved
 loop-k-preserved c =
@@ -73,15 +66,14 @@ loop-k-preserved c =
     let here = c.loop-k-test.true in
     let e : suc l.k ≡ l.k + 1 = sym (add-one l.k) in
     let w = c.pass.ensures.0 in (
-      omega (arith, here),
-      l.invariant.1,
-      w.long ∙ l.invariant.2,
+      l.invariant.0,
+      w.long ∙ l.invariant.1,
       c.after-first.ensures ∙ ap (λ (t : Meeting). t.first.chosen || t.first.stands) (met-as (goal.at.loop-k-preserved c).After-asked-t) ∙ chosen-after a.m c.requires.0 l.k here 0 ∙ ap (chosen a.m 0) e,
       c.after-second.ensures ∙ ap (λ (t : Meeting). t.second.chosen || t.second.stands) (met-as (goal.at.loop-k-preserved c).After-asked-t) ∙ chosen-after a.m c.requires.0 l.k here 1 ∙ ap (chosen a.m 1) e,
       subst (λ (k : ℕ). Clear (limit.listed * suc k) new) e w.clear,
-      (λ u v g h. let b = l.invariant.6 u v g h in let z = w.kept (limit.listed * 0 + v) u (omega (arith, h)) g in ((λ q. b.0 (sym z ∙ q)), λ q. z ∙ b.1 q)),
+      (λ u v g h. let b = l.invariant.5 u v g h in let z = w.kept (limit.listed * 0 + v) u (omega (arith, h)) g in ((λ q. b.0 (sym z ∙ q)), λ q. z ∙ b.1 q)),
       λ S R n. subst (λ (k : ℕ). (j : ℕ) → j < k → Passed a.m S a.work.now a.ways.now a.p j (pair_at new j) (pair_at new (suc j))) e
-          (passed-more a.m S a.work.now a.ways.now a.p l.k l.rows new w.kept (l.invariant.7 S R n)
+          (passed-more a.m S a.work.now a.ways.now a.p l.k l.rows new w.kept (l.invariant.6 S R n)
           (passed-stage a.m c.requires.0 l.k here a.p c.requires.3 S a.work.now a.ways.now l.rows new
           (subst (λ (t : Meeting). (u v : ℕ) → u < limit.listed → v < limit.listed → (pair_at new (suc l.k) u v ≡ true) ↔ (Led a.ways.now t (pair_at l.rows l.k) u v × Met S a.work.now a.m.literals t u v)) (met-as (goal.at.loop-k-preserved c).After-asked-t) (p.ensures.1 S R n)))),
     )
@@ -90,5 +82,5 @@ pub returns : goal.returns
 returns c =
     let a = c.args in
     let l = c.loop-k in
-    let e : l.k ≡ a.m.stagecount = omega (arith, l.invariant.0, c.loop-k-test.false) in
-    record { long = l.invariant.2; begins = l.invariant.6; stages = λ k h. l.invariant.7 (row a.s) c.requires.1.shown (length-row a.s c.requires.1.proper) k (omega (arith, e, h)) }
+    let e : l.k ≡ a.m.stagecount = omega arith in
+    record { long = l.invariant.1; begins = l.invariant.5; stages = λ k h. l.invariant.6 (row a.s) c.requires.1.shown (length-row a.s c.requires.1.proper) k (omega (arith, e, h)) }

@@ -1,7 +1,7 @@
 use mathlib.Core.Path.{◌≡◌}
 use mathlib.Core.Logic.{◌↔◌}
 use mathlib.Core.Bool.{true}
-use Prim.Native.Nat.{ℕ, suc, ◌-◌, ◌*◌, ◌≤◌, ◌<◌}
+use Prim.Native.Nat.{ℕ, suc, ◌*◌, ◌<◌}
 use lib.ListN.{length}
 use Rattle.limits.specs.Limits as limit
 use Rattle.facts_bits.specs.Width as width
@@ -11,7 +11,4 @@ use Rattle.search_levels.specs.Passing.{Over, Clear}
 use Rattle.search_levels.proofs.fill.Given as goal
 
 abbrev pub invariant-loop-k : goal.invariant-loop-k
-invariant-loop-k l = (l.k ≤ l.m.stagecount) × Own width.slots l.slots × (length l.rows ≡ levels_bytes) × (l.first ≡ chosen l.m 0 l.k) × (l.second ≡ chosen l.m 1 l.k) × Clear (limit.listed * suc l.k) l.rows × ((e f : ℕ) → e < limit.listed → f < limit.listed → (pair_at l.rows 0 e f ≡ true) ↔ ((e ≡ 0) × (f ≡ 0))) × Over l.work l.n (λ S. (j : ℕ) → j < l.k → Passed l.m S l.work l.ways l.p j (pair_at l.rows j) (pair_at l.rows (suc j)))
-
-abbrev pub decreases-loop-k : goal.decreases-loop-k
-decreases-loop-k l = l.m.stagecount - l.k
+invariant-loop-k l = Own width.slots l.slots × (length l.rows ≡ levels_bytes) × (l.first ≡ chosen l.m 0 l.k) × (l.second ≡ chosen l.m 1 l.k) × Clear (limit.listed * suc l.k) l.rows × ((e f : ℕ) → e < limit.listed → f < limit.listed → (pair_at l.rows 0 e f ≡ true) ↔ ((e ≡ 0) × (f ≡ 0))) × Over l.work l.n (λ S. (j : ℕ) → j < l.k → Passed l.m S l.work l.ways l.p j (pair_at l.rows j) (pair_at l.rows (suc j)))

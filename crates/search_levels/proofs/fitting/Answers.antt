@@ -8,17 +8,12 @@ use Rattle.facts_bits.specs.Width as width
 use Rattle.facts_bits.specs.Bits.{with_bit}
 use Rattle.facts_bits.proofs.Laws.{with-bit-length}
 use Rattle.search_ways.specs.Moves.{Marks, With, InRow}
-use Rattle.search_ways.proofs.Marking.{row-none, row_more, row-skip}
+use Rattle.search_ways.proofs.Marking.{row_more, row-skip}
 use Rattle.search_levels.proofs.Rows.{has-row, has-so, row_on}
 use Rattle.search_levels.proofs.Passing.{first_below}
-use borrow.Author.Rules.{rules}
 use Rattle.search_levels.proofs.fitting.Invariants.{Fitting}
 use Rattle.search_levels.proofs.fitting.Goals as goal
 use Rattle.search_levels.proofs.fitting.Goals.{else-holds, then-holds}
-
-pub loop-e-init : goal.loop-e-init
-loop-e-init c =
-    (c.next-e.ensures.most, c.requires.0, c.requires.1, c.requires.2, search rules, search rules, c.next-e.ensures.set, λ S R n. row_on c.args.row 0 _ c.next-e.ensures _ _ _ (λ e q. q.0) (row-none _ _ _))
 
 pub loop-e-preserved : goal.loop-e-preserved
 loop-e-preserved c =

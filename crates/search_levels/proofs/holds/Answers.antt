@@ -3,12 +3,6 @@ use Rattle.search_levels.proofs.Aiming.{seated-small}
 use Rattle.search_levels.proofs.Passing.{fixed-both}
 use Rattle.search_levels.proofs.holds.Goals as goal
 
-pub seated-one-requires : goal.seated-one-requires
-seated-one-requires c = λ q. omega (arith, c.requires.0.first q, c.requires.0.asked.body.body.few)
-
-pub seated-both-requires : goal.seated-both-requires
-seated-both-requires c = λ q. omega (arith, c.requires.0.second q, c.requires.0.asked.body.body.few)
-
 pub pointed-requires : goal.pointed-requires
 pointed-requires c =
     let a = c.args in

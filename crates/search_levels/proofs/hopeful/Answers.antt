@@ -1,15 +1,10 @@
 use mathlib.Core.Path.{subst}
-use mathlib.Core.Bool.{false≢true}
 use mathlib.Core.List.{List}
 use Prim.Native.Nat.{ℕ, ◌*◌}
-use native.Mathlib.Omega.{arith}
 use Rattle.limits.specs.Limits as limit
 use Rattle.search_levels.specs.Passing.{Has, Picked}
 use Rattle.search_levels.proofs.Passing.{hopeful-has}
 use Rattle.search_levels.proofs.hopeful.Goals as goal
-
-pub met-requires : goal.met-requires
-met-requires c = let r = c.requires.0 in (record { asked = r.asked; some = r.some; first = r.first; second = λ q. absurd (false≢true q); apart = λ p q. absurd (false≢true q) }, omega arith)
 
 pub returns : goal.returns
 returns c =

@@ -1,16 +1,8 @@
 use borrow.Author.Tests.{not-true, not-false}
-use mathlib.Core.Path.{subst}
-use mathlib.Core.Bool.{Bool}
 use native.Mathlib.Omega.{arith}
-use Rattle.facts_bits.specs.Bits.{Empty}
 use Rattle.search_levels.specs.Levels.{pair_at}
-use Rattle.search_levels.proofs.Passing.{second_below, paired-all, paired-met, paired-empty, paired_none}
+use Rattle.search_levels.proofs.Passing.{second_below, paired-all, paired-met, paired_none}
 use Rattle.search_levels.proofs.next_row.Goals as goal
-
-pub returns-then-empty : goal.returns-then-empty
-returns-then-empty c =
-    let a = c.args in
-    λ S R n. paired-empty S a.work.now a.literals.now a.ways.now a.t (pair_at a.rows.now a.k) a.f c.led-pairs.result c.led-pairs.ensures (subst (λ (b : Bool). Empty c.led-pairs.result b) c.if-empty.true c.empty.ensures)
 
 pub returns-then-not-t : goal.returns-then-not-t
 returns-then-not-t c =

@@ -15,11 +15,11 @@ use Rattle.search_levels.proofs.pass.Goals.{After-hopeful-able, At-loop-f}
 pub loop-f-init : goal.loop-f-init
 loop-f-init c =
     let a = c.args in
-    (omega arith, written_none (limit.listed * suc a.k) a.rows.now c.requires.4, λ S R n e g l q. absurd (omega (arith, q)))
+    (written_none (limit.listed * suc a.k) a.rows.now c.requires.4, λ S R n e g l q. absurd (omega (arith, q)))
 
 -- level k is as it was
 before_same : (c : At-loop-f) → (u v : ℕ) → u < limit.listed → v < limit.listed → pair_at c.loop-f.rows c.args.k u v ≡ pair_at c.args.rows.now c.args.k u v
-before_same c u v l h = c.loop-f.invariant.1.kept (limit.listed * c.args.k + v) u (omega (arith, h)) l
+before_same c u v l h = c.loop-f.invariant.0.kept (limit.listed * c.args.k + v) u (omega (arith, h)) l
 
 pub next_row-row-requires : goal.next_row-row-requires
 next_row-row-requires c =
@@ -27,7 +27,7 @@ next_row-row-requires c =
     let l = c.loop-f in (
       c.requires.0,
       c.requires.1,
-      l.invariant.1.long ∙ c.requires.2,
+      l.invariant.0.long ∙ c.requires.2,
       omega (arith, c.requires.3),
       c.loop-f-test.true,
       λ S R n.
@@ -46,9 +46,8 @@ loop-f-preserved c =
     let j = c.join in
     let at : limit.listed * (a.k + 1) + l.f ≡ limit.listed * suc a.k + l.f = omega arith in
     let joined = subst (λ (i : ℕ). Joined l.rows i c.next_row-row.result j.new.work) at j.ensures in (
-      omega (arith, c.loop-f-test.true),
-      written-more (limit.listed * suc a.k) l.f a.rows.now l.rows l.invariant.1 c.next_row-row.result j.new.work joined j.auto.work,
-      λ S R n. rows_more (limit.listed * suc a.k) l.f a.rows.now l.rows l.invariant.1 c.next_row-row.result j.new.work joined
+      written-more (limit.listed * suc a.k) l.f a.rows.now l.rows l.invariant.0 c.next_row-row.result j.new.work joined j.auto.work,
+      λ S R n. rows_more (limit.listed * suc a.k) l.f a.rows.now l.rows l.invariant.0 c.next_row-row.result j.new.work joined
           (Paired S a.work.now a.literals.now a.ways.now a.t a.rows.now a.k)
           (has-so c.next_row-row.result (λ e. Paired S a.work.now a.literals.now a.ways.now a.t l.rows a.k e l.f) (λ e. Paired S a.work.now a.literals.now a.ways.now a.t a.rows.now a.k e l.f)
           (λ e g. (
@@ -56,15 +55,15 @@ loop-f-preserved c =
             λ q. (led-so a.ways.now a.t (pair_at a.rows.now a.k) (pair_at l.rows a.k) (λ u v p y. sym (before_same (goal.at.loop-f-preserved c).At-loop-f u v p y)) e l.f q.0, q.1),
           ))
           (c.next_row-row.ensures S R n))
-          (l.invariant.2 S R n),
+          (l.invariant.1 S R n),
     )
 
 pub shape_of-rows : goal.shape_of-rows
-shape_of-rows c = c.loop-f.invariant.1.long
+shape_of-rows c = c.loop-f.invariant.0.long
 
 pub returns : goal.returns
 returns c =
     let a = c.args in
     let l = c.loop-f in
-    let e : l.f ≡ limit.listed = omega (arith, l.invariant.0, c.loop-f-test.false) in
-    (record { long = l.invariant.1.long; kept = l.invariant.1.kept; clear = λ i u g h. l.invariant.1.clear i u (omega (arith, e)) h }, λ S R n u v p q. l.invariant.2 S R n u v p (omega (arith, e, q)))
+    let e : l.f ≡ limit.listed = omega arith in
+    (record { long = l.invariant.0.long; kept = l.invariant.0.kept; clear = λ i u g h. l.invariant.0.clear i u (omega (arith, e)) h }, λ S R n u v p q. l.invariant.1 S R n u v p (omega (arith, e, q)))

@@ -2,7 +2,7 @@ use mathlib.Core.Path.{◌≡◌}
 use mathlib.Core.Logic.{◌↔◌}
 use mathlib.Core.Bool.{true}
 use mathlib.Core.List.{List}
-use Prim.Native.Nat.{ℕ, suc, ◌+◌, ◌-◌, ◌*◌, ◌≤◌, ◌<◌}
+use Prim.Native.Nat.{ℕ, suc, ◌+◌, ◌*◌, ◌<◌}
 use Rattle.limits.specs.Limits as limit
 use Rattle.semantics.specs.Facts.{Database}
 use Rattle.search_levels.specs.declared.Meeting.{Meeting}
@@ -15,7 +15,4 @@ abbrev pub Paired : Database → List ℕ → List ℕ → List ℕ → Meeting 
 Paired S work literals ways t rows k e f = Led ways t (pair_at rows k) e f × Met S work literals t e f
 
 abbrev pub invariant-loop-f : goal.invariant-loop-f
-invariant-loop-f l = (l.f ≤ limit.listed) × Written (limit.listed * suc l.k) (limit.listed * suc l.k + l.f) l.initial.rows l.rows × Over l.work l.n (λ S. (e g : ℕ) → e < limit.listed → g < l.f → (pair_at l.rows (suc l.k) e g ≡ true) ↔ Paired S l.work l.literals l.ways l.t l.initial.rows l.k e g)
-
-abbrev pub decreases-loop-f : goal.decreases-loop-f
-decreases-loop-f l = limit.listed - l.f
+invariant-loop-f l = Written (limit.listed * suc l.k) (limit.listed * suc l.k + l.f) l.initial.rows l.rows × Over l.work l.n (λ S. (e g : ℕ) → e < limit.listed → g < l.f → (pair_at l.rows (suc l.k) e g ≡ true) ↔ Paired S l.work l.literals l.ways l.t l.initial.rows l.k e g)

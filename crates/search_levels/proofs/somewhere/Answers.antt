@@ -1,18 +1,9 @@
 use mathlib.Core.Path.{refl}
-use mathlib.Core.Bool.{false≢true}
 use Prim.Native.Nat.{◌<◌}
 use native.Mathlib.Omega.{arith}
 use Rattle.facts_bits.specs.Width as width
-use Rattle.search_levels.proofs.Aiming.{none-begins, fits-here, none_more, none-fits}
+use Rattle.search_levels.proofs.Aiming.{fits-here, none_more}
 use Rattle.search_levels.proofs.somewhere.Goals as goal
-
-pub loop-e-init : goal.loop-e-init
-loop-e-init c =
-    let a = c.args in
-    (c.next-e.ensures.most, c.requires.0, c.requires.1, c.requires.2, c.next-e.ensures.set, λ S R n. none-begins S a.work.now a.literals.now a.part a.c a.row c.next-e.result c.next-e.ensures)
-
-pub shows-requires : goal.shows-requires
-shows-requires c = let r = c.loop-e.invariant.1 in (r.agree, r.own, omega (arith, r.few), r.body)
 
 pub returns-then-shows : goal.returns-then-shows
 returns-then-shows c =
@@ -35,13 +26,4 @@ loop-e-preserved c =
       l.invariant.3,
       c.next-e-in-loop-e.ensures.set,
       λ S R n. none_more S a.work.now a.literals.now a.part a.c a.row l.invariant.2 l.invariant.1.body l.invariant.3 l.e small c.choose-one.result c.choose-one.ensures c.shows.result (c.shows.ensures S R n) c.if-shows.false (l.invariant.5 S R n) c.next-e-in-loop-e.result c.next-e-in-loop-e.ensures,
-    )
-
-pub returns : goal.returns
-returns c =
-    let a = c.args in
-    let l = c.loop-e in
-    λ S R n. (
-      (λ q. absurd (false≢true q)),
-      λ q. absurd (none-fits S a.work.now a.literals.now a.part a.c a.row l.invariant.2 l.invariant.1.body a.n l.e n c.loop-e-test.false (l.invariant.5 S R n) q),
     )

@@ -1,23 +1,18 @@
 use mathlib.Core.Path.{◌≡◌}
-use native.Mathlib.Omega.{arith}
-use native.Mathlib.Numerals.{add-one}
-use lib.ListN.{take}
-use lib.Seq.{take-suc}
-use Rattle.search_states.proofs.Sorting.{least-none, least_more}
+use Prim.Native.Nat.{◌≤◌}
+use lib.ListN.{length}
+use Rattle.std.proofs.Common.{rules, leb}
+use Rattle.std.specs.Option.{IfSome, IfNone}
+use Rattle.std.specs.List.{filter, Contains, All}
+use Rattle.std.proofs.iter.runs.Made.{chains}
+use Rattle.search_states.proofs.Sorting.{least-filter}
 use Rattle.search_states.proofs.least.Goals as goal
-
-pub loop-i-init : goal.loop-i-init
-loop-i-init c = (omega arith, least-none c.args.t)
-
-pub loop-i-preserved : goal.loop-i-preserved
-loop-i-preserved c =
-    let l = c.loop-i in
-    let a = c.args in
-    (omega arith, rw (c.nearer-best.ensures, add-one, take-suc a.row.now l.i 0 (omega arith)) (least_more (take l.i a.row.now) a.t l.best _ l.invariant.1))
 
 pub returns : goal.returns
 returns c =
-    let l = c.loop-i in
     let a = c.args in
-    let e : l.i ≡ a.n = omega arith in
-    rw e at l.invariant.1
+    let xs = filter (leb a.t) a.row.now in
+    let none : IfNone c.min.result (length xs ≡ 0) = search (rules, chains) in
+    let there : IfSome c.min.result (Contains xs) = search (rules, chains) in
+    let first : IfSome c.min.result (λ m. All (λ y. m ≤ y) xs) = search (rules, chains) in
+    least-filter a.row.now a.t c.min.result none there first

@@ -1,42 +1,38 @@
-use mathlib.Core.Logic.{⊎_elim}
-use Prim.Native.Nat.{◌+◌, ◌≤◌, ◌<◌}
+use mathlib.Core.Path.{refl}
+use Rattle.std.specs.Prelude.{Some}
+use Prim.Native.Nat.{◌+◌, ◌<◌}
 use native.Mathlib.Omega.{arith}
 use Rattle.limits.specs.Limits as limit
-use Rattle.search_states.proofs.Sorting.{lists-empty, lists-none, lists-next, lists-more, few-listed, lists-all, le-or-lt}
-use borrow.Author.Rules.{rules}
+use Rattle.search_states.proofs.Sorting.{Ahead, lists-first, lists-more, few-listed, lists-all, ahead, ahead-shrinks}
 use Rattle.search_states.proofs.rising.Goals as goal
-use Rattle.search_states.proofs.rising.Goals.{else-s, then-s}
+use Rattle.search_states.proofs.rising.Goals.{In-Some}
 
-pub loop-t-init : goal.loop-t-init
-loop-t-init c = (
-  lists-next c.args.s 1 c.least-t.result _ _ (elim (c.if-s.branch) [ then-s w ↦ rw w.count-is (lists-empty c.args.s c.requires w.if-s.true) | else-s w ↦ rw w.count-is (lists-none c.args.s c.requires w.if-s.false) ]) c.least-t.ensures,
-  λ l. (c.least-t.ensures.there l).0,
-)
+pub loop-next-init : goal.loop-next-init
+loop-next-init c = let s = c.args.s in ahead s c.requires 1 _ _ (rw c.from-count.ensures (lists-first s c.requires s.empty refl)) c.least-next.result c.least-next.ensures
+
+-- the next state is in the row, and there is room for it
+now : (c : In-Some) → Ahead c.args.s (Some c.in-Some.t) c.loop-next.states c.loop-next.count
+now c = rw c.in-Some.is at c.loop-next.invariant
+
+small : (c : In-Some) → c.in-Some.t < limit.sets
+small c = (c.requires.atomic c.in-Some.t (now c).found_next).1
+
+room : (c : In-Some) → c.loop-next.count < limit.listed
+room c = few-listed c.args.s c.requires c.in-Some.t c.loop-next.states c.loop-next.count (now c).lists (small c) (now c).found_next
 
 pub bounds-states-count : goal.bounds-states-count
-bounds-states-count c =
-    let l = c.loop-t in
-    few-listed c.args.s c.requires l.t l.states l.count l.invariant.0 (omega arith) (l.invariant.1 (omega arith))
+bounds-states-count c = room (goal.at.bounds-states-count c).In-Some
 
-pub overflow_add-count : goal.overflow_add-count
-overflow_add-count c =
-    let l = c.loop-t in
-    let k = few-listed c.args.s c.requires l.t l.states l.count l.invariant.0 (omega arith) (l.invariant.1 (omega arith)) in
-    search rules
+pub loop-next-preserved : goal.loop-next-preserved
+loop-next-preserved c =
+    let s = c.args.s in
+    let i = (goal.at.loop-next-preserved c).In-Some in
+    ahead s c.requires (c.in-Some.t + 1) _ _ (lists-more s c.requires c.in-Some.t c.loop-next.states c.loop-next.count (now i).lists (small i) (now i).found_next) c.least-next-in-Some.result c.least-next-in-Some.ensures
 
-pub loop-t-smaller : goal.loop-t-smaller
-loop-t-smaller c =
-    let l = c.loop-t in
-    let m = c.least-t-in-loop-t.ensures in
-    let k = ⊎_elim (λ (q : limit.sets ≤ c.least-t-in-loop-t.result). let z : l.t < c.least-t-in-loop-t.result = omega arith in z) (λ (q : c.least-t-in-loop-t.result < limit.sets). let z : l.t < c.least-t-in-loop-t.result = omega (arith, (m.there q).1) in z) (le-or-lt limit.sets c.least-t-in-loop-t.result) in
-    omega (arith, k)
-
-pub loop-t-preserved : goal.loop-t-preserved
-loop-t-preserved c =
-    let l = c.loop-t in
-    (lists-next c.args.s (l.t + 1) c.least-t-in-loop-t.result _ _ (lists-more c.args.s c.requires l.t l.states l.count l.invariant.0 (omega arith) (l.invariant.1 (omega arith))) c.least-t-in-loop-t.ensures, λ k. (c.least-t-in-loop-t.ensures.there k).0)
+pub loop-next-smaller : goal.loop-next-smaller
+loop-next-smaller c =
+    let i = (goal.at.loop-next-smaller c).In-Some in
+    rw c.in-Some.is (ahead-shrinks c.args.s c.in-Some.t (small i) c.least-next-in-Some.result c.least-next-in-Some.ensures)
 
 pub returns : goal.returns
-returns c =
-    let l = c.loop-t in
-    lists-all c.args.s c.requires l.states l.count l.t (omega arith) l.invariant.0
+returns c = lists-all c.args.s c.requires c.loop-next.states c.loop-next.count limit.sets (omega arith) ((rw c.in_default.is at c.loop-next.invariant).lists)

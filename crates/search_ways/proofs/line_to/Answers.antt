@@ -1,47 +1,14 @@
 use mathlib.Core.Path.{sym, ◌∙◌, subst}
 use mathlib.Core.Bool.{Bool}
 use native.Mathlib.Omega.{arith}
-use borrow.Author.Count.{below_more}
 use lib.ListN.{get_or}
 use Rattle.semantics.specs.Facts.{state}
-use Rattle.semantics.proofs.Tools.{clash}
 use Rattle.model.specs.Records.{clause_at}
 use Rattle.search_states.specs.States.{row}
 use Rattle.search_ways.specs.Steps.{Turns}
 use Rattle.search_ways.specs.Shortest.{Says}
 use Rattle.search_ways.proofs.Stepping.{turns_at, takes-clause, clause-takes}
 use Rattle.search_ways.proofs.line_to.Goals as goal
-use Rattle.search_ways.proofs.line_to.Goals.{else-get, then-get+else-turns}
-
-pub offset_bounds-s-u : goal.offset_bounds-s-u
-offset_bounds-s-u c = record { fits = omega (arith, c.requires.1.count, c.requires.4) }
-
-pub bounds-s-u : goal.bounds-s-u
-bounds-s-u c = omega (arith, c.requires.1.count, c.requires.1.states, c.requires.4)
-
-pub offset_bounds-s-t : goal.offset_bounds-s-t
-offset_bounds-s-t c = record { fits = omega (arith, c.requires.1.count, c.requires.5) }
-
-pub bounds-s-t : goal.bounds-s-t
-bounds-s-t c = omega (arith, c.requires.1.count, c.requires.1.states, c.requires.5)
-
-pub loop-i-init : goal.loop-i-init
-loop-i-init c = (omega arith, λ k l. omega arith)
-
-pub overflow_mul-i : goal.overflow_mul-i
-overflow_mul-i c = record { fits = omega (arith, c.requires.0.clauses, c.loop-i-test.true) }
-
-pub overflow_add-i : goal.overflow_add-i
-overflow_add-i c = record { fits = omega (arith, c.requires.0.clauses, c.loop-i-test.true, c.requires.1.count, c.requires.4) }
-
-pub get-requires : goal.get-requires
-get-requires c = omega (arith, c.requires.0.clauses, c.loop-i-test.true, c.requires.1.count, c.requires.4, c.requires.2)
-
-pub offset_bounds-m-i : goal.offset_bounds-m-i
-offset_bounds-m-i c = record { fits = omega (arith, c.requires.0.clauses, c.loop-i-test.true) }
-
-pub bounds-m-i : goal.bounds-m-i
-bounds-m-i c = omega (arith, c.requires.0.clauses, c.loop-i-test.true)
 
 pub returns-then-turns : goal.returns-then-turns
 returns-then-turns c =
@@ -50,24 +17,9 @@ returns-then-turns c =
     clause-takes a.m c.requires.0 a.s c.requires.1 a.table.now c.requires.3 a.u (state (row a.s) a.t) l.i c.requires.4 (sym c.get.ensures ∙ c.if-get.true)
     (rw (turns_at a.s a.u a.t c.requires.4 c.requires.5 (clause_at a.m l.i).action) (subst (λ (b : Bool). Says b (Turns (clause_at a.m l.i).action (get_or a.s.states a.u 0) (get_or a.s.states a.t 0))) c.if-turns.true c.turns.ensures))
 
-pub overflow_add-i-in-loop-i : goal.overflow_add-i-in-loop-i
-overflow_add-i-in-loop-i c = record { fits = omega (arith, c.requires.0.clauses, c.loop-i-test.true) }
-
-pub loop-i-smaller : goal.loop-i-smaller
-loop-i-smaller c = omega (arith, c.loop-i-test.true)
-
-pub loop-i-preserved : goal.loop-i-preserved
-loop-i-preserved c =
-    let a = c.args in
-    let l = c.loop-i in
-    let T = Turns (clause_at a.m l.i).action (get_or a.s.states a.u 0) (get_or a.s.states a.t 0) in (
-      omega (arith, c.loop-i-test.true),
-      below_more _ _ l.invariant.1 (λ q h. (elim (c.if-get.branch) [ then-get+else-turns w ↦ let f : T → ⊥ = subst (λ (b : Bool). Says b T) w.if-turns.false w.turns.ensures in f h | else-get w ↦ clash q (sym c.get.ensures ∙ w.if-get.false) ])),
-    )
-
-pub returns : goal.returns
-returns c =
+pub unreachable-requires : goal.unreachable-requires
+unreachable-requires c =
     let a = c.args in
     let l = c.loop-i in
     let r = takes-clause a.m c.requires.0 a.s c.requires.1 a.table.now c.requires.3 a.u (state (row a.s) a.t) c.requires.6.0 c.requires.4 c.requires.6.1 in
-    absurd (l.invariant.1 r.0 (omega (arith, r.1, c.loop-i-test.false)) r.2 (rw (turns_at a.s a.u a.t c.requires.4 c.requires.5 (clause_at a.m r.0).action) at r.3))
+    (l.invariant r.0 (omega (arith, r.1)) r.2 (rw (turns_at a.s a.u a.t c.requires.4 c.requires.5 (clause_at a.m r.0).action) at r.3))

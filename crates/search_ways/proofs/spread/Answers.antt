@@ -12,14 +12,9 @@ use Rattle.search_ways.specs.Moves.{Marks, With, InRow}
 use Rattle.search_ways.specs.Shortest.{Joined}
 use Rattle.search_ways.proofs.Marking.{marks-join, row_other}
 use Rattle.search_ways.proofs.Closing.{copied}
-use Rattle.search_ways.proofs.Nearest.{spread_none, spread-more, spread-skip}
+use Rattle.search_ways.proofs.Nearest.{spread-more, spread-skip}
 use Rattle.search_ways.proofs.spread.Goals as goal
 use Rattle.search_ways.proofs.spread.Goals.{else-get, then-get}
-
-pub loop-u-init : goal.loop-u-init
-loop-u-init c =
-    let a = c.args in
-    (omega arith, c.requires.3, spread_none a.links.now a.layers.now (a.j + 1) a.j)
 
 pub loop-u-preserved : goal.loop-u-preserved
 loop-u-preserved c =
@@ -28,25 +23,14 @@ loop-u-preserved c =
     let i = a.j + 1 in
     let D : ℕ → ℕ → Type 0 = λ u. Joined a.links.now a.layers.now u a.j in
     let g = c.get.ensures in
-    let p = row_other a.layers.now l.layers i width.slots (D l.u) l.invariant.2 a.j (λ q. omega arith) l.u (omega (arith, c.requires.0, c.loop-u-test.true)) in (
-      omega (arith, c.loop-u-test.true),
-      elim (c.if-get.branch) [ then-get w ↦ ap length w.layers-is ∙ (w.join.auto.work ∙ l.invariant.1) | else-get w ↦ ap length w.layers-is ∙ l.invariant.1 ],
+    let p = row_other a.layers.now l.layers i width.slots (D l.u) l.invariant.1 a.j (λ q. omega arith) l.u (omega (arith, c.requires.0)) in (
+      elim (c.if-get.branch) [ then-get w ↦ ap length w.layers-is ∙ (w.join.auto.work ∙ l.invariant.0) | else-get w ↦ ap length w.layers-is ∙ l.invariant.0 ],
       elim (c.if-get.branch) [
         | then-get w ↦ subst (λ (t : List ℕ). Marks t (With a.layers.now (InRow i width.slots (D (l.u + 1))))) (sym w.layers-is)
             (let k = copied a.links.now l.u w.keep-row.result (subst (λ (f : List ℕ). Kept f a.links.now l.u w.keep-row.result) w.full.ensures w.keep-row.ensures) in
-            spread-more a.links.now a.layers.now l.layers i a.j l.u l.invariant.2 (p.0 (sym g ∙ w.if-get.true)) _ (λ t. bit_at w.keep-row.result t ≡ true) (λ t h. ((λ x. sym (k t h) ∙ x), λ x. k t h ∙ x))
+            spread-more a.links.now a.layers.now l.layers i a.j l.u l.invariant.1 (p.0 (sym g ∙ w.if-get.true)) _ (λ t. bit_at w.keep-row.result t ≡ true) (λ t h. ((λ x. sym (k t h) ∙ x), λ x. k t h ∙ x))
             (marks-join l.layers i w.keep-row.result _ w.join.ensures))
         | else-get w ↦ subst (λ (t : List ℕ). Marks t (With a.layers.now (InRow i width.slots (D (l.u + 1))))) (sym w.layers-is)
-            (spread-skip a.links.now a.layers.now l.layers i a.j l.u l.invariant.2 (⊎_elim (λ (z : in_row a.layers.now a.j l.u ≡ true). clash (p.1 z) (sym g ∙ w.if-get.false)) (λ (z : in_row a.layers.now a.j l.u ≡ false). z) (either (in_row a.layers.now a.j l.u))))
+            (spread-skip a.links.now a.layers.now l.layers i a.j l.u l.invariant.1 (⊎_elim (λ (z : in_row a.layers.now a.j l.u ≡ true). clash (p.1 z) (sym g ∙ w.if-get.false)) (λ (z : in_row a.layers.now a.j l.u ≡ false). z) (either (in_row a.layers.now a.j l.u))))
       ],
     )
-
-pub shape_of-layers : goal.shape_of-layers
-shape_of-layers c = c.loop-u.invariant.1 ∙ sym c.requires.3
-
-pub returns : goal.returns
-returns c =
-    let a = c.args in
-    let l = c.loop-u in
-    let e : l.u ≡ a.n = omega (arith, l.invariant.0, c.loop-u-test.false) in
-    subst (λ (k : ℕ). Marks l.layers (With a.layers.now (InRow (a.j + 1) width.slots (Joined a.links.now a.layers.now k a.j)))) e l.invariant.2

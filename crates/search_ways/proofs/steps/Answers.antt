@@ -1,53 +1,30 @@
-use mathlib.Core.Path.{◌≡◌, sym, ◌∙◌, subst}
+use mathlib.Core.Path.{◌≡◌, ◌∙◌, subst}
 use Prim.Native.Nat.{ℕ}
 use native.Mathlib.Omega.{arith}
 use Rattle.search_states.specs.States.{row}
+use Rattle.search_states.proofs.Laws.{length-row}
 use Rattle.search_ways.specs.Moves.{Marks}
+use Rattle.search_ways.proofs.Marking.{marks-zero}
 use Rattle.search_ways.proofs.Stepping.{LedTo, led-start, led-more, led-all}
 use Rattle.search_ways.proofs.steps.Goals as goal
-
-pub stay-requires : goal.stay-requires
-stay-requires c =
-    (omega (arith, c.requires.1.count), c.clear.auto.rows ∙ c.requires.4)
 
 pub loop-i-init : goal.loop-i-init
 loop-i-init c =
     let a = c.args in
-    (omega arith, c.stay.auto.ways ∙ (c.clear.auto.rows ∙ c.requires.4), led-start a.m (row a.s) a.s.count a.table.now _ _ c.clear.ensures c.stay.ensures)
-
-pub offset_bounds-m-i : goal.offset_bounds-m-i
-offset_bounds-m-i c = record { fits = omega (arith, c.requires.0.clauses, c.loop-i-test.true) }
-
-pub bounds-m-i : goal.bounds-m-i
-bounds-m-i c = omega (arith, c.requires.0.clauses, c.loop-i-test.true)
-
-pub lead_clause-requires : goal.lead_clause-requires
-lead_clause-requires c =
-    let l = c.loop-i in
-    (omega (arith, c.requires.1.count, c.requires.1.states), c.requires.1.distinct, omega (arith, c.requires.1.count), omega (arith, c.requires.0.clauses, c.loop-i-test.true), c.requires.2, l.invariant.1)
-
-pub overflow_add-i : goal.overflow_add-i
-overflow_add-i c = record { fits = omega (arith, c.requires.0.clauses, c.loop-i-test.true) }
-
-pub loop-i-smaller : goal.loop-i-smaller
-loop-i-smaller c = omega (arith, c.loop-i-test.true)
+    (c.stay.auto.ways ∙ (c.fill.ensures.len ∙ c.requires.4), led-start a.m (row a.s) a.s.count a.table.now _ _ (marks-zero c.fill.new.self _ c.fill.ensures.len c.fill.ensures.clones) c.stay.ensures)
 
 pub loop-i-preserved : goal.loop-i-preserved
 loop-i-preserved c =
     let a = c.args in
     let l = c.loop-i in (
-      omega (arith, c.loop-i-test.true),
-      c.lead_clause.auto.ways ∙ l.invariant.1,
-      led-more a.m (row a.s) a.s.count a.table.now l.i l.ways _ l.invariant.2 c.lead_clause.ensures,
+      c.lead_clause.auto.ways ∙ l.invariant.0,
+      led-more a.m (row a.s) a.s.count a.table.now l.i l.ways _ l.invariant.1 (rw (length-row a.s c.requires.1) at c.lead_clause.ensures),
     )
-
-pub shape_of-ways : goal.shape_of-ways
-shape_of-ways c = c.loop-i.invariant.1 ∙ sym c.requires.4
 
 pub returns : goal.returns
 returns c =
     let a = c.args in
     let l = c.loop-i in
-    let e : l.i ≡ a.m.clausecount = omega (arith, l.invariant.0, c.loop-i-test.false) in
+    let e : l.i ≡ a.m.clausecount = omega arith in
     led-all a.m c.requires.0 a.s c.requires.1 a.table.now c.requires.3 l.ways
-    (subst (λ (k : ℕ). Marks l.ways (LedTo a.m (row a.s) a.s.count a.table.now k)) e l.invariant.2)
+    (subst (λ (k : ℕ). Marks l.ways (LedTo a.m (row a.s) a.s.count a.table.now k)) e l.invariant.1)

@@ -1,13 +1,10 @@
 use mathlib.Core.Path.{◌≡◌}
 use mathlib.Core.Bool.{true}
-use Prim.Native.Nat.{ℕ, ◌-◌, ◌≤◌, ◌<◌}
+use Prim.Native.Nat.{ℕ, ◌<◌}
 use Rattle.model.specs.Records.{clause_at}
 use Rattle.facts_bits.specs.Bits.{in_row}
 use Rattle.search_ways.specs.Steps.{Turns}
 use Rattle.shortest_empty.proofs.emptier.Given as goal
 
 abbrev pub invariant-loop-i : goal.invariant-loop-i
-invariant-loop-i l = (l.i ≤ l.m.clausecount) × ((k : ℕ) → k < l.i → in_row l.table k l.u ≡ true → Turns (clause_at l.m k).action l.from 0 → ⊥)
-
-abbrev pub decreases-loop-i : goal.decreases-loop-i
-decreases-loop-i l = l.m.clausecount - l.i
+invariant-loop-i l = ((k : ℕ) → k < l.i → in_row l.table k l.u ≡ true → Turns (clause_at l.m k).action l.from 0 → ⊥)

@@ -8,22 +8,18 @@ use Rattle.strike_list.proofs.choose.Goals as goal
 use Rattle.strike_list.proofs.choose.Goals.{else-has, then-has}
 
 pub loop-i-init : goal.loop-i-init
-loop-i-init c = let a = c.args in (search rules, search rules, search rules, chosen_none (take a.l.count a.l.lines) a.number)
+loop-i-init c = let a = c.args in chosen_none (take a.l.count a.l.lines) a.number
 
 pub bounds-lines-count : goal.bounds-lines-count
-bounds-lines-count c = omega (arith, c.loop-i.invariant.3.few)
+bounds-lines-count c = omega (arith, c.loop-i.invariant.few)
 
 pub loop-i-preserved : goal.loop-i-preserved
 loop-i-preserved c =
     let l = c.loop-i in
     let a = c.args in
     let xs = take a.l.count a.l.lines in
-    let e : length xs ≡ a.l.count = length-take-le a.l.count a.l.lines (omega arith) in (
-      search rules,
-      search rules,
-      search rules,
-      elim (c.if-has.branch) [ then-has w ↦ rw (w.lines-is, w.count-is) (chosen-struck xs a.number l.lines l.count l.i _ l.invariant.3 (omega (arith, e)) (omega (arith, e)) _ (get_or-take a.l.count a.l.lines l.i 0 (search rules)) (omega (arith, e)) (sym c.has.ensures ∙ w.if-has.true)) | else-has w ↦ rw (w.lines-is, w.count-is) (chosen-kept xs a.number l.lines l.count l.i _ l.invariant.3 (omega (arith, e)) (omega (arith, e)) (sym c.has.ensures ∙ w.if-has.false)) ],
-    )
+    let e : length xs ≡ a.l.count = length-take-le a.l.count a.l.lines (omega arith) in
+    elim (c.if-has.branch) [ then-has w ↦ rw (w.lines-is, w.count-is) (chosen-struck xs a.number l.lines l.count l.i _ l.invariant (omega (arith, e)) (omega (arith, e)) _ (get_or-take a.l.count a.l.lines l.i 0 (search rules)) (omega (arith, e)) (sym c.has.ensures ∙ w.if-has.true)) | else-has w ↦ rw (w.lines-is, w.count-is) (chosen-kept xs a.number l.lines l.count l.i _ l.invariant (omega (arith, e)) (omega (arith, e)) (sym c.has.ensures ∙ w.if-has.false)) ]
 
 pub returns : goal.returns
-returns c = let l = c.loop-i in let a = c.args in chosen-all (take a.l.count a.l.lines) a.number l.lines l.count l.i l.invariant.3 (omega (arith, length-take-le a.l.count a.l.lines (omega arith)))
+returns c = let l = c.loop-i in let a = c.args in chosen-all (take a.l.count a.l.lines) a.number l.lines l.count l.i l.invariant (omega (arith, length-take-le a.l.count a.l.lines (omega arith)))

@@ -1,5 +1,5 @@
 use mathlib.Core.Path.{◌≡◌}
-use Prim.Native.Nat.{◌≤◌, ◌<◌, ◌-◌}
+use Prim.Native.Nat.{◌<◌}
 use lib.ListN.{length}
 use Rattle.model.specs.Records.{program_of, question_of}
 use Rattle.strike_list.specs.Lists.{listed}
@@ -7,7 +7,4 @@ use Rattle.strike_table.specs.Tables.{Onward}
 use Rattle.strike_table.proofs.climb.Given as goal
 
 abbrev pub invariant-loop-i : goal.invariant-loop-i
-invariant-loop-i l = (l.lines ≡ l.l.count) × (l.i ≤ l.lines) × (l.top < l.total) × Onward (program_of l.m) (question_of l.m) (listed l.l) l.total l.initial.said l.said × (length l.facts ≡ length l.initial.facts)
-
-abbrev pub decreases-loop-i : goal.decreases-loop-i
-decreases-loop-i l = l.lines - l.i
+invariant-loop-i l = (l.top < l.total) × Onward (program_of l.m) (question_of l.m) (listed l.l) l.total l.initial.said l.said × (length l.facts ≡ length l.initial.facts)

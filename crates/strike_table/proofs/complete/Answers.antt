@@ -19,28 +19,27 @@ decide-requires c = (c.requires, omega (arith, c.requires.all, pow_pos c.args.l.
 pub loop-n-init : goal.loop-n-init
 loop-n-init c =
     let d = c.decide.ensures in
-    (search rules, ready_on c.args.m c.args.l c.args.total _ _ _ _ c.requires d.0.onward d.1, (λ k h. absurd (omega (arith, h))), refl)
+    (ready_on c.args.m c.args.l c.args.total _ _ _ _ c.requires d.0.onward d.1, (λ k h. absurd (omega (arith, h))), refl)
 
 pub overflow_cast-n : goal.overflow_cast-n
 overflow_cast-n c = omega (arith, total-most c.args.l.count c.args.total c.requires.few c.requires.all)
 
 pub settle-requires : goal.settle-requires
-settle-requires c = (c.loop-n.invariant.1, search rules)
+settle-requires c = (c.loop-n.invariant.0, search rules)
 
 pub loop-n-preserved : goal.loop-n-preserved
 loop-n-preserved c =
     let l = c.loop-n in
     let d = c.settle.ensures in (
-      search rules,
-      ready_on c.args.m c.args.l c.args.total _ _ _ _ l.invariant.1 d.0.onward d.1,
-      decided-next (program_of c.args.m) (question_of c.args.m) (listed c.args.l) c.args.total l.n _ _ (search rules) d.0 l.invariant.2,
-      d.1 ∙ l.invariant.3,
+      ready_on c.args.m c.args.l c.args.total _ _ _ _ l.invariant.0 d.0.onward d.1,
+      decided-next (program_of c.args.m) (question_of c.args.m) (listed c.args.l) c.args.total l.n _ _ (search rules) d.0 l.invariant.1,
+      d.1 ∙ l.invariant.2,
     )
 
 pub shape_of-facts : goal.shape_of-facts
-shape_of-facts c = c.loop-n.invariant.3 ∙ c.decide.ensures.1
+shape_of-facts c = c.loop-n.invariant.2 ∙ c.decide.ensures.1
 
 pub returns : goal.returns
 returns c =
     let l = c.loop-n in
-    record { right = l.invariant.1.right; all = λ k h. l.invariant.2 k (omega (arith, h)) }
+    record { right = l.invariant.0.right; all = λ k h. l.invariant.1 k (omega (arith, h)) }

@@ -1,12 +1,9 @@
 use mathlib.Core.Path.{◌≡◌}
 use mathlib.Core.Logic.{◌≢◌}
-use Prim.Native.Nat.{ℕ, ◌≤◌, ◌<◌, ◌-◌}
+use Prim.Native.Nat.{ℕ, ◌<◌}
 use lib.ListN.{length, get_or}
 use Rattle.strike_table.specs.Tables.{Ready}
 use Rattle.strike_table.proofs.complete.Given as goal
 
 abbrev pub invariant-loop-n : goal.invariant-loop-n
-invariant-loop-n l = (l.n ≤ l.total) × Ready l.m l.l l.total l.said l.facts × ((k : ℕ) → k < l.n → get_or l.said k 0 ≢ 0) × (length l.facts ≡ length l.initial.facts)
-
-abbrev pub decreases-loop-n : goal.decreases-loop-n
-decreases-loop-n l = l.total - l.n
+invariant-loop-n l = Ready l.m l.l l.total l.said l.facts × ((k : ℕ) → k < l.n → get_or l.said k 0 ≢ 0) × (length l.facts ≡ length l.initial.facts)

@@ -7,6 +7,6 @@ pub returns-then-v-eq-REACHED : goal.returns-then-v-eq-REACHED
 unfolding settled
 returns-then-v-eq-REACHED c = rw (eq-eqb _ 1 c.if-v-eq-REACHED.true) refl
 
-pub returns : goal.returns
+pub returns-else-v-eq-REACHED : goal.returns-else-v-eq-REACHED
 unfolding settled
-returns c = rw (ne_eqb _ 1 c.if-v-eq-REACHED.false) refl
+returns-else-v-eq-REACHED c = rw (ne_eqb _ 1 c.if-v-eq-REACHED.false) refl

@@ -2,7 +2,7 @@ use mathlib.Core.Path.{◌≡◌, sym, ◌∙◌}
 use native.Mathlib.Omega.{arith}
 use lib.Seq.{length-take-le}
 use Rattle.model.specs.Records.{program_of}
-use Rattle.text.proofs.Lines.{reached-start, onwards-start, line-found, onwards-bad, valid-there, line_refused, onwards-on, reached-on, onwards-end}
+use Rattle.text.proofs.Lines.{reached-start, onwards-start, line-found, onwards-bad, valid-there, line_unshaped, line_refused, onwards-on, reached-on, onwards-end}
 use borrow.Author.Rules.{rules}
 use Rattle.text.proofs.read_lines.Goals as goal
 
@@ -37,8 +37,8 @@ returns-then-at_bytes c = rw c.loop-at.invariant.2 c.read_question.ensures
 pub slice_bounds-read_line-end : goal.slice_bounds-read_line-end
 slice_bounds-read_line-end c = sym (length-take-le c.line_end-e.result c.args.text.now c.line_end-e.ensures.within)
 
-pub read_line-s-requires : goal.read_line-s-requires
-read_line-s-requires c =
+pub read_line-requires : goal.read_line-requires
+read_line-requires c =
     let e = c.line_end-e.result in
     let text = c.args.text.now in
     let l = line-found c.line_end-e.ensures c.if-e-text.false in
@@ -47,11 +47,17 @@ read_line-s-requires c =
     let so = c.loop-at.invariant.1 in
     (omega (arith, k), omega (arith, k, c.loop-at.invariant.0), valid-there so l, so.limited, (program_of c.loop-at.m, so.holds))
 
+pub returns-in_default : goal.returns-in_default
+returns-in_default c =
+    let i = c.loop-at.invariant in
+    let l = line-found c.line_end-e.ensures c.if-e-text.false in
+    rw (i.2, line_unshaped i.1 l (c.in_default.ensures (c.at_bytes.ensures.missing c.if-at_bytes.false))) c.refusal-in_default.ensures
+
 pub returns-then-s-ne0 : goal.returns-then-s-ne0
 returns-then-s-ne0 c =
     let i = c.loop-at.invariant in
     let l = line-found c.line_end-e.ensures c.if-e-text.false in
-    let s = c.read_line-s.ensures.steps (program_of c.loop-at.m) i.1.holds (c.at_bytes.ensures.missing c.if-at_bytes.false) in
+    let s = c.in-Some.ensures.steps (program_of c.loop-at.m) i.1.holds in
     rw (i.2, line_refused i.1 l s c.if-s-ne0.true) c.refusal-then-s-ne0.ensures
 
 pub overflow_add-at : goal.overflow_add-at
@@ -68,9 +74,9 @@ loop-at-preserved c =
     let i = c.loop-at.invariant in
     let l = line-found c.line_end-e.ensures c.if-e-text.false in
     let a = c.at_bytes.ensures.missing c.if-at_bytes.false in
-    let r = c.read_line-s.ensures in
-    let s = r.steps (program_of c.loop-at.m) i.1.holds a in
-    let z : c.read_line-s.result.number ≡ 0 = omega (arith, c.if-s-ne0.false) in
+    let r = c.in-Some.ensures in
+    let s = r.steps (program_of c.loop-at.m) i.1.holds in
+    let z : c.in-Some.s.number ≡ 0 = omega (arith, c.if-s-ne0.false) in
     (i.0, reached-on i.1 l s z r.aside, i.2 ∙ onwards-on i.1 l s z a)
 
 pub returns : goal.returns

@@ -1,32 +1,37 @@
+use native.Mathlib.Nat.{sub-zero}
 use native.Mathlib.Omega.{arith}
 use Rattle.grammar.proofs.Reading.{reading-full, reading-ends, reading-fails}
-use Rattle.text_ask.proofs.Laws.{stages-start, stages-addable, stages-more, stages-closed, stages-none}
-use borrow.Author.Rules.{rules}
+use Rattle.text_ask.proofs.Laws.{stages-start, stages-addable, stages-more, stages-closed}
 use Rattle.text_ask.proofs.read_stages.Goals as goal
 
-pub loop-k-init : goal.loop-k-init
-loop-k-init c = (stages-start c.requires.0, c.requires.1, c.requires.2, c.requires.3)
+pub loop-init : goal.loop-init
+loop-init c = rw (sub-zero c.args.n) (stages-start c.requires.0, c.requires.1, c.requires.2, c.requires.3)
 
 pub returns-then-at_byte : goal.returns-then-at_byte
-returns-then-at_byte c = stages-closed c.loop-k.invariant.0 (c.at_byte.ensures.found c.if-at_byte.true).0 (c.at_byte.ensures.found c.if-at_byte.true).1
+returns-then-at_byte c = stages-closed c.loop.invariant.0 (c.at_byte.ensures.found c.if-at_byte.true).0 (c.at_byte.ensures.found c.if-at_byte.true).1
 
-pub read_stage-b-requires : goal.read_stage-b-requires
-read_stage-b-requires c = (omega (arith, (c.at_byte-in-loop-k.ensures.found c.if-at_byte-2.true).0), c.loop-k.invariant.1, c.loop-k.invariant.2)
+pub returns-then-not-at_byte : goal.returns-then-not-at_byte
+returns-then-not-at_byte c = reading-ends c.loop.invariant.0.reading (c.at_byte.ensures.missing c.if-at_byte.false) (c.at_byte-in-loop.ensures.missing c.if-not-at_byte.true)
 
-pub returns-then-b-eq0 : goal.returns-then-b-eq0
-returns-then-b-eq0 c = stages-none (reading-fails c.loop-k.invariant.0.reading (c.at_byte.ensures.missing c.if-at_byte.false) (c.at_byte-in-loop-k.ensures.found c.if-at_byte-2.true).1 (c.read_stage-b.ensures.missing c.if-b-eq0.true))
+pub read_stage-requires : goal.read_stage-requires
+read_stage-requires c = (omega (arith, (c.at_byte-in-loop.ensures.found c.if-not-at_byte.false).0), c.loop.invariant.1, c.loop.invariant.2)
 
-pub add-g-requires : goal.add-g-requires
-add-g-requires c = stages-addable c.loop-k.invariant.0 c.loop-k-test.true c.loop-k.invariant.3 (c.read_stage-b.ensures.found c.if-b-eq0.false)
+pub returns-in_err-b : goal.returns-in_err-b
+returns-in_err-b c = rw c.from_residual.ensures (reading-fails c.loop.invariant.0.reading (c.at_byte.ensures.missing c.if-at_byte.false) (c.at_byte-in-loop.ensures.found c.if-not-at_byte.false).1 c.in_err-b.ensures)
 
-pub loop-k-preserved : goal.loop-k-preserved
-loop-k-preserved c = (stages-more c.loop-k.invariant.0 c.loop-k-test.true (c.at_byte.ensures.missing c.if-at_byte.false) (c.at_byte-in-loop-k.ensures.found c.if-at_byte-2.true).1 (c.read_stage-b.ensures.found c.if-b-eq0.false) c.add-g.ensures, c.loop-k.invariant.1, c.loop-k.invariant.2, c.loop-k.invariant.3)
+pub add-asking-requires : goal.add-asking-requires
+add-asking-requires c = stages-addable c.loop.invariant.0 (omega arith) c.loop.invariant.3 c.in_ok-b.ensures
 
-pub returns-else-at_byte-2 : goal.returns-else-at_byte-2
-returns-else-at_byte-2 c = stages-none (reading-ends c.loop-k.invariant.0.reading (c.at_byte.ensures.missing c.if-at_byte.false) (c.at_byte-in-loop-k.ensures.missing c.if-at_byte-2.false))
+pub loop-preserved : goal.loop-preserved
+loop-preserved c = (
+  stages-more c.loop.invariant.0 (omega arith) (c.at_byte.ensures.missing c.if-at_byte.false) (c.at_byte-in-loop.ensures.found c.if-not-at_byte.false).1 c.in_ok-b.ensures c.add-asking.ensures,
+  c.loop.invariant.1,
+  c.loop.invariant.2,
+  c.loop.invariant.3,
+)
 
-pub returns-then-at_byte-3 : goal.returns-then-at_byte-3
-returns-then-at_byte-3 c = stages-closed c.loop-k.invariant.0 (c.at_byte-2.ensures.found c.if-at_byte-3.true).0 (c.at_byte-2.ensures.found c.if-at_byte-3.true).1
+pub returns-then-not-at_byte-2 : goal.returns-then-not-at_byte-2
+returns-then-not-at_byte-2 c = reading-full c.loop.invariant.0.reading (omega arith) (c.at_byte-2.ensures.missing c.if-not-at_byte-2.true)
 
 pub returns : goal.returns
-returns c = stages-none (reading-full c.loop-k.invariant.0.reading (search rules) (c.at_byte-2.ensures.missing c.if-at_byte-3.false))
+returns c = let f = c.at_byte-2.ensures.found c.if-not-at_byte-2.false in stages-closed c.loop.invariant.0 f.0 f.1

@@ -1,5 +1,5 @@
 use mathlib.Core.List.{List}
-use Prim.Native.Nat.{◌+◌, ◌≤◌, ◌<◌}
+use Prim.Native.Nat.{◌+◌, ◌-◌, ◌≤◌, ◌<◌}
 use lib.ListN.{length}
 use Rattle.grammar.specs.Forms as forms
 use Rattle.text_names.specs.Names.{declared_of, Valid}
@@ -8,8 +8,5 @@ use Rattle.text_stages.specs.Questions as questions
 use Rattle.text_ask.proofs.Laws.{StagesSo}
 use Rattle.text_ask.proofs.read_stages.Given as goal
 
-abbrev pub invariant-loop-k : goal.invariant-loop-k
-invariant-loop-k l = StagesSo l.text (declared_of l.text l.d) l.at l.n l.initial.g l.g l.i l.k × (length l.text < 4294967296) × Valid l.text l.d × ((m : Model) × (qs : List (List forms.Literal)) × (length qs + l.n ≤ 4) × questions.Holds l.text (declared_of l.text l.d) m qs l.initial.g)
-
-abbrev pub decreases-loop-k : goal.decreases-loop-k
-decreases-loop-k l = l.k
+abbrev pub invariant-loop : goal.invariant-loop
+invariant-loop l = StagesSo l.text (declared_of l.text l.d) l.at l.n l.initial.asking l.asking l.i (l.n - l.counter) × (length l.text < 4294967296) × Valid l.text l.d × ((m : Model) × (qs : List (List forms.Literal)) × (length qs + l.n ≤ 4) × questions.Holds l.text (declared_of l.text l.d) m qs l.initial.asking)

@@ -1,10 +1,5 @@
-use Prim.Native.Nat.{◌-◌}
-use Rattle.limits.specs.Limits as limit
 use Rattle.text_carried.proofs.Collecting.{Collected}
 use Rattle.text_carried.proofs.carried.Given as goal
 
 abbrev pub invariant-loop-i : goal.invariant-loop-i
 invariant-loop-i l = Collected l.t l.cells l.found l.i
-
-abbrev pub decreases-loop-i : goal.decreases-loop-i
-decreases-loop-i l = limit.asked - l.i

@@ -1,6 +1,6 @@
 use mathlib.Core.Path.{◌≡◌}
 use mathlib.Core.Bool.{false}
-use Prim.Native.Nat.{◌-◌, ◌≤◌}
+use Prim.Native.Nat.{◌≤◌}
 use lib.ListN.{length}
 use lib.Seq.{slice}
 use Rattle.grammar.specs.Declarations.{member}
@@ -9,7 +9,4 @@ use Rattle.text_carried.specs.Asking.{variable, Valid}
 use Rattle.text_carried.proofs.find.Given as goal
 
 abbrev pub invariant-loop-i : goal.invariant-loop-i
-invariant-loop-i l = (l.i ≤ l.n) × (l.n ≡ l.t.count) × Valid l.text l.t × (l.a ≤ l.e) × (l.e ≤ length l.text) × (member (slice l.a l.e l.text) (list_of l.i (variable l.text l.t)) ≡ false)
-
-abbrev pub decreases-loop-i : goal.decreases-loop-i
-decreases-loop-i l = l.n - l.i
+invariant-loop-i l = Valid l.text l.t × (l.a ≤ l.e) × (l.e ≤ length l.text) × (member (slice l.a l.e l.text) (list_of l.i (variable l.text l.t)) ≡ false)

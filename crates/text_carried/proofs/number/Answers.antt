@@ -5,19 +5,19 @@ use borrow.Author.Rules.{rules}
 use Rattle.text_carried.proofs.number.Goals as goal
 
 pub loop-j-init : goal.loop-j-init
-loop-j-init c = (search rules, refl, c.requires.0, c.requires.1, c.requires.2, numbered-start refl)
+loop-j-init c = (c.requires.0, c.requires.1, c.requires.2, numbered-start refl)
 
 pub find-i-requires : goal.find-i-requires
-find-i-requires c = let v = c.loop-j.invariant in let w = v.2.within _ c.loop-j-test.true in (numbered-valid v.5 v.4, w.0, w.1)
+find-i-requires c = let v = c.loop-j.invariant in let w = v.0.within _ c.loop-j-test.true in (numbered-valid v.3 v.2, w.0, w.1)
 
 pub meet-u-requires : goal.meet-u-requires
-meet-u-requires c = let v = c.loop-j.invariant in let b = found_below v.5 _ v.4 c.find-i.ensures in let h = c.loop-j-test.true in let f = c.loop-j.invariant.5.few in (omega (arith, v.1, v.3), b)
+meet-u-requires c = let v = c.loop-j.invariant in let b = found_below v.3 _ v.2 c.find-i.ensures in let h = c.loop-j-test.true in let f = c.loop-j.invariant.3.few in (omega (arith, v.1), b)
 
 pub overflow_cast-numbers : goal.overflow_cast-numbers
-overflow_cast-numbers c = let v = c.loop-j.invariant in let b = found_below v.5 _ v.4 c.find-i.ensures in let h = c.loop-j-test.true in let f = c.loop-j.invariant.5.few in record { fits = omega (arith, v.1, v.3) }
+overflow_cast-numbers c = let v = c.loop-j.invariant in let b = found_below v.3 _ v.2 c.find-i.ensures in let h = c.loop-j-test.true in let f = c.loop-j.invariant.3.few in record { fits = omega (arith, v.1) }
 
 pub loop-j-preserved : goal.loop-j-preserved
-loop-j-preserved c = let v = c.loop-j.invariant in (search rules, v.1, v.2, v.3, v.4, rw c.meet-u.ensures (numbered_more v.5 v.2 v.4 (omega (arith, v.1, c.loop-j-test.true)) v.3 c.find-i.ensures))
+loop-j-preserved c = let v = c.loop-j.invariant in (v.0, v.1, v.2, rw c.meet-u.ensures (numbered_more v.3 v.0 v.2 (omega (arith, c.loop-j-test.true)) v.1 c.find-i.ensures))
 
 pub returns : goal.returns
-returns c = let v = c.loop-j.invariant in numbered-all v.5 (search rules)
+returns c = let v = c.loop-j.invariant in numbered-all v.3 (search rules)

@@ -1,6 +1,6 @@
 use mathlib.Core.Path.{◌≡◌}
 use mathlib.Core.List.{List}
-use Prim.Native.Nat.{◌+◌, ◌-◌, ◌≤◌}
+use Prim.Native.Nat.{◌+◌, ◌≤◌}
 use Rattle.grammar.specs.Bytes.{Word}
 use Rattle.text_scope.specs.Scopes as scopes
 use Rattle.text_carried.specs.Asking.{Holds}
@@ -8,7 +8,4 @@ use Rattle.text_carried.proofs.Entering.{NumberedSo}
 use Rattle.text_carried.proofs.number.Given as goal
 
 abbrev pub invariant-loop-j : goal.invariant-loop-j
-invariant-loop-j l = (l.j ≤ l.n) × (l.n ≡ l.s.count) × scopes.Valid l.text l.s × (l.initial.u.count + l.s.count ≤ 12) × ((ws : List Word) × Holds l.text l.initial.u ws) × NumberedSo l.text l.initial.u l.s l.u l.numbers l.j
-
-abbrev pub decreases-loop-j : goal.decreases-loop-j
-decreases-loop-j l = l.n - l.j
+invariant-loop-j l = scopes.Valid l.text l.s × (l.initial.u.count + l.s.count ≤ 12) × ((ws : List Word) × Holds l.text l.initial.u ws) × NumberedSo l.text l.initial.u l.s l.u l.numbers l.j

@@ -1,54 +1,54 @@
-use mathlib.Core.Path.{refl, sym, ◌∙◌}
+use mathlib.Core.Path.{sym, ◌∙◌}
 use mathlib.Core.Logic.{inr}
 use native.Mathlib.Omega.{arith}
 use lib.Seq.{slice}
 use Rattle.grammar.specs.Shapes.{rel_rest}
-use Rattle.text_declarations.proofs.Laws.{room, unshaped, rel-few, rel-unclosed, rel-part, rel-faulty, rel-added}
+use Rattle.text_declarations.proofs.Laws.{room, rel-few, rel-unclosed, rel-part, rel-faulty, rel-added}
 use Rattle.text_declarations.proofs.read_rel.Goals as goal
 
-pub returns-then-e-eq0 : goal.returns-then-e-eq0
+pub returns-in_err-e : goal.returns-in_err-e
 unfolding rel_rest
-returns-then-e-eq0 c = unshaped refl (rw (c.name_end-e.ensures.missing c.if-e-eq0.true))
+returns-in_err-e c = rw c.from_residual.ensures (rw c.in_err-e.ensures)
+
+pub returns-then-not-at_byte : goal.returns-then-not-at_byte
+unfolding rel_rest
+returns-then-not-at_byte c = let x = c.in_ok-e.ensures in rw (x.read, c.at_byte.ensures.missing c.if-not-at_byte.true)
 
 pub overflow_add-e : goal.overflow_add-e
-overflow_add-e c = omega (arith, (c.at_byte.ensures.found c.if-at_byte.true).0, c.well_formed)
+overflow_add-e c = omega (arith, (c.at_byte.ensures.found c.if-not-at_byte.false).0, c.well_formed)
 
-pub returns-then-n-eq3 : goal.returns-then-n-eq3
+pub returns-in_err-n : goal.returns-in_err-n
 unfolding rel_rest
-returns-then-n-eq3 c = let x = c.name_end-e.ensures.found c.if-e-eq0.false in unshaped refl (rw (x.2, (c.at_byte.ensures.found c.if-at_byte.true).1, c.arity_at-n.ensures.missing c.if-n-eq3.true))
+returns-in_err-n c = let x = c.in_ok-e.ensures in rw c.from_residual-in_err-n.ensures (rw (x.read, (c.at_byte.ensures.found c.if-not-at_byte.false).1, c.in_err-n.ensures))
 
-pub overflow_add-e-then-at_byte : goal.overflow_add-e-then-at_byte
-overflow_add-e-then-at_byte c = omega (arith, (c.at_byte.ensures.found c.if-at_byte.true).0, c.well_formed)
+pub overflow_add-e-2 : goal.overflow_add-e-2
+overflow_add-e-2 c = omega (arith, (c.at_byte.ensures.found c.if-not-at_byte.false).0, c.well_formed)
 
-pub overflow_add-e-then-at_byte-2 : goal.overflow_add-e-then-at_byte-2
-overflow_add-e-then-at_byte-2 c = omega (arith, (c.at_byte-then-at_byte.ensures.found c.if-at_byte-2.true).0, c.well_formed)
+pub returns-then-not-at_byte-2 : goal.returns-then-not-at_byte-2
+returns-then-not-at_byte-2 c = let x = c.in_ok-e.ensures in rel-unclosed c.args.text.now c.args.d c.args.at c.in_ok-e.e c.in_ok-n.n x.read (c.at_byte.ensures.found c.if-not-at_byte.false).1 c.in_ok-n.ensures.read (c.at_byte-2.ensures.missing c.if-not-at_byte-2.true)
 
-pub rel_number-number-requires : goal.rel_number-number-requires
-rel_number-number-requires c = let x = c.name_end-e.ensures.found c.if-e-eq0.false in (c.requires.2, omega (arith, x.0), x.1)
-
-pub returns-then-number-ne0 : goal.returns-then-number-ne0
-returns-then-number-ne0 c = let x = c.name_end-e.ensures.found c.if-e-eq0.false in rel-faulty c.args.text.now c.args.d c.args.at c.name_end-e.result c.arity_at-n.result x.2 (c.at_byte.ensures.found c.if-at_byte.true).1 (c.arity_at-n.ensures.found c.if-n-eq3.false).2 (c.at_byte-then-at_byte.ensures.found c.if-at_byte-2.true).1 c.if-e-text.true c.rel_number-number.ensures c.if-number-ne0.true
-
-pub overflow_add-n : goal.overflow_add-n
-overflow_add-n c = omega (arith, (c.arity_at-n.ensures.found c.if-n-eq3.false).0)
-
-pub enter-r-requires : goal.enter-r-requires
-enter-r-requires c = let x = c.name_end-e.ensures.found c.if-e-eq0.false in let t = c.args.text.now in
-    let z = rel-few t c.args.d (slice c.args.at c.name_end-e.result t) c.arity_at-n.result (sym c.rel_number-number.ensures ∙ c.if-number-ne0.false) in
-    (room t c.args.d c.args.at c.name_end-e.result c.requires.2 c.requires.3 (omega (arith, x.0)) x.1 (inr z), c.requires.2.codes, omega (arith, x.0), omega (arith, x.1, c.requires.1), omega (arith, (c.arity_at-n.ensures.found c.if-n-eq3.false).0))
+pub overflow_add-e-3 : goal.overflow_add-e-3
+overflow_add-e-3 c = omega (arith, (c.at_byte-2.ensures.found c.if-not-at_byte-2.false).0, c.well_formed)
 
 pub returns-then-e-text : goal.returns-then-e-text
-returns-then-e-text c = let x = c.name_end-e.ensures.found c.if-e-eq0.false in let t = c.args.text.now in
-    let y = sym c.rel_number-number.ensures ∙ c.if-number-ne0.false in
-    rel-added c.args.text.now c.args.d c.args.at c.name_end-e.result c.arity_at-n.result x.2 (c.at_byte.ensures.found c.if-at_byte.true).1 (c.arity_at-n.ensures.found c.if-n-eq3.false).2 (c.at_byte-then-at_byte.ensures.found c.if-at_byte-2.true).1 c.if-e-text.true
-    (c.arity_at-n.ensures.found c.if-n-eq3.false).0 c.requires.2 c.requires.3 (omega (arith, x.0)) x.1 y (rel-few t c.args.d (slice c.args.at c.name_end-e.result t) c.arity_at-n.result y) c.enter-r.ensures
+returns-then-e-text c = let x = c.in_ok-e.ensures in rel-part c.args.text.now c.args.d c.args.at c.in_ok-e.e c.in_ok-n.n x.read (c.at_byte.ensures.found c.if-not-at_byte.false).1 c.in_ok-n.ensures.read (c.at_byte-2.ensures.found c.if-not-at_byte-2.false).1 (c.at_byte-2.ensures.found c.if-not-at_byte-2.false).0 c.if-e-text.true
 
-pub returns-then-at_byte-2 : goal.returns-then-at_byte-2
-returns-then-at_byte-2 c = let x = c.name_end-e.ensures.found c.if-e-eq0.false in rel-part c.args.text.now c.args.d c.args.at c.name_end-e.result c.arity_at-n.result x.2 (c.at_byte.ensures.found c.if-at_byte.true).1 (c.arity_at-n.ensures.found c.if-n-eq3.false).2 (c.at_byte-then-at_byte.ensures.found c.if-at_byte-2.true).1 refl (c.at_byte-then-at_byte.ensures.found c.if-at_byte-2.true).0 c.if-e-text.false
+pub rel_number-number-requires : goal.rel_number-number-requires
+rel_number-number-requires c = let x = c.in_ok-e.ensures in (c.requires.2, omega (arith, x.begins), x.ends)
 
-pub returns-then-at_byte : goal.returns-then-at_byte
-returns-then-at_byte c = let x = c.name_end-e.ensures.found c.if-e-eq0.false in rel-unclosed c.args.text.now c.args.d c.args.at c.name_end-e.result c.arity_at-n.result x.2 (c.at_byte.ensures.found c.if-at_byte.true).1 (c.arity_at-n.ensures.found c.if-n-eq3.false).2 refl (c.at_byte-then-at_byte.ensures.missing c.if-at_byte-2.false)
+pub returns-then-number-ne0 : goal.returns-then-number-ne0
+returns-then-number-ne0 c = let x = c.in_ok-e.ensures in rel-faulty c.args.text.now c.args.d c.args.at c.in_ok-e.e c.in_ok-n.n x.read (c.at_byte.ensures.found c.if-not-at_byte.false).1 c.in_ok-n.ensures.read (c.at_byte-2.ensures.found c.if-not-at_byte-2.false).1 c.if-e-text.false c.rel_number-number.ensures c.if-number-ne0.true
+
+pub overflow_add-n : goal.overflow_add-n
+overflow_add-n c = omega (arith, c.in_ok-n.ensures.small)
+
+pub enter-r-requires : goal.enter-r-requires
+enter-r-requires c = let x = c.in_ok-e.ensures in let t = c.args.text.now in
+    let z = rel-few t c.args.d (slice c.args.at c.in_ok-e.e t) c.in_ok-n.n (sym c.rel_number-number.ensures ∙ c.if-number-ne0.false) in
+    (room t c.args.d c.args.at c.in_ok-e.e c.requires.2 c.requires.3 (omega (arith, x.begins)) x.ends (inr z), c.requires.2.codes, omega (arith, x.begins), omega (arith, x.ends, c.requires.1), omega (arith, c.in_ok-n.ensures.small))
 
 pub returns : goal.returns
-unfolding rel_rest
-returns c = let x = c.name_end-e.ensures.found c.if-e-eq0.false in unshaped refl (rw (x.2, c.at_byte.ensures.missing c.if-at_byte.false))
+returns c = let x = c.in_ok-e.ensures in let t = c.args.text.now in
+    let y = sym c.rel_number-number.ensures ∙ c.if-number-ne0.false in
+    rel-added c.args.text.now c.args.d c.args.at c.in_ok-e.e c.in_ok-n.n x.read (c.at_byte.ensures.found c.if-not-at_byte.false).1 c.in_ok-n.ensures.read (c.at_byte-2.ensures.found c.if-not-at_byte-2.false).1 c.if-e-text.false
+    c.in_ok-n.ensures.small c.requires.2 c.requires.3 (omega (arith, x.begins)) x.ends y (rel-few t c.args.d (slice c.args.at c.in_ok-e.e t) c.in_ok-n.n y) c.enter-r.ensures

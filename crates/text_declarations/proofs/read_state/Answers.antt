@@ -1,37 +1,37 @@
-use mathlib.Core.Path.{refl, sym, ◌∙◌}
+use mathlib.Core.Path.{sym, ◌∙◌}
+use mathlib.Core.Logic.{inl}
 use native.Mathlib.Omega.{arith}
 use lib.Seq.{slice}
 use Rattle.grammar.specs.Shapes.{state_rest}
-use Rattle.text_declarations.proofs.Laws.{room, unshaped, state-part, state-faulty, state-added, state-few}
-use mathlib.Core.Logic.{inl}
+use Rattle.text_declarations.proofs.Laws.{room, state-part, state-faulty, state-added, state-few}
 use Rattle.text_declarations.proofs.read_state.Goals as goal
 
-pub returns-then-e-eq0 : goal.returns-then-e-eq0
+pub returns-in_err-e : goal.returns-in_err-e
 unfolding state_rest
-returns-then-e-eq0 c = unshaped refl (rw (c.name_end-e.ensures.missing c.if-e-eq0.true))
+returns-in_err-e c = rw c.from_residual.ensures (rw c.in_err-e.ensures)
+
+pub returns-then-not-at_byte : goal.returns-then-not-at_byte
+unfolding state_rest
+returns-then-not-at_byte c = let x = c.in_ok-e.ensures in rw (x.read, c.at_byte.ensures.missing c.if-not-at_byte.true)
 
 pub overflow_add-e : goal.overflow_add-e
-overflow_add-e c = omega (arith, (c.at_byte.ensures.found c.if-at_byte.true).0, c.well_formed)
-
-pub state_number-number-requires : goal.state_number-number-requires
-state_number-number-requires c = let x = c.name_end-e.ensures.found c.if-e-eq0.false in (c.requires.2, omega (arith, x.0), x.1)
-
-pub returns-then-number-ne0 : goal.returns-then-number-ne0
-returns-then-number-ne0 c = let x = c.name_end-e.ensures.found c.if-e-eq0.false in state-faulty c.args.text.now c.args.d c.args.at c.name_end-e.result x.2 (c.at_byte.ensures.found c.if-at_byte.true).1 c.if-e-text.true c.state_number-number.ensures c.if-number-ne0.true
-
-pub enter-r-requires : goal.enter-r-requires
-enter-r-requires c = let x = c.name_end-e.ensures.found c.if-e-eq0.false in let t = c.args.text.now in
-    let z = state-few t c.args.d (slice c.args.at c.name_end-e.result t) (sym c.state_number-number.ensures ∙ c.if-number-ne0.false) in
-    (room t c.args.d c.args.at c.name_end-e.result c.requires.2 c.requires.3 (omega (arith, x.0)) x.1 (inl z), c.requires.2.codes, omega (arith, x.0), omega (arith, x.1, c.requires.1), omega arith)
+overflow_add-e c = omega (arith, (c.at_byte.ensures.found c.if-not-at_byte.false).0, c.well_formed)
 
 pub returns-then-e-text : goal.returns-then-e-text
-returns-then-e-text c = let x = c.name_end-e.ensures.found c.if-e-eq0.false in let t = c.args.text.now in
-    let y = sym c.state_number-number.ensures ∙ c.if-number-ne0.false in
-    state-added c.args.text.now c.args.d c.args.at c.name_end-e.result x.2 (c.at_byte.ensures.found c.if-at_byte.true).1 c.if-e-text.true c.requires.2 c.requires.3 (omega (arith, x.0)) x.1 y (state-few t c.args.d (slice c.args.at c.name_end-e.result t) y) c.enter-r.ensures
+returns-then-e-text c = let x = c.in_ok-e.ensures in state-part c.args.text.now c.args.d c.args.at c.in_ok-e.e x.read (c.at_byte.ensures.found c.if-not-at_byte.false).1 (c.at_byte.ensures.found c.if-not-at_byte.false).0 c.if-e-text.true
 
-pub returns-then-at_byte : goal.returns-then-at_byte
-returns-then-at_byte c = let x = c.name_end-e.ensures.found c.if-e-eq0.false in state-part c.args.text.now c.args.d c.args.at c.name_end-e.result x.2 (c.at_byte.ensures.found c.if-at_byte.true).1 refl (c.at_byte.ensures.found c.if-at_byte.true).0 c.if-e-text.false
+pub state_number-number-requires : goal.state_number-number-requires
+state_number-number-requires c = let x = c.in_ok-e.ensures in (c.requires.2, omega (arith, x.begins), x.ends)
+
+pub returns-then-number-ne0 : goal.returns-then-number-ne0
+returns-then-number-ne0 c = let x = c.in_ok-e.ensures in state-faulty c.args.text.now c.args.d c.args.at c.in_ok-e.e x.read (c.at_byte.ensures.found c.if-not-at_byte.false).1 c.if-e-text.false c.state_number-number.ensures c.if-number-ne0.true
+
+pub enter-r-requires : goal.enter-r-requires
+enter-r-requires c = let x = c.in_ok-e.ensures in let t = c.args.text.now in
+    let z = state-few t c.args.d (slice c.args.at c.in_ok-e.e t) (sym c.state_number-number.ensures ∙ c.if-number-ne0.false) in
+    (room t c.args.d c.args.at c.in_ok-e.e c.requires.2 c.requires.3 (omega (arith, x.begins)) x.ends (inl z), c.requires.2.codes, omega (arith, x.begins), omega (arith, x.ends, c.requires.1), omega arith)
 
 pub returns : goal.returns
-unfolding state_rest
-returns c = let x = c.name_end-e.ensures.found c.if-e-eq0.false in unshaped refl (rw (x.2, c.at_byte.ensures.missing c.if-at_byte.false))
+returns c = let x = c.in_ok-e.ensures in let t = c.args.text.now in
+    let y = sym c.state_number-number.ensures ∙ c.if-number-ne0.false in
+    state-added c.args.text.now c.args.d c.args.at c.in_ok-e.e x.read (c.at_byte.ensures.found c.if-not-at_byte.false).1 c.if-e-text.false c.requires.2 c.requires.3 (omega (arith, x.begins)) x.ends y (state-few t c.args.d (slice c.args.at c.in_ok-e.e t) y) c.enter-r.ensures

@@ -8,7 +8,7 @@ use Rattle.text_names.specs.Names.{declared_of}
 use Rattle.text_names.proofs.Laws.{tally-count}
 use Rattle.text_declarations.proofs.Laws.{tally-le, rel-crowded, rel-pairs, rel-free, rel-again}
 use Rattle.text_declarations.proofs.rel_number.Goals as goal
-use Rattle.text_declarations.proofs.rel_number.Goals.{else-n-eq2, then-n-eq2+else-pairs-ge-PAIRS}
+use Rattle.text_declarations.proofs.rel_number.Goals.{else-n-eq2-via-else-n-eq2, else-n-eq2-via-then-n-eq2+else-pairs-ge-PAIRS}
 
 pub tally_of-nullary-requires : goal.tally_of-nullary-requires
 tally_of-nullary-requires c = (c.requires.0.count, c.requires.0.codes)
@@ -36,10 +36,10 @@ find-requires c = c.requires
 
 pub returns-then-find-eq-UNDECLARED : goal.returns-then-find-eq-UNDECLARED
 returns-then-find-eq-UNDECLARED c = let t = c.args.text.now in
-    let k : (eqb c.args.n 2 && leb 6 c.tally_of-pairs.result) ≡ false = elim (c.if-n-eq2.branch) [ then-n-eq2+else-pairs-ge-PAIRS w ↦ rw (lt-leb 6 c.tally_of-pairs.result w.if-pairs-ge-PAIRS.false) (and-false (eqb c.args.n 2)) | else-n-eq2 w ↦ rw (ne_eqb c.args.n 2 w.if-n-eq2.false) ] in
+    let k : (eqb c.args.n 2 && leb 6 c.tally_of-pairs.result) ≡ false = elim c.else-n-eq2.branch [ else-n-eq2-via-then-n-eq2+else-pairs-ge-PAIRS w ↦ rw (lt-leb 6 c.tally_of-pairs.result w.if-pairs-ge-PAIRS.false) (and-false (eqb c.args.n 2)) | else-n-eq2-via-else-n-eq2 w ↦ rw (ne_eqb c.args.n 2 w.if-n-eq2.false) ] in
     sym (rel-free (declared_of t c.args.d) (slice c.args.a c.args.e t) c.args.n c.tally_of-nullary.result c.tally_of-single.result c.tally_of-pairs.result (tally-count t c.args.d 1 ∙ sym c.tally_of-nullary.ensures) (tally-count t c.args.d 2 ∙ sym c.tally_of-single.ensures) (tally-count t c.args.d 3 ∙ sym c.tally_of-pairs.ensures) c.find.result c.if-nullary-single-ge-RELS.false k c.find.ensures.1 c.if-find-eq-UNDECLARED.true)
 
 pub returns : goal.returns
 returns c = let t = c.args.text.now in
-    let k : (eqb c.args.n 2 && leb 6 c.tally_of-pairs.result) ≡ false = elim (c.if-n-eq2.branch) [ then-n-eq2+else-pairs-ge-PAIRS w ↦ rw (lt-leb 6 c.tally_of-pairs.result w.if-pairs-ge-PAIRS.false) (and-false (eqb c.args.n 2)) | else-n-eq2 w ↦ rw (ne_eqb c.args.n 2 w.if-n-eq2.false) ] in
+    let k : (eqb c.args.n 2 && leb 6 c.tally_of-pairs.result) ≡ false = elim c.else-n-eq2.branch [ else-n-eq2-via-then-n-eq2+else-pairs-ge-PAIRS w ↦ rw (lt-leb 6 c.tally_of-pairs.result w.if-pairs-ge-PAIRS.false) (and-false (eqb c.args.n 2)) | else-n-eq2-via-else-n-eq2 w ↦ rw (ne_eqb c.args.n 2 w.if-n-eq2.false) ] in
     sym (rel-again (declared_of t c.args.d) (slice c.args.a c.args.e t) c.args.n c.tally_of-nullary.result c.tally_of-single.result c.tally_of-pairs.result (tally-count t c.args.d 1 ∙ sym c.tally_of-nullary.ensures) (tally-count t c.args.d 2 ∙ sym c.tally_of-single.ensures) (tally-count t c.args.d 3 ∙ sym c.tally_of-pairs.ensures) c.find.result c.if-nullary-single-ge-RELS.false k c.find.ensures.1 c.if-find-eq-UNDECLARED.false)

@@ -1,12 +1,9 @@
 use mathlib.Core.Path.{◌≡◌}
-use Prim.Native.Nat.{◌-◌, ◌≤◌}
+use Prim.Native.Nat.{◌≤◌}
 use lib.ListN.{length}
 use Rattle.limits.specs.Limits as limit
 use Rattle.text_names.specs.Names.{tally}
 use Rattle.text_names.proofs.tally_of.Given as goal
 
 abbrev pub invariant-loop-i : goal.invariant-loop-i
-invariant-loop-i l = (l.i ≤ l.n) × (l.n ≡ l.d.count) × (l.n ≤ limit.declared) × (length l.d.codes ≡ limit.declared) × (l.sum ≤ l.i) × (l.sum ≡ tally l.k l.d.codes l.i)
-
-abbrev pub decreases-loop-i : goal.decreases-loop-i
-decreases-loop-i l = l.n - l.i
+invariant-loop-i l = (l.d.count ≤ limit.declared) × (length l.d.codes ≡ limit.declared) × (l.sum ≤ l.i) × (l.sum ≡ tally l.k l.d.codes l.i)

@@ -10,10 +10,10 @@ pub returns-then-b-eq10 : goal.returns-then-b-eq10
 returns-then-b-eq10 c = line-found c.loop-i.invariant (search rules) c.if-b-eq10.true
 
 pub loop-i-preserved : goal.loop-i-preserved
-loop-i-preserved c = line-more c.loop-i.invariant (search rules) c.if-b-eq10.false (sym c.is_allowed.ensures ∙ c.if-is_allowed.true)
+loop-i-preserved c = line-more c.loop-i.invariant (search rules) c.if-b-eq10.false (sym c.is_allowed.ensures ∙ c.if-not-is_allowed.false)
 
-pub returns-else-is_allowed : goal.returns-else-is_allowed
-returns-else-is_allowed c = line-bad c.loop-i.invariant (search rules) c.if-b-eq10.false (sym c.is_allowed.ensures ∙ c.if-is_allowed.false)
+pub returns-then-not-is_allowed : goal.returns-then-not-is_allowed
+returns-then-not-is_allowed c = line-bad c.loop-i.invariant (search rules) c.if-b-eq10.false (sym c.is_allowed.ensures ∙ c.if-not-is_allowed.true)
 
 pub returns : goal.returns
 returns c = line-unended c.loop-i.invariant (search rules) (search rules)

@@ -7,15 +7,15 @@ use borrow.Author.Rules.{rules}
 use Rattle.text_scope.proofs.all_plain.Goals as goal
 
 pub loop-i-init : goal.loop-i-init
-loop-i-init c = (search rules, refl, c.requires.0, c.requires.1, refl)
+loop-i-init c = (c.requires.0, c.requires.1, refl)
 
 pub loop-i-preserved : goal.loop-i-preserved
-loop-i-preserved c = let v = c.loop-i.invariant in (search rules, refl, v.2, v.3, marked_more (λ j. get_or c.args.s.plain j false) c.loop-i.i v.4 c.if-s-i.true)
+loop-i-preserved c = let v = c.loop-i.invariant in (v.0, v.1, marked_more (λ j. get_or c.args.s.plain j false) c.loop-i.i v.2 c.if-not-s-i.false)
 
-pub returns-else-s-i : goal.returns-else-s-i
+pub returns-then-not-s-i : goal.returns-then-not-s-i
 unfolding marks_of
-returns-else-s-i c = let v = c.loop-i.invariant in sym (marked-none (λ j. get_or c.args.s.plain j false) c.args.s.count c.loop-i.i c.loop-i-test.true c.if-s-i.false)
+returns-then-not-s-i c = let v = c.loop-i.invariant in sym (marked-none (λ j. get_or c.args.s.plain j false) c.args.s.count c.loop-i.i c.loop-i-test.true c.if-not-s-i.true)
 
 pub returns : goal.returns
 unfolding marks_of
-returns c = let v = c.loop-i.invariant in let z : c.args.s.count ≡ c.loop-i.i = search rules in rw z (sym v.4)
+returns c = let v = c.loop-i.invariant in let z : c.args.s.count ≡ c.loop-i.i = search rules in rw z (sym v.2)

@@ -13,7 +13,7 @@ pub build-r-requires : goal.build-r-requires
 build-r-requires c =
     let p = c.requires in
     let a = c.args in
-    let h = c.walk-from.ensures.0 in
+    let h = c.walk-from.ensures in
     let few = c.requires.0.known.proper.count in (
       p.0.known.model,
       p.0.known.proper,
@@ -28,7 +28,7 @@ turn-requires c =
     let a = c.args in
     let h = c.walk-from.ensures in
     let e = c.build-r.ensures in
-    turn-fits _ _ a.run.now _ _ (whole a.m a.work.now a.s a.rows.now a.table.now a.steps.now a.ways.now p.0 a.run.now _ _ _ _ _ _ _ h.1 h.0 e.0 e.1) (omega (arith, p.2))
+    turn-fits _ _ a.run.now _ _ (whole a.m a.work.now a.s a.rows.now a.table.now a.steps.now a.ways.now p.0 a.run.now _ _ _ _ _ _ h e.0 e.1) (omega (arith, p.2))
 
 pub returns : goal.returns
 returns c =
@@ -36,4 +36,4 @@ returns c =
     let a = c.args in
     let h = c.walk-from.ensures in
     let e = c.build-r.ensures in
-    shown a.m a.work.now a.s a.rows.now a.table.now a.steps.now a.ways.now p.0 a.run.now _ _ (whole a.m a.work.now a.s a.rows.now a.table.now a.steps.now a.ways.now p.0 a.run.now _ _ _ _ _ _ _ h.1 h.0 e.0 e.1) (omega (arith, p.2)) _ c.turn.ensures
+    shown a.m a.work.now a.s a.rows.now a.table.now a.steps.now a.ways.now p.0 a.run.now _ _ (whole a.m a.work.now a.s a.rows.now a.table.now a.steps.now a.ways.now p.0 a.run.now _ _ _ _ _ _ h e.0 e.1) (omega (arith, p.2)) _ c.turn.ensures

@@ -28,9 +28,7 @@ behind : (c : After-walk-p) → let a = c.args in let q = c.walk-p.result in
 behind c =
     let a = c.args in
     let q = c.walk-p.result in
-    let h = c.walk-p.ensures in
-    subst (λ (i : ℕ). Behind a.m a.s (cast_from (first_carried a.m) a.existing a.s.count a.object) 1 a.rows.now a.run.now c.walk-p.new.run i q.first q.second q.at) h.1
-    (subst (λ (d : Cast). Behind a.m a.s d 1 a.rows.now a.run.now c.walk-p.new.run q.level q.first q.second q.at) (same a.existing a.s.count a.object _ _ _ c.cast-roles.ensures c.first_carried-carried.ensures) h.0)
+    subst (λ (d : Cast). Behind a.m a.s d 1 a.rows.now a.run.now c.walk-p.new.run 1 q.first q.second q.at) (same a.existing a.s.count a.object _ _ _ c.cast-roles.ensures c.first_carried-carried.ensures) c.walk-p.ensures
 
 pub open_with-at-requires : goal.open_with-at-requires
 open_with-at-requires c =

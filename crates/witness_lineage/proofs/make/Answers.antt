@@ -1,14 +1,10 @@
-use mathlib.Core.Path.{refl}
+use Rattle.witness_lineage.specs.Lineage.{Ancestry}
 use Rattle.witness_lineage.proofs.make.Goals as goal
+use Rattle.witness_lineage.proofs.make.Goals.{After-firsts-born}
 
-pub trace-requires : goal.trace-requires
-trace-requires c =
-    let a = c.args in
-    let p = c.requires in
-    (((a.m, a.s, record { model = p.0; proper = p.1; found = p.2; lines = refl; origins = refl; born = c.firsts-born.ensures }, (p.3, p.5))), p.4)
+ancestry : (c : After-firsts-born) → Ancestry c.args.m c.args.s c.firsts-born.result
+ancestry c = let p = c.requires in record { model = p.0; proper = p.1; found = p.2; born = c.firsts-born.ensures }
 
 pub returns : goal.returns
 returns c =
-    let a = c.args in
-    let p = c.requires in
-    c.trace.ensures a.m a.s (record { model = p.0; proper = p.1; found = p.2; lines = refl; origins = refl; born = c.firsts-born.ensures }) (p.3, p.5)
+    let p = c.requires in c.trace.ensures c.args.m (ancestry (goal.at.returns c).After-firsts-born) (p.3, p.5)

@@ -7,23 +7,15 @@ use Rattle.semantics.proofs.Tools.{same?}
 use Rattle.facts_candidates.specs.Choices.{chosen}
 use Rattle.witness_meetings.proofs.behind.Goals as goal
 
-pub loop-x-init : goal.loop-x-init
-loop-x-init c = (omega arith, λ y l. absurd (omega arith))
-
-pub overflow_add-base : goal.overflow_add-base
-overflow_add-base c = record { fits = omega (arith, c.requires.1 c.loop-x.x c.loop-x-test.true, c.element-e.ensures) }
-
 pub loop-x-preserved : goal.loop-x-preserved
 loop-x-preserved c =
     let l = c.loop-x in
-    let here = c.loop-x-test.true in
     let few = c.requires.0 in
-    let e = c.choose-r.ensures in (
-      omega (arith, here),
-      λ y h. ⊎_elim
-          (λ q. e y (omega (arith, few)) ∙ rw (eq-eqb y l.x q) (ap (λ (t : ℕ). c.args.base + t) (c.element-e.ensures ∙ ap (chosen c.args.c) (sym q))))
-          (λ n. e y (omega (arith, few)) ∙ rw (ne_eqb y l.x n) (l.invariant.1 y (let k : y ≢ l.x = n in omega arith))) (same? y l.x),
-    )
+    let e = c.choose-r.ensures in
+    λ y h. ⊎_elim
+    (λ q. e y (omega (arith, few)) ∙ rw (eq-eqb y l.x q) (ap (λ (t : ℕ). c.args.base + t) (c.element-e.ensures ∙ ap (chosen c.args.c) (sym q))))
+    (λ n. e y (omega (arith, few)) ∙ rw (ne_eqb y l.x n) (l.invariant y (let k : y ≢ l.x = n in omega arith)))
+    (same? y l.x)
 
 pub returns : goal.returns
-returns c = let l = c.loop-x in λ x h. l.invariant.1 x (omega (arith, h, c.loop-x-test.false))
+returns c = λ x h. c.loop-x.invariant x (omega arith)

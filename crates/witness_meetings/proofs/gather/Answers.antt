@@ -1,13 +1,5 @@
-use native.Mathlib.Omega.{arith}
-use Rattle.witness_meetings.proofs.Laws.{few-variables, both_below, gathered}
+use Rattle.witness_meetings.proofs.Laws.{both_below, gathered}
 use Rattle.witness_meetings.proofs.gather.Goals as goal
-
-pub number-requires : goal.number-requires
-number-requires c =
-    let p = c.requires in
-    let a = c.args in
-    let four = c.requires.0.stages in
-    (omega (arith, p.1), few-variables a.m p.0 a.k p.1, both_below a.m p.0 a.k p.1 _ _ _ _ c.name_both-all.ensures 255 p.2 p.3 p.4)
 
 pub returns : goal.returns
 returns c =

@@ -6,19 +6,15 @@ use Rattle.semantics.proofs.Tools.{same?}
 use Rattle.model.specs.Records.{number_in}
 use Rattle.witness_meetings.proofs.name.Goals as goal
 
-pub returns-then-x-stage : goal.returns-then-x-stage
-returns-then-x-stage c =
+pub returns-in-Some : goal.returns-in-Some
+returns-in-Some c =
     let a = c.args in
-    let y = c.spot-x.result in
-    ⊎_elim
-    (λ w. λ x l. c.choose.ensures x (omega (arith, c.requires.few)) ∙ ⊎_elim
+    let y = c.in-Some.x in
+    let w = c.in-Some.ensures in
+    λ x l. c.choose.ensures x (omega (arith, c.requires.few)) ∙ ⊎_elim
     (λ q. rw (eq-eqb x y q, eq-eqb (number_in a.stage x) a.variable (ap (number_in a.stage) q ∙ w.1)) refl)
     (λ q. rw (ne_eqb x y q, ne_eqb (number_in a.stage x) a.variable (λ z. q (c.requires.different x y l w.0 (z ∙ sym w.1)))) refl)
-    (same? x y))
-    (λ w. absurd (let t = c.if-x-stage.true in omega (arith, w.0)))
-    c.spot-x.ensures
+    (same? x y)
 
-pub returns : goal.returns
-returns c =
-    let a = c.args in
-    ⊎_elim (λ w. absurd (let t = c.if-x-stage.false in omega (arith, w.0))) (λ w. λ x l. rw (ne_eqb (number_in a.stage x) a.variable (w.1 x l)) refl) c.spot-x.ensures
+pub returns-in-None : goal.returns-in-None
+returns-in-None c = λ x l. rw (ne_eqb (number_in c.args.stage x) c.args.variable (c.in-None.ensures x l)) refl

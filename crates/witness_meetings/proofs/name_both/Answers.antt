@@ -3,14 +3,8 @@ use Prim.Native.Nat.{ℕ}
 use native.Mathlib.Omega.{arith}
 use Rattle.model.specs.Records.{stage_at}
 use Rattle.witness_meetings.specs.Meetings.{Names}
-use Rattle.witness_meetings.proofs.Laws.{stage-numbers, carried-read}
+use Rattle.witness_meetings.proofs.Laws.{carried-read}
 use Rattle.witness_meetings.proofs.name_both.Goals as goal
-
-pub name-one-requires : goal.name-one-requires
-name-one-requires c = stage-numbers c.args.m c.requires.0 c.args.k c.requires.1
-
-pub name-requires : goal.name-requires
-name-requires c = stage-numbers c.args.m c.requires.0 c.args.k c.requires.1
 
 pub returns : goal.returns
 returns c =

@@ -8,31 +8,26 @@ use Rattle.witness_meetings.proofs.Laws.{first_below, attempt-none, attempt-foun
 use Rattle.witness_meetings.proofs.opening.Goals as goal
 use Rattle.witness_meetings.proofs.opening.Goals.{else-get, then-get+in_default}
 
-pub loop-u-init : goal.loop-u-init
-loop-u-init c = (omega arith, λ v l. absurd (omega arith))
-
 pub returns-in-At : goal.returns-in-At
 returns-in-At c =
     let p = c.requires in
     let a = c.args in
-    let h = subst (Attempts a.m a.work.now a.s _ a.first a.second) c.in-At.is c.attempt-found.ensures in
+    let h = subst (Attempts a.m a.work.now a.s _ a.first a.second) c.in-At.is c.attempt.ensures in
     attempt-found a.m a.work.now a.s p.0 p.2 a.rows.now a.j a.first a.second _ h.0 h.1 h.2 h.3 h.4 h.5 p.5.0 p.5.1 c.loop-u-test.true (sym c.get.ensures ∙ c.if-get.true) _ h.6
 
 pub loop-u-preserved : goal.loop-u-preserved
 loop-u-preserved c =
     let p = c.requires in
-    let a = c.args in (
-      omega (arith, c.loop-u-test.true),
-      below_more _ _ c.loop-u.invariant.1 (elim (c.if-get.branch) [
-        | then-get+in_default w ↦ λ t.
-            let h = subst (Attempts a.m a.work.now a.s _ a.first a.second) w.in_default.is w.attempt-found.ensures in
-            attempt-none a.m a.work.now a.s p.0 p.2 a.rows.now a.j a.first a.second _ h.0 h.1 h.2 h.3 h.4 h.5 t.0 t.1 t.2 h.6
-        | else-get w ↦ λ t. clash t.1.1 (ap (in_row a.rows.now a.j) t.2 ∙ sym c.get.ensures ∙ w.if-get.false)
-      ]),
-    )
+    let a = c.args in
+    below_more _ _ c.loop-u.invariant (elim (c.if-get.branch) [
+      | then-get+in_default w ↦ λ t.
+          let h = subst (Attempts a.m a.work.now a.s _ a.first a.second) w.in_default.is w.attempt.ensures in
+          attempt-none a.m a.work.now a.s p.0 p.2 a.rows.now a.j a.first a.second _ h.0 h.1 h.2 h.3 h.4 h.5 t.0 t.1 t.2 h.6
+      | else-get w ↦ λ t. clash t.1.1 (ap (in_row a.rows.now a.j) t.2 ∙ sym c.get.ensures ∙ w.if-get.false)
+    ])
 
 pub returns : goal.returns
 returns c =
     let p = c.requires in
     let a = c.args in
-    absurd (c.loop-u.invariant.1 (p.5.0 (first_variable a.m)) (omega (arith, c.loop-u-test.false, first_below a.m a.work.now a.s p.0 p.2 a.rows.now a.j a.first a.second p.5.0 p.5.1)) (p.5.0, p.5.1, refl))
+    absurd (c.loop-u.invariant (p.5.0 (first_variable a.m)) (omega (arith, first_below a.m a.work.now a.s p.0 p.2 a.rows.now a.j a.first a.second p.5.0 p.5.1)) (p.5.0, p.5.1, refl))

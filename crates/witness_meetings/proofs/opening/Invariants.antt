@@ -1,10 +1,7 @@
 use mathlib.Core.Path.{◌≡◌}
-use Prim.Native.Nat.{ℕ, ◌-◌, ◌≤◌, ◌<◌}
+use Prim.Native.Nat.{ℕ, ◌<◌}
 use Rattle.witness_meetings.specs.Meetings.{first_variable, Opens}
 use Rattle.witness_meetings.proofs.opening.Given as goal
 
 abbrev pub invariant-loop-u : goal.invariant-loop-u
-invariant-loop-u l = (l.u ≤ l.n) × ((v : ℕ) → v < l.u → (σ : ℕ → ℕ) × Opens l.m l.work l.s l.rows l.j l.first l.second σ × (σ (first_variable l.m) ≡ v) → ⊥)
-
-abbrev pub decreases-loop-u : goal.decreases-loop-u
-decreases-loop-u l = l.n - l.u
+invariant-loop-u l = (v : ℕ) → v < l.u → (σ : ℕ → ℕ) × Opens l.m l.work l.s l.rows l.j l.first l.second σ × (σ (first_variable l.m) ≡ v) → ⊥

@@ -1,23 +1,8 @@
 use Rattle.semantics.proofs.Tools.{rest-whole}
-use native.Mathlib.Omega.{arith}
-use mathlib.Core.Path.{sym}
 use Rattle.model.specs.Records.{body_at}
-use Rattle.facts_holds.proofs.Laws.{length-own, placed-own}
+use Rattle.facts_holds.proofs.Laws.{placed-own}
 use Rattle.witness_meetings.proofs.Laws.{seeks}
 use Rattle.witness_meetings.proofs.seek.Goals as goal
-
-pub slice_bounds-find-end : goal.slice_bounds-find-end
-slice_bounds-find-end c = sym (length-own c.args.slots.now c.requires.1 c.args.n c.requires.2)
-
-pub offset_bounds-literals-first : goal.offset_bounds-literals-first
-offset_bounds-literals-first c = omega (arith, c.requires.3.inside)
-
-pub slice_bounds-find-count : goal.slice_bounds-find-count
-slice_bounds-find-count c = c.requires.3.inside
-
-pub find-requires : goal.find-requires
-find-requires c =
-    rw (rest-whole c.args.part.first c.args.literals.now) (c.requires.0, c.requires.3.body, c.requires.3.safe)
 
 pub returns : goal.returns
 returns c =

@@ -1,13 +1,10 @@
-use mathlib.Core.Path.{◌≡◌, refl, sym, ◌∙◌, subst}
+use mathlib.Core.Path.{◌≡◌, sym, ◌∙◌, subst}
 use mathlib.Core.Bool.{true, false}
 use Prim.Native.Nat.{ℕ, suc, ◌+◌, ◌-◌}
 use native.Mathlib.Omega.{arith}
 use Rattle.search_levels.specs.Levels.{chosen}
 use Rattle.witness_walk.proofs.Pairs.{chosen-with, chosen-without, chosen-later}
 use Rattle.witness_walk.proofs.carries.Goals as goal
-
-pub loop-i-init : goal.loop-i-init
-loop-i-init c = (omega arith, refl)
 
 pub returns-then-holds : goal.returns-then-holds
 returns-then-holds c =
@@ -21,11 +18,11 @@ loop-i-preserved c =
     let a = c.args in
     let l = c.loop-i in
     let e : l.i + 1 ≡ suc l.i = omega arith in
-    (omega (arith, c.loop-i-test.true), rw e (chosen-without a.m a.v l.i (sym c.holds.ensures ∙ c.if-holds.false) ∙ l.invariant.1))
+    rw e (chosen-without a.m a.v l.i (sym c.holds.ensures ∙ c.if-holds.false) ∙ l.invariant)
 
 pub returns : goal.returns
 returns c =
     let a = c.args in
     let l = c.loop-i in
-    let e : l.i ≡ a.k = omega (arith, l.invariant.0, c.loop-i-test.false) in
-    sym (subst (λ (n : ℕ). chosen a.m a.v n ≡ false) e l.invariant.1)
+    let e : l.i ≡ a.k = omega arith in
+    sym (subst (λ (n : ℕ). chosen a.m a.v n ≡ false) e l.invariant)

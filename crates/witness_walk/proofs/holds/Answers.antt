@@ -1,21 +1,18 @@
-use mathlib.Core.Path.{sym, ◌∙◌, subst}
-use mathlib.Core.Logic.{⊎_elim}
+use mathlib.Core.Path.{◌≡◌, sym, ◌∙◌, subst}
 use Prim.Native.Nat.{ℕ}
-use native.Mathlib.Omega.{arith}
-use borrow.Author.Tests.{lt-ltb, le-ltb}
+use Rattle.std.specs.Prelude as prelude
+use Rattle.std.specs.Prelude.{is_some}
 use Rattle.model.specs.Records.{stage_at, carried_at}
+use Rattle.search_levels.specs.Levels.{holder}
 use Rattle.witness_meetings.specs.Meetings.{Spots}
-use Rattle.witness_meetings.proofs.Laws.{has-variable, not-variable, stage-numbers, carried-read}
+use Rattle.witness_meetings.proofs.Laws.{has-variable, not-variable, carried-read}
 use Rattle.witness_walk.proofs.holds.Goals as goal
+use Rattle.witness_walk.proofs.holds.Goals.{After-spot}
 
-pub spot-requires : goal.spot-requires
-spot-requires c = stage-numbers c.args.m c.requires.0 c.args.k c.requires.2
+-- the stage has the variable where it has a number for it
+has : (c : After-spot) → (o : prelude.Option ℕ) → Spots (stage_at c.args.m c.args.k) (carried_at c.args.m c.args.v) o → is_some o ≡ holder c.args.m c.args.v c.args.k
+has c (prelude.Some x) w = let a = c.args in let p = c.requires in sym (has-variable a.m p.0 a.k p.2 (carried_at a.m a.v) x w.0 w.1)
+has c prelude.None w = let a = c.args in let p = c.requires in sym (not-variable a.m p.0 a.k p.2 (carried_at a.m a.v) w)
 
 pub returns : goal.returns
-returns c =
-    let p = c.requires in
-    let a = c.args in
-    ⊎_elim
-    (λ w. lt-ltb _ _ w.0 ∙ sym (has-variable a.m p.0 a.k p.2 (carried_at a.m a.v) c.spot.result w.0 w.1))
-    (λ w. le-ltb c.spot.result (stage_at a.m a.k).variables (omega (arith, w.0)) ∙ sym (not-variable a.m p.0 a.k p.2 (carried_at a.m a.v) w.1))
-    (subst (λ (y : ℕ). Spots (stage_at a.m a.k) y c.spot.result) (carried-read a.m p.0 a.v p.1) c.spot.ensures)
+returns c = c.is_some.ensures ∙ has (goal.at.returns c).After-spot c.spot.result (subst (λ (y : ℕ). Spots (stage_at c.args.m c.args.k) y c.spot.result) (carried-read c.args.m c.requires.0 c.args.v c.requires.1) c.spot.ensures)

@@ -1,11 +1,8 @@
-use Prim.Native.Nat.{ℕ, ◌+◌, ◌-◌, ◌*◌, ◌≤◌, ◌<◌}
+use Prim.Native.Nat.{ℕ, ◌+◌, ◌*◌, ◌<◌}
 use Rattle.limits.specs.Limits as limit
 use Rattle.search_levels.specs.Levels.{Moved}
 use Rattle.witness_walk.specs.Walk.{Source}
 use Rattle.witness_walk.proofs.previous.Given as goal
 
 abbrev pub invariant-loop-v : goal.invariant-loop-v
-invariant-loop-v l = (l.v ≤ limit.listed) × ((w : ℕ) → w < l.v → (u : ℕ) × (u < limit.listed) × Source l.rows l.ways (limit.listed * l.k + w) l.one l.begun l.first u × Moved l.ways l.two l.began w l.second → ⊥)
-
-abbrev pub decreases-loop-v : goal.decreases-loop-v
-decreases-loop-v l = limit.listed - l.v
+invariant-loop-v l = (w : ℕ) → w < l.v → (u : ℕ) × (u < limit.listed) × Source l.rows l.ways (limit.listed * l.k + w) l.one l.begun l.first u × Moved l.ways l.two l.began w l.second → ⊥

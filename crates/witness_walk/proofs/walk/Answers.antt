@@ -1,33 +1,37 @@
-use mathlib.Core.Path.{refl, ◌∙◌}
+use mathlib.Core.Path.{subst}
+use Prim.Native.Nat.{ℕ, suc, ◌-◌}
 use native.Mathlib.Omega.{arith}
+use Rattle.witness_walk.specs.Walk.{Behind}
 use Rattle.witness_walk.proofs.Laws.{behind-start}
 use Rattle.witness_walk.proofs.walk.Goals as goal
+use Rattle.witness_walk.proofs.walk.Goals.{In-loop-k}
 
-pub loop-p-init : goal.loop-p-init
-loop-p-init c =
+-- a level that is not the last of the walk, with the one before
+behind : (c : In-loop-k) → let a = c.args in let l = c.loop-k in Behind a.m a.s a.cast a.until a.rows.now a.run.now l.run (suc (l.k - 1)) l.p.first l.p.second l.p.at
+behind c =
+    let a = c.args in
+    let l = c.loop-k in
+    subst (λ (n : ℕ). Behind a.m a.s a.cast a.until a.rows.now a.run.now l.run n l.p.first l.p.second l.p.at) (omega arith) l.invariant.1
+
+pub loop-k-init : goal.loop-k-init
+loop-k-init c =
     let p = c.requires in
     let a = c.args in
-    (behind-start a.m a.work.now a.s a.rows.now a.table.now a.steps.now a.ways.now p.0 a.cast a.until a.run.now p.3 a.goal.first a.goal.second p.4, refl)
+    (p.3, behind-start a.m a.work.now a.s a.rows.now a.table.now a.steps.now a.ways.now p.0 a.cast a.until a.run.now p.3 a.goal.first a.goal.second p.4)
 
-pub back-q-requires : goal.back-q-requires
-back-q-requires c =
+pub back-p-requires : goal.back-p-requires
+back-p-requires c =
     let p = c.requires in
     let a = c.args in
-    let l = c.loop-p in
-    (p.0, p.1, p.2, omega (arith, p.5, l.invariant.1), (a.until, a.run.now, c.loop-p-test.true, l.invariant.0))
+    (p.0, p.1, p.2, omega (arith, p.5), (a.until, a.run.now, omega arith, behind (goal.at.back-p-requires c).In-loop-k))
 
-pub loop-p-smaller : goal.loop-p-smaller
-loop-p-smaller c = c.back-q.ensures.1
-
-pub loop-p-preserved : goal.loop-p-preserved
-loop-p-preserved c =
+pub loop-k-preserved : goal.loop-k-preserved
+loop-k-preserved c =
     let a = c.args in
-    let l = c.loop-p in
-    let e = c.back-q.ensures in
-    (e.0 a.until a.run.now c.loop-p-test.true l.invariant.0, e.2 ∙ l.invariant.1)
-
-pub shape_of-run : goal.shape_of-run
-shape_of-run c = c.loop-p.invariant.1
+    (omega arith, c.back-p.ensures a.until a.run.now (omega arith) (behind (goal.at.loop-k-preserved c).In-loop-k))
 
 pub returns : goal.returns
-returns c = let l = c.loop-p in let h = c.loop-p.invariant.0 in (h, omega (arith, h.above, c.loop-p-test.false))
+returns c =
+    let a = c.args in
+    let l = c.loop-k in
+    subst (λ (n : ℕ). Behind a.m a.s a.cast a.until a.rows.now a.run.now l.run n l.p.first l.p.second l.p.at) (omega (arith, l.invariant.0)) l.invariant.1
