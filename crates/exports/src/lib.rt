@@ -43,11 +43,7 @@ fn copy(cells: &mut [u32], at: usize, numbers: &[u32])
     requires { at + length numbers.now ≤ length cells.old }
     ensures { cells.new ≡ paste cells.old at numbers.now (length numbers.now) }
 {
-    let mut i = 0;
-    while i < numbers.len() {
-        cells[at + i] = numbers[i];
-        i += 1;
-    }
+    cells[at..at + numbers.len()].copy_from_slice(numbers);
 }
 
 // The number of a refusal.
@@ -64,7 +60,7 @@ fn coded(answer: analyzer_verdict::Answer) -> u64
 {
     match answer {
         analyzer_verdict::Answer::Unreached => 0,
-        analyzer_verdict::Answer::Reached { places, last: _ } => 4_294_967_296 + places as u64,
+        analyzer_verdict::Answer::Reached { places, .. } => 4_294_967_296 + places as u64,
         analyzer_verdict::Answer::Refused { number, line } => refusal(number, line),
     }
 }
@@ -99,9 +95,9 @@ fn last_number(answer: analyzer_verdict::Answer, run: &[u32]) -> u32
     ensures { result ≡ last_number answer run.now }
 {
     match answer {
-        analyzer_verdict::Answer::Reached { places, last: _ } => run[places - 1],
+        analyzer_verdict::Answer::Reached { places, .. } => run[places - 1],
         analyzer_verdict::Answer::Unreached => 0,
-        analyzer_verdict::Answer::Refused { number: _, line: _ } => 0,
+        analyzer_verdict::Answer::Refused { .. } => 0,
     }
 }
 
@@ -229,14 +225,9 @@ fn write_run(handin: &[u8], said: Handin, run: &mut [u32])
     requires { (limit.run ≤ length run.old) × (said ≡ told (reading handin.now)) }
     ensures { run.new ≡ written (reading handin.now) run.old }
 {
-    let Handin::Yes {
-        first: _,
-        places: _,
-    } = said
-    else {
-        return;
-    };
-    handin::write(handin, run);
+    if let Handin::Yes { .. } = said {
+        handin::write(handin, run);
+    }
 }
 
 // Reads a hand-in, and writes its run into the table.

@@ -74,15 +74,16 @@ fn read_digits(line: &[u8], at: usize) -> Number
     ensures { DigitsEnd line.now at result }
 {
     let mut value = 0;
-    let mut i = at;
-    while i < line.len() {
+    for i in at..line.len() {
         match line[i] {
             b @ b'0'..=b'9' => value = add_digit(value, b),
             _ => return Number { value, end: i },
         }
-        i += 1;
     }
-    Number { value, end: i }
+    Number {
+        value,
+        end: line.len(),
+    }
 }
 
 // The numeral that is next: none of more than one digit begins with 0.

@@ -14,7 +14,6 @@ ghost use Rattle.replay_meetings.specs.Carried.{Named, Agrees, carried_on, AllNa
 
 use facts_bits::BYTES;
 use facts_candidates::Choice;
-use facts_find::Found;
 use limits::{CARRIED, NONE};
 use model::Stage;
 use replay_session::Position;
@@ -134,7 +133,7 @@ pub fn meet_place(
         return None;
     }
     let n = at.objects;
-    let found = replay_steps::decide(
+    replay_steps::decide(
         literals,
         slots,
         work,
@@ -143,10 +142,7 @@ pub fn meet_place(
         g.count,
         g.variables,
         fixed,
-    );
-    let Found::At(_) = found else {
-        return None;
-    };
+    )?;
     Some(Outcome {
         given: None,
         at: Position {

@@ -21,7 +21,7 @@ ghost use Rattle.replay_steps.specs.Tries.{Rests, Plain, Ready, Open, Stepping, 
 
 use facts_bits::BYTES;
 use facts_candidates::Choice;
-use facts_find::{FREE, Found};
+use facts_find::FREE;
 use limits::OBJECTS;
 use model::{Action, Clause};
 use replay_session::{Position, Session};
@@ -76,7 +76,7 @@ pub fn decide(
     count: usize,
     variables: u32,
     fixed: Choice,
-) -> Found
+) -> Option<Choice>
     requires { Consistent work.now × (n ≤ length slots.now) × (first ≤ length literals.now) × GoodBody (drop first literals.now) count variables × Supported (vars (body_at literals.now first count)) (body_at literals.now first count) }
     ensures { (m : Model) (v : View) (s : Session) (ready : Ready m s v work.now) → Within ready.relations (body_at literals.now first count) → v.slots ≡ slots.now → s.objects ≡ n → Decides variables (Holding m s (body_at literals.now first count) variables fixed) result }
 {
@@ -136,7 +136,7 @@ fn create(
         second: FREE,
         third: FREE,
     };
-    let found = decide(
+    let helpers = decide(
         literals,
         slots,
         work,
@@ -145,10 +145,7 @@ fn create(
         c.count,
         c.variables,
         fixed,
-    );
-    let Found::At(helpers) = found else {
-        return None;
-    };
+    )?;
     let stood = number(c.variables as usize, helpers);
     Some(Outcome {
         given: Some(NewState {
@@ -186,7 +183,7 @@ fn change(
         second: FREE,
         third: FREE,
     };
-    let found = decide(
+    let choice = decide(
         literals,
         slots,
         work,
@@ -195,10 +192,7 @@ fn change(
         c.count,
         c.variables,
         fixed,
-    );
-    let Found::At(choice) = found else {
-        return None;
-    };
+    )?;
     let stood = number(c.variables as usize, choice);
     let state = labels::relabel(states[o], plus, minus);
     Some(Outcome {

@@ -13,6 +13,10 @@ use Rattle.grammar.specs.Bytes.{Word, lines}
 use Rattle.grammar.specs.Shapes.{whole, form_of, ask_rest}
 use Rattle.grammar.specs.Models.{question_of}
 use Rattle.grammar.specs.Texts.{accepted, refused, finish}
+use Rattle.std.specs.Prelude as prelude
+use Rattle.rows.specs.Rows.{number_of, row_number}
+use Rattle.rows.specs.declared.Row.{Row}
+use Rattle.rows.proofs.Laws.{some-number}
 use Rattle.text_names.specs.Names.{Valid, entry, declared_of}
 use Rattle.text_names.specs.declared.Declared.{Declared}
 use Rattle.text_names.proofs.Laws.{get_or-list_of, slice-prefix}
@@ -50,13 +54,15 @@ module _ {text : List ℕ} {at n e : ℕ} {d : Declared} {m : Model} (so : Reach
   ask-unshaped h = onwards-line so k.line ∙ reads-unshaped n (declared_of (take e text) d) (program_of m) (lines (drop (e + 1) text)) (slice at e text) k.line.good (form ∙ h)
 
   module _ {f : Model} {r : Asked} (a : AskEnd (declared_of (take e text) d) f (ask_rest (slice (at + 5) e text)) r) where
-    pub ask-refused : (r.number ≡ 0 → ⊥) → onwards text at n d m ≡ refused r.number n
-    ask-refused z =
+    pub ask-refused : {w : Row} → r.row ≡ prelude.Some w → onwards text at n d m ≡ refused (number_of w) n
+    ask-refused {w} q =
         let P = program_of m in
+        let z = sym (a.number (length P)) ∙ ap row_number q in
         onwards-line so k.line
-        ∙ rw (a.number (length P)) (reads-faulty n (declared_of (take e text) d) P (lines (drop (e + 1) text)) (slice at e text) k.line.good _ (form ∙ a.reads) (λ y. z (a.number (length P) ∙ y)))
+        ∙ (reads-faulty n (declared_of (take e text) d) P (lines (drop (e + 1) text)) (slice at e text) k.line.good _ (form ∙ a.reads) (λ y. some-number w (sym z ∙ y))
+        ∙ ap (λ (i : ℕ). refused i n) z)
 
-    module _ (z : r.number ≡ 0) where
+    module _ (z : row_number r.row ≡ 0) where
       onwards-ask : onwards text at n d m ≡ finish n (accepted (declared_of (take e text) d) (program_of m) (question_of (declared_of (take e text) d) a.qs)) (lines (drop (e + 1) text))
       onwards-ask =
           onwards-line so k.line ∙ reads-ask n (declared_of (take e text) d) (program_of m) (lines (drop (e + 1) text)) (slice at e text) k.line.good a.qs (form ∙ a.reads) (sym (a.number (length (program_of m))) ∙ z)

@@ -1,5 +1,5 @@
 -- FROM LINE TO LINE.
-use mathlib.Core.Path.{◌≡◌, refl, sym, ◌∙◌}
+use mathlib.Core.Path.{◌≡◌, refl, sym, ap, ◌∙◌}
 use mathlib.Core.Logic.{⊎_elim}
 use mathlib.Core.Bool.{true, false}
 use mathlib.Core.List.{List, [], ◌∷◌}
@@ -18,6 +18,10 @@ use Rattle.grammar.specs.Bytes.{bytes, Line, ended, unended, in_front, lines}
 use Rattle.grammar.specs.Shapes.{after, line, whole, form_of}
 use Rattle.grammar.specs.Texts.{refused, read_lines, outcome}
 use Rattle.grammar.proofs.Tests.{either}
+use Rattle.std.specs.Prelude as prelude
+use Rattle.rows.specs.Rows.{number_of, row_number}
+use Rattle.rows.specs.declared.Row.{Row}
+use Rattle.rows.proofs.Laws.{some-number}
 use Rattle.text_names.specs.Names.{Valid, declared_of}
 use Rattle.text_names.specs.declared.Declared.{Declared}
 use Rattle.text_scan.specs.Found as scan
@@ -84,12 +88,15 @@ module _ {text : List ℕ} {at n : ℕ} {d : Declared} {m : Model} (so : Reached
     line_unshaped h = onwards-line ∙ reads-unshaped n (declared_of (take e text) d) (program_of m) (lines (drop (e + 1) text)) (slice at e text) l.good h
 
     module _ {s : Step} (st : Stepped (take e text) d (program_of m) n (line (slice at e text)) s) where
-      pub line_refused : (s.number ≡ 0 → ⊥) → onwards text at n d m ≡ refused s.number n
+      pub line_refused : {w : Row} → s.row ≡ prelude.Some w → onwards text at n d m ≡ refused (number_of w) n
       unfolding form_of
-      line_refused z =
-          onwards-line ∙ rw st.number (reads-faulty n (declared_of (take e text) d) (program_of m) (lines (drop (e + 1) text)) (slice at e text) l.good st.form st.reads (λ y. z (st.number ∙ y)))
+      line_refused {w} q =
+          let z = sym st.number ∙ ap row_number q in
+          onwards-line
+          ∙ (reads-faulty n (declared_of (take e text) d) (program_of m) (lines (drop (e + 1) text)) (slice at e text) l.good st.form st.reads (λ y. some-number w (sym z ∙ y))
+          ∙ ap (λ (i : ℕ). refused i n) z)
 
-      module _ (z : s.number ≡ 0) where
+      module _ (z : row_number s.row ≡ 0) where
         pub onwards-on : after (bytes "(ask ") (slice at e text) ≡ none → onwards text at n d m ≡ onwards text (e + 1) (n + 1) s.declared s.model
         unfolding onwards form_of
         onwards-on a =

@@ -5,6 +5,7 @@ ghost use Rattle.std.specs.Prelude.{◌≡◌, [], ◌≤◌, length};
 ghost use Rattle.limits.specs.Limits as limit;
 ghost use Rattle.grammar.specs.Bytes.{lines};
 ghost use Rattle.grammar.specs.Texts.{read_lines, outcome};
+ghost use Rattle.rows.specs.Rows.{number_of};
 ghost use Rattle.text_opening.specs.Openings.{blank};
 ghost use Rattle.text.specs.declared.Acceptance.TheVariants.{Refused};
 ghost use Rattle.text.specs.Reading.{Reads};
@@ -12,6 +13,7 @@ ghost use Rattle.text.specs.Reached.{Reached, onwards, AskLine};
 
 use limits::TEXT;
 use model::Model;
+use rows::Row;
 use text_names::Declared;
 
 // Whether the text is accepted; if not, the refusal's number and line.
@@ -29,11 +31,14 @@ pub struct Reading {
 }
 
 // A refusal, beside the blank record.
-fn refusal(number: u32, line: u32) -> Reading
-    ensures { (result.answer ≡ Refused number line) × (result.model ≡ blank) }
+fn refusal(row: Row, line: u32) -> Reading
+    ensures { (result.answer ≡ Refused (number_of row) line) × (result.model ≡ blank) }
 {
     Reading {
-        answer: Acceptance::Refused { number, line },
+        answer: Acceptance::Refused {
+            number: row.number(),
+            line,
+        },
         model: text_opening::blank(),
     }
 }
@@ -45,13 +50,13 @@ fn read_question(text: &[u8], at: usize, e: usize, d: Declared, m: Model, line: 
 {
     let f = text_opening::fit(m, d, line);
     let Some(r) = text_ask::read_ask(&text[..e], d, at + 5, f) else {
-        return refusal(3, line);
+        return refusal(Row::Shape, line);
     };
-    if r.number != 0 {
-        return refusal(r.number, line);
+    if let Some(row) = r.row {
+        return refusal(row, line);
     }
     if e + 1 < text.len() {
-        return refusal(10, line + 1);
+        return refusal(Row::End, line + 1);
     }
     let model = r.model;
     Reading {
@@ -72,16 +77,16 @@ fn read_lines(text: &[u8]) -> Reading
     while at < text.len() {
         let e = text_scan::line_end(text, at);
         if e == text.len() {
-            return refusal(2, line);
+            return refusal(Row::Byte, line);
         }
         if text_scan::at_bytes(&text[..e], at, b"(ask ") {
             return read_question(text, at, e, d, m, line);
         }
         let Some(s) = text_lines::read_line(&text[..e], at, d, m, line) else {
-            return refusal(3, line);
+            return refusal(Row::Shape, line);
         };
-        if s.number != 0 {
-            return refusal(s.number, line);
+        if let Some(row) = s.row {
+            return refusal(row, line);
         }
         let declared = s.declared;
         let model = s.model;
@@ -90,7 +95,7 @@ fn read_lines(text: &[u8]) -> Reading
         at = e + 1;
         line += 1;
     }
-    refusal(10, line)
+    refusal(Row::End, line)
 }
 
 // Reads a text: its size, then its lines.
@@ -98,10 +103,10 @@ pub fn read(text: &[u8]) -> Reading
     ensures { Reads (outcome text.now) text.now result }
 {
     if text.len() == 0 {
-        return refusal(1, 0);
+        return refusal(Row::Size, 0);
     }
     if TEXT < text.len() {
-        return refusal(1, 0);
+        return refusal(Row::Size, 0);
     }
     read_lines(text)
 }

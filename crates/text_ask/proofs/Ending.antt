@@ -1,4 +1,4 @@
--- The `ask` line as a whole: its first stage, the others, and its row number.
+-- The `ask` line as a whole: its first stage, the others, and its row.
 use mathlib.Core.Path.{◌≡◌, refl, sym, ap, ◌∙◌}
 use mathlib.Core.Logic.{◌⊎◌, ⊎_elim, inl, inr}
 use mathlib.Core.Bool.{Bool, true, false, not, ◌&&◌}
@@ -20,6 +20,9 @@ use Rattle.grammar.specs.Rows.{lower, row, body_fault, supported, few, scope_fau
 use Rattle.grammar.specs.Models.{body_of}
 use Rattle.grammar.proofs.Tests.{either}
 use Rattle.grammar.proofs.Lower.{lower-first, lower-bound, lower-under}
+use Rattle.std.specs.Prelude as prelude
+use Rattle.rows.specs.Rows.{row_number}
+use Rattle.rows.specs.declared.Row.TheVariants.{Carried}
 use Rattle.acceptance.proofs.Questions.{ask_words, carriers-words}
 use Rattle.text_literals.proofs.Adding.{body-bound}
 use Rattle.text_bodies.specs.declared.Body.{Body}
@@ -73,7 +76,7 @@ module _ {text : List ℕ} {D : Declared} {t : Table} {m : Model} (empty : Empty
     stages = empty.stages;
   }
 
-  pub none-held : Holds text D m [] (record { number = 0; table = t; model = m })
+  pub none-held : Holds text D m [] (record { row = prelude.None; table = t; model = m })
   unfolding stages_fault
   none-held = record { number = refl; stored = λ z. none-stored }
 
@@ -85,35 +88,35 @@ stages-bound D (q ∷ qs) = lower-bound (lower (body_fault D q) (scope_fault [] 
     (lower-bound (body_fault D q) (scope_fault [] q) 9 (let u = body-bound D q in omega arith) (row-bound 9 (not (supported [] q && few [] q)) (omega arith))) (stages-bound D qs)
 
 -- THE END: where rows 6 to 9 give no number, r has the carried variables
-module _ (s : Asking) {r : Carriers} (z : s.number ≡ 0) (e : r ≡ carriers_of s.table) where
-  pub finish-many : r.many ≡ true → record { number = 11; model = s.model } ≡ finished s
+module _ (s : Asking) {r : Carriers} (z : row_number s.row ≡ 0) (e : r ≡ carriers_of s.table) where
+  pub finish-many : r.many ≡ true → record { row = prelude.Some Carried; model = s.model } ≡ finished s
   unfolding finished
-  finish-many q = rw (eq-eqb s.number 0 z, sym (ap (λ (c : Carriers). c.many) e) ∙ q)
+  finish-many q = rw (eq-eqb (row_number s.row) 0 z, sym (ap (λ (c : Carriers). c.many) e) ∙ q)
 
-  pub finish-carries : r.many ≡ false → record { number = 0; model = carrying s.model r.cells } ≡ finished s
+  pub finish-carries : r.many ≡ false → record { row = prelude.None; model = carrying s.model r.cells } ≡ finished s
   unfolding finished
-  finish-carries q = rw (eq-eqb s.number 0 z, sym (ap (λ (c : Carriers). c.many) e) ∙ q, ap (λ (c : Carriers). c.cells) e)
+  finish-carries q = rw (eq-eqb (row_number s.row) 0 z, sym (ap (λ (c : Carriers). c.many) e) ∙ q, ap (λ (c : Carriers). c.cells) e)
 
 module _ {text : List ℕ} {D : Declared} {m₀ : Model} {qs : List (List forms.Literal)} {s : Asking} (so : Holds text D m₀ qs s) where
-  many-carried : s.number ≡ 0 → (carriers_of s.table).many ≡ carries_many qs
+  many-carried : row_number s.row ≡ 0 → (carriers_of s.table).many ≡ carries_many qs
   many-carried z = rw (marked-carried qs (so.stored z).table, length-map (carried qs (ask_words qs)) (place (ask_words qs)))
 
-  pub finished-number : (clauses : ℕ) → (finished s).number ≡ fault D clauses (forms.ask_form qs)
+  pub finished-number : (clauses : ℕ) → row_number (finished s).row ≡ fault D clauses (forms.ask_form qs)
   unfolding finished fault
   finished-number clauses = ⊎_elim
-      (λ (q : eqb s.number 0 ≡ true). let z = eqb-true s.number 0 q in
+      (λ (q : eqb (row_number s.row) 0 ≡ true). let z = eqb-true (row_number s.row) 0 q in
       rw (q, many-carried z, lower-first (stages_fault D qs) (row 11 (carries_many qs)) (sym so.number ∙ z))
       (⊎_elim (λ (e : carries_many qs ≡ true). rw e) (λ (e : carries_many qs ≡ false). rw e) (either (carries_many qs))))
-      (λ (q : eqb s.number 0 ≡ false). let z = eqb-false s.number 0 q in
+      (λ (q : eqb (row_number s.row) 0 ≡ false). let z = eqb-false (row_number s.row) 0 q in
       rw q (so.number ∙ sym (lower-under (stages_fault D qs) (row 11 (carries_many qs)) (λ e. z (so.number ∙ e)) (high (carries_many qs)))))
-      (either (eqb s.number 0))
+      (either (eqb (row_number s.row) 0))
     where
       high : (b : Bool) → (row 11 b ≡ 0) ⊎ (stages_fault D qs ≤ row 11 b)
       high true = inr (let u = stages-bound D qs in omega arith)
       high false = inl refl
 
   module _ (empty : Empty m₀) (short : length qs ≤ 4) where
-    asks : s.number ≡ 0 → Asks D m₀ qs (carrying s.model (carriers_of s.table).cells)
+    asks : row_number s.row ≡ 0 → Asks D m₀ qs (carrying s.model (carriers_of s.table).cells)
     unfolding model.question_of
     asks z =
         let st = so.stored z in
@@ -139,15 +142,15 @@ module _ {text : List ℕ} {D : Declared} {m₀ : Model} {qs : List (List forms.
           stages = st.stages;
         }
 
-    pub finished-asks : (finished s).number ≡ 0 → Asks D m₀ qs (finished s).model
+    pub finished-asks : row_number (finished s).row ≡ 0 → Asks D m₀ qs (finished s).model
     unfolding finished
     finished-asks e = ⊎_elim
-        (λ (q : eqb s.number 0 ≡ true). let z = eqb-true s.number 0 q in ⊎_elim
+        (λ (q : eqb (row_number s.row) 0 ≡ true). let z = eqb-true (row_number s.row) 0 q in ⊎_elim
         (λ (y : (carriers_of s.table).many ≡ true). absurd (let w : 11 ≡ 0 = (rw (q, y) at e) in omega arith))
         (λ (y : (carriers_of s.table).many ≡ false). rw (q, y) (asks z))
         (either (carriers_of s.table).many))
-        (λ (q : eqb s.number 0 ≡ false). absurd (eqb-false s.number 0 q (rw q at e)))
-        (either (eqb s.number 0))
+        (λ (q : eqb (row_number s.row) 0 ≡ false). absurd (eqb-false (row_number s.row) 0 q (rw q at e)))
+        (either (eqb (row_number s.row) 0))
 
 -- THE LINE
 pub ask-unopened : (text : List ℕ) (at : ℕ) → stage (drop at text) ≡ none → whole (ask_rest (drop at text)) ≡ none

@@ -9,6 +9,9 @@ use Rattle.model.specs.declared.Model.{Model}
 use Rattle.grammar.specs.Forms as forms
 use Rattle.grammar.specs.Shapes.{Read, rest, stage, whole}
 use Rattle.grammar.specs.Declarations.{Declared}
+use Rattle.std.specs.Prelude as prelude
+use Rattle.rows.specs.Rows.{row_number}
+use Rattle.rows.specs.declared.Row.TheVariants.{Carried}
 use Rattle.grammar.specs.Rows.{fault}
 use Rattle.grammar.specs.Models.{question_of}
 use Rattle.acceptance.specs.Represents.{HoldsStage}
@@ -50,9 +53,9 @@ carrying m cells = record {
 -- row 11 after rows 6 to 9
 unfoldable pub finished : Asking → Asked
 finished s =
-    cond (eqb s.number 0)
-    (cond (carriers_of s.table).many (record { number = 11; model = s.model }) (record { number = 0; model = carrying s.model (carriers_of s.table).cells }))
-    (record { number = s.number; model = s.model })
+    cond (eqb (row_number s.row) 0)
+    (cond (carriers_of s.table).many (record { row = prelude.Some Carried; model = s.model }) (record { row = prelude.None; model = carrying s.model (carriers_of s.table).cells }))
+    (record { row = s.row; model = s.model })
 
 -- THE RECORD m of a text whose `ask` line has the stages qs, where it was m₀ before that line
 pub record Asks (D : Declared) (m₀ : Model) (qs : List (List forms.Literal)) (m : Model) : Type 0 where
@@ -75,5 +78,5 @@ pub record Asks (D : Declared) (m₀ : Model) (qs : List (List forms.Literal)) (
 pub record AskEnd (D : Declared) (m₀ : Model) (read : Read forms.Form) (r : Asked) : Type 0 where
   pub qs : List (List forms.Literal)
   pub reads : whole read ≡ some (forms.ask_form qs)
-  pub number : (clauses : ℕ) → r.number ≡ fault D clauses (forms.ask_form qs)
-  pub accepted : r.number ≡ 0 → Asks D m₀ qs r.model
+  pub number : (clauses : ℕ) → row_number r.row ≡ fault D clauses (forms.ask_form qs)
+  pub accepted : row_number r.row ≡ 0 → Asks D m₀ qs r.model

@@ -13,6 +13,7 @@ ghost use Rattle.text_ask.specs.Asks.{StagesEnd, finished, AskEnd};
 
 use limits::STAGES;
 use model::Model;
+use rows::Row;
 use text_names::Declared;
 use text_stages::Asking;
 
@@ -26,10 +27,10 @@ pub struct Stages {
     pub end: usize,
 }
 
-// The `ask` line: its row number, 0 if it is accepted, and then the record with its stages.
+// The `ask` line: its row if it is refused, otherwise the record with its stages.
 #[derive(Clone, Copy)]
 pub struct Asked {
-    pub number: u32,
+    pub row: Option<Row>,
     pub model: Model,
 }
 
@@ -64,23 +65,23 @@ fn finish(s: Asking) -> Asked
 {
     let mut m = s.model;
     let t = s.table;
-    if s.number != 0 {
+    if s.row.is_some() {
         return Asked {
-            number: s.number,
+            row: s.row,
             model: m,
         };
     }
     let c = text_carried::carried(t);
     if c.many {
         return Asked {
-            number: 11,
+            row: Some(Row::Carried),
             model: m,
         };
     }
     let cells = c.cells;
     m.carried = cells;
     Asked {
-        number: 0,
+        row: None,
         model: m,
     }
 }
@@ -93,7 +94,7 @@ pub fn read_ask(text: &[u8], d: Declared, at: usize, m: Model) -> Option<Asked>
     let b = text_bodies::read_stage(text, d, at)?;
     let table = text_carried::none();
     let s = Asking {
-        number: 0,
+        row: None,
         table,
         model: m,
     };

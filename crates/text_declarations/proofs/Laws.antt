@@ -21,6 +21,9 @@ use Rattle.grammar.specs.Declarations as grammar
 use Rattle.grammar.specs.Declarations.{lookup, count}
 use Rattle.grammar.specs.Rows.{lower, row, again, fault}
 use Rattle.grammar.proofs.Tests.{either}
+use Rattle.std.specs.Prelude as prelude
+use Rattle.rows.specs.Rows.{row_number}
+use Rattle.rows.specs.declared.Row.{Row}
 use Rattle.text_scan.proofs.Laws.{next, nothing}
 use Rattle.text_names.specs.Names.{found, declared_of, Valid, tally, added}
 use Rattle.text_names.specs.declared.Declared.{Declared}
@@ -160,7 +163,7 @@ module _ (text : List ℕ) (d : Declared) (at e : ℕ) (h : name (drop at text) 
     state-whole : whole (state_rest (drop at text)) ≡ some (forms.state_form w)
     state-whole = rw state-reads (whole-all (forms.state_form w) text (e + 1) (omega arith))
 
-    pub state-faulty : {number : ℕ} {r : Declared} → number ≡ state_number (declared_of text d) w → (number ≡ 0 → ⊥) → DeclarationEnd text d (state_rest (drop at text)) (record { number = number; declared = r })
+    pub state-faulty : {o : prelude.Option Row} {r : Declared} → row_number o ≡ state_number (declared_of text d) w → (row_number o ≡ 0 → ⊥) → DeclarationEnd text d (state_rest (drop at text)) (record { row = o; declared = r })
     unfolding state_number fault
     state-faulty z y = record {
       form = forms.state_form w;
@@ -170,7 +173,7 @@ module _ (text : List ℕ) (d : Declared) (at e : ℕ) (h : name (drop at text) 
     }
 
     pub state-added : {r : Declared} → Valid text d → Limited d → at ≤ e → e ≤ length text → state_number (declared_of text d) w ≡ 0 → tally 0 d.codes d.count < limit.states → Entered d at e 0 r
-        → DeclarationEnd text d (state_rest (drop at text)) (record { number = 0; declared = r })
+        → DeclarationEnd text d (state_rest (drop at text)) (record { row = prelude.None; declared = r })
     unfolding state_number fault declare
     state-added v l b c z f en = let few = room text d at e v l b c (inl f) in
         record {
@@ -243,7 +246,7 @@ module _ (text : List ℕ) (d : Declared) (at e n : ℕ) (h : name (drop at text
       rel-whole : whole (rel_rest (drop at text)) ≡ some (forms.rel_form v n)
       rel-whole = rw rel-reads (whole-all (forms.rel_form v n) text (e + 3) (omega arith))
 
-      pub rel-faulty : {number : ℕ} {r : Declared} → number ≡ rel_number (declared_of text d) v n → (number ≡ 0 → ⊥) → DeclarationEnd text d (rel_rest (drop at text)) (record { number = number; declared = r })
+      pub rel-faulty : {o : prelude.Option Row} {r : Declared} → row_number o ≡ rel_number (declared_of text d) v n → (row_number o ≡ 0 → ⊥) → DeclarationEnd text d (rel_rest (drop at text)) (record { row = o; declared = r })
       unfolding rel_number fault
       rel-faulty z y = record {
         form = forms.rel_form v n;
@@ -254,7 +257,7 @@ module _ (text : List ℕ) (d : Declared) (at e n : ℕ) (h : name (drop at text
 
       pub rel-added : {r : Declared} → n ≤ 2 → Valid text d → Limited d → at ≤ e → e ≤ length text → rel_number (declared_of text d) v n ≡ 0
           → tally 1 d.codes d.count + tally 2 d.codes d.count + tally 3 d.codes d.count < limit.rels → Entered d at e (n + 1) r
-          → DeclarationEnd text d (rel_rest (drop at text)) (record { number = 0; declared = r })
+          → DeclarationEnd text d (rel_rest (drop at text)) (record { row = prelude.None; declared = r })
       unfolding rel_number fault declare
       rel-added m vd l b' c z f en = let few = room text d at e vd l b' c (inr f) in
           record {

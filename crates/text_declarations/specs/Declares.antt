@@ -9,6 +9,7 @@ use Rattle.grammar.specs.Declarations as grammar
 use Rattle.grammar.specs.Declarations.{lookup}
 use Rattle.grammar.specs.Rows.{lower, row, again, many_states, many_relations, fault}
 use Rattle.grammar.specs.Models.{declare}
+use Rattle.rows.specs.Rows.{row_number}
 use Rattle.text_names.specs.Names.{Valid, declared_of, tally, added}
 use Rattle.text_names.specs.declared.Declared.{Declared}
 use Rattle.text_declarations.specs.declared.Declaration.{Declaration}
@@ -33,8 +34,8 @@ Entered d a e k r = r ≡ added d a (e - a) (32 * k + tally k d.codes d.count)
 pub record DeclarationEnd (text : List ℕ) (d : Declared) (read : Read forms.Form) (r : Declaration) : Type 0 where
   pub form : forms.Form
   pub reads : whole read ≡ some form
-  pub number : (clauses : ℕ) → r.number ≡ fault (declared_of text d) clauses form
-  pub accepted : r.number ≡ 0 → Valid text r.declared × Limited r.declared × (declared_of text r.declared ≡ declare (declared_of text d) form)
+  pub number : (clauses : ℕ) → row_number r.row ≡ fault (declared_of text d) clauses form
+  pub accepted : row_number r.row ≡ 0 → Valid text r.declared × Limited r.declared × (declared_of text r.declared ≡ declare (declared_of text d) form)
 
 -- the arity that is next
 pub record ArityAt (text : List ℕ) (at r : ℕ) : Type 0 where

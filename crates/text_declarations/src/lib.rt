@@ -6,51 +6,53 @@ ghost use Rattle.std.proofs.Math.Option.{none};
 ghost use Rattle.std.proofs.Math.Seq.{slice};
 ghost use Rattle.limits.specs.Limits as limit;
 ghost use Rattle.grammar.specs.Shapes.{arity, state_rest, rel_rest, whole};
+ghost use Rattle.rows.specs.Rows.{row_number};
 ghost use Rattle.text_names.specs.Names as names;
 ghost use Rattle.text_declarations.specs.Declares.{Limited, state_number, rel_number, Entered, ArityAt, DeclarationEnd};
 
 use limits::{PAIRS, RELS, STATES};
+use rows::Row;
 use text_names::Declared;
 
-// A declaration: its row number, 0 if it is accepted, and the declared names with it.
+// A declaration: its row if it is refused, and the declared names with it.
 #[derive(Clone, Copy)]
 pub struct Declaration {
-    pub number: u32,
+    pub row: Option<Row>,
     pub declared: Declared,
 }
 
 // Row 4, then 5, for a state relation with the name from a to e.
-fn state_number(text: &[u8], d: Declared, a: usize, e: usize) -> u32
+fn state_row(text: &[u8], d: Declared, a: usize, e: usize) -> Option<Row>
     requires { names.Valid text.now d × (a ≤ e) × (e ≤ length text.now) }
-    ensures { result ≡ state_number (names.declared_of text.now d) (slice a e text.now) }
+    ensures { row_number result ≡ state_number (names.declared_of text.now d) (slice a e text.now) }
 {
     if STATES <= text_names::tally_of(d, 0) {
-        return 4;
+        return Some(Row::Count);
     }
     if text_names::find(text, d, a, e) == text_names::UNDECLARED {
-        return 0;
+        return None;
     }
-    5
+    Some(Row::Again)
 }
 
 // Row 4, then 5, for a derived relation of arity n with the name from a to e.
-fn rel_number(text: &[u8], d: Declared, a: usize, e: usize, n: u32) -> u32
+fn rel_row(text: &[u8], d: Declared, a: usize, e: usize, n: u32) -> Option<Row>
     requires { names.Valid text.now d × (a ≤ e) × (e ≤ length text.now) }
-    ensures { result ≡ rel_number (names.declared_of text.now d) (slice a e text.now) n }
+    ensures { row_number result ≡ rel_number (names.declared_of text.now d) (slice a e text.now) n }
 {
     let nullary = text_names::tally_of(d, 1);
     let single = text_names::tally_of(d, 2);
     let pairs = text_names::tally_of(d, 3);
     if RELS <= nullary + single + pairs {
-        return 4;
+        return Some(Row::Count);
     }
     if n == 2 && PAIRS <= pairs {
-        return 4;
+        return Some(Row::Count);
     }
     if text_names::find(text, d, a, e) == text_names::UNDECLARED {
-        return 0;
+        return None;
     }
-    5
+    Some(Row::Again)
 }
 
 // The name from a to e is declared with the next code of its class.
@@ -87,16 +89,13 @@ pub fn read_state(text: &[u8], d: Declared, at: usize) -> Option<Declaration>
     if e + 1 != text.len() {
         return None;
     }
-    let number = state_number(text, d, at, e);
-    if number != 0 {
-        return Some(Declaration {
-            number,
-            declared: d,
-        });
+    let row = state_row(text, d, at, e);
+    if row.is_some() {
+        return Some(Declaration { row, declared: d });
     }
     let r = enter(d, at, e, 0);
     Some(Declaration {
-        number: 0,
+        row: None,
         declared: r,
     })
 }
@@ -117,16 +116,13 @@ pub fn read_rel(text: &[u8], d: Declared, at: usize) -> Option<Declaration>
     if e + 3 != text.len() {
         return None;
     }
-    let number = rel_number(text, d, at, e, n);
-    if number != 0 {
-        return Some(Declaration {
-            number,
-            declared: d,
-        });
+    let row = rel_row(text, d, at, e, n);
+    if row.is_some() {
+        return Some(Declaration { row, declared: d });
     }
     let r = enter(d, at, e, n + 1);
     Some(Declaration {
-        number: 0,
+        row: None,
         declared: r,
     })
 }

@@ -1,25 +1,28 @@
-// The numbers of rows 6 to 8 for a name of a list, a rule's head and a literal; a name is given by its relation code.
+// Rows 6 to 8 for a name of a list, a rule's head and a literal; a name is given by its relation code.
 #![tactic(auto)]
 
 ghost use Rattle.std.specs.Prelude.{◌≡◌};
 ghost use Rattle.grammar.specs.Declarations.{arity_of};
 ghost use Rattle.grammar.specs.Rows.{lower, name_fault, head_fault, plain_fault, negated_fault};
+ghost use Rattle.rows.specs.Rows.{row_number};
 ghost use Rattle.text_names.specs.Names.{found};
 
-// The lower of two numbers, 0 standing for none.
-pub fn lower_of(a: u32, b: u32) -> u32
-    ensures { result ≡ lower a b }
+use rows::Row;
+
+// The lower of two rows.
+pub fn lower_of(a: Option<Row>, b: Option<Row>) -> Option<Row>
+    ensures { row_number result ≡ lower (row_number a) (row_number b) }
 {
-    if a == 0 {
-        return b;
+    match (a, b) {
+        (None, _) => b,
+        (_, None) => a,
+        (Some(x), Some(y)) => {
+            if x.number() < y.number() {
+                return a;
+            }
+            b
+        }
     }
-    if b == 0 {
-        return a;
-    }
-    if a < b {
-        return a;
-    }
-    b
 }
 
 // How many variables the relation takes.
@@ -33,59 +36,59 @@ pub fn arity(code: u32) -> u32
 }
 
 // A name of a list.
-pub fn name_fault(code: u32) -> u32
-    ensures { result ≡ name_fault (found code) }
+pub fn name_fault(code: u32) -> Option<Row>
+    ensures { row_number result ≡ name_fault (found code) }
 {
     if code == text_names::UNDECLARED {
-        return 6;
+        return Some(Row::Kind);
     }
     if code < 32 {
-        return 0;
+        return None;
     }
-    6
+    Some(Row::Kind)
 }
 
 // A rule's head with n variables.
-pub fn head_fault(code: u32, n: usize) -> u32
-    ensures { result ≡ head_fault (found code) n }
+pub fn head_fault(code: u32, n: usize) -> Option<Row>
+    ensures { row_number result ≡ head_fault (found code) n }
 {
     if code == text_names::UNDECLARED {
-        return 6;
+        return Some(Row::Kind);
     }
     if code < 32 {
-        return 6;
+        return Some(Row::Kind);
     }
     if n == arity(code) as usize {
-        return 0;
+        return None;
     }
-    7
+    Some(Row::Arity)
 }
 
 // A literal without `not`, with n variables.
-pub fn plain_fault(code: u32, n: usize) -> u32
-    ensures { result ≡ plain_fault (found code) n }
+pub fn plain_fault(code: u32, n: usize) -> Option<Row>
+    ensures { row_number result ≡ plain_fault (found code) n }
 {
     if code == text_names::UNDECLARED {
-        return 6;
+        return Some(Row::Kind);
     }
     if n == arity(code) as usize {
-        return 0;
+        return None;
     }
-    7
+    Some(Row::Arity)
 }
 
 // A literal with `not`, with n variables.
-pub fn negated_fault(code: u32, n: usize) -> u32
-    ensures { result ≡ negated_fault (found code) n }
+pub fn negated_fault(code: u32, n: usize) -> Option<Row>
+    ensures { row_number result ≡ negated_fault (found code) n }
 {
     if code == text_names::UNDECLARED {
-        return 6;
+        return Some(Row::Kind);
     }
     if n == arity(code) as usize {
         if code < 32 {
-            return 0;
+            return None;
         }
-        return 8;
+        return Some(Row::Negation);
     }
-    7
+    Some(Row::Arity)
 }

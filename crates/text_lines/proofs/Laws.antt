@@ -23,6 +23,7 @@ use Rattle.grammar.specs.Declarations as grammar
 use Rattle.grammar.specs.Models.{declare, clause}
 use Rattle.grammar.proofs.Tests.{either}
 use Rattle.grammar.proofs.Lower.{lower-none}
+use Rattle.rows.specs.Rows.{row_number}
 use Rattle.text_names.specs.Names.{Valid, declared_of}
 use Rattle.text_names.specs.declared.Declared.{Declared}
 use Rattle.text_declarations.specs.Declares.{Limited, DeclarationEnd}
@@ -55,7 +56,7 @@ clause-form D k n l (ask_form qs) e c = none-some c
 
 module _ {text : List ℕ} {d : Declared} {m : Model} {P : Program} (n : ℕ) {read : Read Form} {r : Reading} (so : stored.Holds m P) (v : Valid text d) (li : Limited d)
     (c : ClauseEnd text (declared_of text d) m.clausecount read r) where
-  pub clause-refused : (r.number ≡ 0 → ⊥) → Stepped text d P n read (record { number = r.number; declared = d; model = m })
+  pub clause-refused : (row_number r.row ≡ 0 → ⊥) → Stepped text d P n read (record { row = r.row; declared = d; model = m })
   clause-refused z = record {
     form = c.form;
     reads = c.reads;
@@ -63,14 +64,14 @@ module _ {text : List ℕ} {d : Declared} {m : Model} {P : Program} (n : ℕ) {r
     accepted = λ x. absurd (z x);
   }
 
-  module _ (z : r.number ≡ 0) where
+  module _ (z : row_number r.row ≡ 0) where
     pub clause-room : (m.clausecount < 64) × (m.literalcount + r.frame.size ≤ limit.literals) × (r.frame.size ≤ 8) × (r.frame.scope.count ≤ 3)
     clause-room =
         let g = c.accepted z in
         let q = clause-form (declared_of text d) m.clausecount n (line_of r.action (body_in r.frame)) c.form (sym c.number ∙ z) (g.3 n) in
         (q.0, stored-room m P n r.action r.frame so q.0 g.0 g.1, g.0, g.2)
 
-    pub clause-accepted : Stepped text d P n read (record { number = r.number; declared = d; model = with_clause m n r.action r.frame })
+    pub clause-accepted : Stepped text d P n read (record { row = r.row; declared = d; model = with_clause m n r.action r.frame })
     clause-accepted =
         let g = c.accepted z in
         let q = clause-form (declared_of text d) m.clausecount n (line_of r.action (body_in r.frame)) c.form (sym c.number ∙ z) (g.3 n) in

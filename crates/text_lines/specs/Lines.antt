@@ -6,6 +6,7 @@ use Rattle.grammar.specs.Forms.{Form}
 use Rattle.grammar.specs.Shapes.{Read, whole, line}
 use Rattle.grammar.specs.Rows.{fault}
 use Rattle.grammar.specs.Models.{declare, clause}
+use Rattle.rows.specs.Rows.{row_number}
 use Rattle.text_names.specs.Names.{Valid, declared_of}
 use Rattle.text_names.specs.declared.Declared.{Declared}
 use Rattle.text_declarations.specs.Declares.{Limited}
@@ -16,14 +17,14 @@ use Rattle.text_lines.specs.declared.Step.{Step}
 
 -- the record of a declaration that was read
 abbrev pub declaring : Model → Declaration → Step
-declaring m r = record { number = r.number; declared = r.declared; model = m }
+declaring m r = record { row = r.row; declared = r.declared; model = m }
 
--- after the declarations d and the program P: the line has the lowest row number, or it adds to them
+-- after the declarations d and the program P: the line has the lowest row, or it adds to them
 pub record Stepped (text : List ℕ) (d : Declared) (P : Program) (n : ℕ) (read : Read Form) (s : Step) : Type 0 where
   pub form : Form
   pub reads : whole read ≡ some form
-  pub number : s.number ≡ fault (declared_of text d) (length P) form
-  pub accepted : s.number ≡ 0 → Valid text s.declared × Limited s.declared × (declared_of text s.declared ≡ declare (declared_of text d) form)
+  pub number : row_number s.row ≡ fault (declared_of text d) (length P) form
+  pub accepted : row_number s.row ≡ 0 → Valid text s.declared × Limited s.declared × (declared_of text s.declared ≡ declare (declared_of text d) form)
       × stored.Holds s.model (P ++ clause (declared_of text d) n form)
 
 -- the record m' has of m what no clause touches

@@ -14,14 +14,15 @@ ghost use Rattle.text_record.specs.Stored as stored;
 ghost use Rattle.text_lines.specs.Lines.{declaring, Stepped, Aside, LineEnd};
 
 use model::Model;
+use rows::Row;
 use text_clauses::Reading;
 use text_declarations::Declaration;
 use text_names::Declared;
 
-// The line's row number, 0 if it is accepted, and the declarations and the model with it.
+// The line's row if it is refused, and the declarations and the model with it.
 #[derive(Clone, Copy)]
 pub struct Step {
-    pub number: u32,
+    pub row: Option<Row>,
     pub declared: Declared,
     pub model: Model,
 }
@@ -32,10 +33,10 @@ fn store_clause(text: &[u8], d: Declared, m: Model, line: u32, r: Reading) -> St
     ensures { ((P : Program) (read : Read Form) → stored.Holds m P → names.Valid text.now d → Limited d
         → ClauseEnd text.now (names.declared_of text.now d) m.clausecount read r → Stepped text.now d P line read result) × Aside m result.model }
 {
-    let number = r.number;
-    if number != 0 {
+    let row = r.row;
+    if row.is_some() {
         return Step {
-            number,
+            row,
             declared: d,
             model: m,
         };
@@ -44,7 +45,7 @@ fn store_clause(text: &[u8], d: Declared, m: Model, line: u32, r: Reading) -> St
     let f = r.frame;
     let n = text_record::add_clause(m, line, action, f);
     Step {
-        number,
+        row,
         declared: d,
         model: n,
     }
@@ -56,7 +57,7 @@ fn store_declaration(m: Model, r: Declaration) -> Step
 {
     let declared = r.declared;
     Step {
-        number: r.number,
+        row: r.row,
         declared,
         model: m,
     }

@@ -27,6 +27,8 @@ use Rattle.grammar.specs.Models.{code_of, codes}
 use Rattle.grammar.proofs.Lower.{lower-second, lower-assoc, lower-none}
 use Rattle.grammar.proofs.Tests.{either}
 use Rattle.grammar.proofs.Reading.{Reading, reading-start, reading-more, reading-closed}
+use Rattle.rows.specs.Rows.{row_number}
+use Rattle.rows.specs.declared.Row.{Row}
 use Rattle.text_scan.specs.Found.{NameEnd}
 use Rattle.text_names.specs.Names.{found}
 use Rattle.text_lists.specs.Lists.{Holds, Extends, NameAdded, RestEnd, ListEnd}
@@ -56,25 +58,25 @@ map_more f [] x = refl
 map_more f (y ∷ a) x = ap (λ (l : seq.List _). f y ∷ l) (map_more f a x)
 
 module _ {text : seq.List ℕ} {D : Declared} {s : Chosen} {a e : ℕ} (c : ℕ) (f : lookup (slice a e text) D ≡ found c) where
-  pub state-added : {n m : ℕ} → n ≡ lower s.fault (name_fault (found c)) → c < 32 → m ≡ union s.set (2 ^ c) → NameAdded text D s a e (record { fault = n; set = m })
+  pub state-added : {n : Option Row} {m : ℕ} → row_number n ≡ lower (row_number s.fault) (name_fault (found c)) → c < 32 → m ≡ union s.set (2 ^ c) → NameAdded text D s a e (record { fault = n; set = m })
   state-added {n} {m} p h q = record {
     added = λ ws so.
         let w = slice a e text in
         record {
           number = p ∙ rw (so.number, ← f) (sym (fault-more D ws w));
-          set = λ z. let y = so.set (lower-none s.fault (name_fault (found c)) (sym p ∙ z)).0 in
+          set = λ z. let y = so.set (lower-none (row_number s.fault) (name_fault (found c)) (sym p ∙ z)).0 in
               let g : lookup w D ≡ some c = f ∙ rw (ne_eqb c 128 (λ t. absurd (omega arith))) in
               q ∙ rw (y, map_more (code_of D) ws w, set_more (codes D ws) (code_of D w), g);
         };
   }
 
-  pub other-added : {n m : ℕ} → n ≡ lower s.fault (name_fault (found c)) → 32 ≤ c → NameAdded text D s a e (record { fault = n; set = m })
+  pub other-added : {n : Option Row} {m : ℕ} → row_number n ≡ lower (row_number s.fault) (name_fault (found c)) → 32 ≤ c → NameAdded text D s a e (record { fault = n; set = m })
   other-added {n} {m} p h = record {
     added = λ ws so.
         let w = slice a e text in
         record {
           number = p ∙ rw (so.number, ← f) (sym (fault-more D ws w));
-          set = λ z. absurd (let y = (lower-none s.fault (name_fault (found c)) (sym p ∙ z)).1 in six y);
+          set = λ z. absurd (let y = (lower-none (row_number s.fault) (name_fault (found c)) (sym p ∙ z)).1 in six y);
         };
   }
     where
@@ -109,12 +111,12 @@ module _ {text : seq.List ℕ} {D : Declared} {at n : ℕ} {s t : Chosen} {i k :
   }
 
 -- LISTS
-pub empty-list : (D : Declared) → Holds D [] (record { fault = 0; set = 0 })
+pub empty-list : (D : Declared) → Holds D [] (record { fault = None; set = 0 })
 unfolding list_fault set_of
 empty-list D = record { number = refl; set = λ z. refl }
 
 module _ (text : seq.List ℕ) (at : ℕ) where
-  pub list-empty : {D : Declared} → at + 2 ≤ length text → after (bytes "()") (drop at text) ≡ some (drop (at + 2) text) → ListEnd text D at (record { chosen = record { fault = 0; set = 0 }; end = at + 2 })
+  pub list-empty : {D : Declared} → at + 2 ≤ length text → after (bytes "()") (drop at text) ≡ some (drop (at + 2) text) → ListEnd text D at (record { chosen = record { fault = None; set = 0 }; end = at + 2 })
   unfolding list
   list-empty {D} h p = record { ws = []; begins = omega arith; ends = h; read = rw p; holds = empty-list D }
 
@@ -133,7 +135,7 @@ module _ (text : seq.List ℕ) (at : ℕ) where
         unfolding list bracket
         list-unended v = rw (p, q, m.read, v)
 
-        list-found : {D : Declared} {t : Chosen} {r : List} → NameAdded text D (record { fault = 0; set = 0 }) (at + 1) e t → RestEnd text D e (limit.list - 1) t r → ListEnd text D at r
+        list-found : {D : Declared} {t : Chosen} {r : List} → NameAdded text D (record { fault = None; set = 0 }) (at + 1) e t → RestEnd text D e (limit.list - 1) t r → ListEnd text D at r
         unfolding list bracket
         list-found {D} ad v = record {
           ws = slice (at + 1) e text ∷ v.more;
@@ -143,7 +145,7 @@ module _ (text : seq.List ℕ) (at : ℕ) where
           holds = v.holds (slice (at + 1) e text ∷ []) (ad.added [] (empty-list D));
         }
 
-        pub list-read : {D : Declared} {t : Chosen} (r : Option List) → NameAdded text D (record { fault = 0; set = 0 }) (at + 1) e t
+        pub list-read : {D : Declared} {t : Chosen} (r : Option List) → NameAdded text D (record { fault = None; set = 0 }) (at + 1) e t
             → MatchOption r (rest name (limit.list - 1) (drop e text) ≡ none) (RestEnd text D e (limit.list - 1) t) → MatchOption r (list (drop at text) ≡ none) (ListEnd text D at)
         list-read None ad v = list-unended v
         list-read (Some r) ad v = list-found ad v

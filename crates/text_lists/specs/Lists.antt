@@ -9,13 +9,14 @@ use Rattle.grammar.specs.Shapes.{name, rest, list}
 use Rattle.grammar.specs.Declarations.{Declared}
 use Rattle.grammar.specs.Rows.{list_fault}
 use Rattle.grammar.specs.Models.{codes}
+use Rattle.rows.specs.Rows.{row_number}
 use Rattle.text_lists.specs.declared.Chosen.{Chosen}
 use Rattle.text_lists.specs.declared.List.{List}
 
 -- the record holds the names ws
 pub record Holds (D : Declared) (ws : seq.List Word) (s : Chosen) : Type 0 where
-  pub number : s.fault ≡ list_fault D ws
-  pub set : s.fault ≡ 0 → s.set ≡ set_of (codes D ws)
+  pub number : row_number s.fault ≡ list_fault D ws
+  pub set : row_number s.fault ≡ 0 → s.set ≡ set_of (codes D ws)
 
 -- r holds what s holds and the names more
 abbrev pub Extends : Declared → Chosen → seq.List Word → Chosen → Type 0

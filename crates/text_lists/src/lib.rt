@@ -8,15 +8,16 @@ ghost use Rattle.text_names.specs.Names as names;
 ghost use Rattle.text_lists.specs.Lists.{NameAdded, RestEnd, ListEnd};
 
 use limits::LIST;
+use rows::Row;
 use text_names::Declared;
 
 // The names of a list behind its first.
 const FURTHER: usize = LIST - 1;
 
-// The lowest row number of the names so far, and the set of their relations, which counts only where there is no fault.
+// The lowest row of the names so far, and the set of their relations, which counts only where there is no fault.
 #[derive(Clone, Copy)]
 pub struct Chosen {
-    pub fault: u32,
+    pub fault: Option<Row>,
     pub set: u32,
 }
 
@@ -73,7 +74,10 @@ pub fn read_list(text: &[u8], d: Declared, at: usize) -> Option<List>
     requires { (at ≤ length text.now) × names.Valid text.now d }
     ensures { MatchOption result (list (drop at text.now) ≡ none) (ListEnd text.now (names.declared_of text.now d) at) }
 {
-    let chosen = Chosen { fault: 0, set: 0 };
+    let chosen = Chosen {
+        fault: None,
+        set: 0,
+    };
     if text_scan::at_bytes(text, at, b"()") {
         return Some(List {
             chosen,

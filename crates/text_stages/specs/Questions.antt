@@ -10,6 +10,7 @@ use Rattle.grammar.specs.Forms as forms
 use Rattle.grammar.specs.Declarations.{Declared}
 use Rattle.grammar.specs.Rows.{stages_fault}
 use Rattle.grammar.specs.Models.{question_of}
+use Rattle.rows.specs.Rows.{row_number}
 use Rattle.acceptance.specs.Represents.{HoldsStage}
 use Rattle.text_literals.specs.Frames as frames
 use Rattle.text_literals.specs.declared.Frame.{Frame}
@@ -65,8 +66,8 @@ pub record Stored (text : List ℕ) (D : Declared) (m₀ : Model) (qs : List (Li
 
 -- rows 6 to 9 of the stages qs, and the record where there is no fault
 pub record Holds (text : List ℕ) (D : Declared) (m₀ : Model) (qs : List (List forms.Literal)) (s : Asking) : Type 0 where
-  pub number : s.number ≡ stages_fault D qs
-  pub stored : s.number ≡ 0 → Stored text D m₀ qs s.table s.model
+  pub number : row_number s.row ≡ stages_fault D qs
+  pub stored : row_number s.row ≡ 0 → Stored text D m₀ qs s.table s.model
 
 -- some stages are held, and there is room for the one that was read
 pub record Addable (text : List ℕ) (s : Asking) (b : Body) : Type 0 where

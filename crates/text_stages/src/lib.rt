@@ -7,14 +7,15 @@ ghost use Rattle.text_stages.specs.Questions.{with_stage, Addable, Added};
 
 use limits::VARIABLES;
 use model::{Model, Stage};
+use rows::Row;
 use text_bodies::Body;
 use text_carried::Table;
 use text_literals::Frame;
 
-// The lowest row number of the stages so far; where there is none, their variables and the record with them.
+// The lowest row of the stages so far; where there is none, their variables and the record with them.
 #[derive(Clone, Copy)]
 pub struct Asking {
-    pub number: u32,
+    pub row: Option<Row>,
     pub table: Table,
     pub model: Model,
 }
@@ -51,11 +52,11 @@ pub fn add(text: &[u8], s: Asking, b: Body) -> Asking
     let t = s.table;
     let m = s.model;
     let f = b.frame;
-    let own = text_clauses::final_number(f);
-    let number = text_faults::lower_of(s.number, own);
-    if number != 0 {
+    let own = text_clauses::final_row(f);
+    let row = text_faults::lower_of(s.row, own);
+    if row.is_some() {
         return Asking {
-            number,
+            row,
             table: t,
             model: m,
         };
@@ -66,7 +67,7 @@ pub fn add(text: &[u8], s: Asking, b: Body) -> Asking
     let numbers = g.numbers;
     let r = add_stage(m, f, numbers);
     Asking {
-        number: 0,
+        row: None,
         table: u,
         model: r,
     }

@@ -32,8 +32,7 @@ use Rattle.facts_table.specs.Table.{table_of}
 use Rattle.facts_candidates.specs.declared.Choice.{Choice}
 use Rattle.facts_candidates.specs.Choices.{chosen, Own}
 use Rattle.facts_candidates.proofs.Choosing.{any-default}
-use Rattle.facts_find.specs.declared.Found.{Found}
-use Rattle.facts_find.specs.declared.Found.TheVariants.{At, Nowhere}
+use Rattle.std.specs.Prelude as prelude
 use Rattle.facts_find.specs.Bodies.{Fixed, Decides, Good}
 use Rattle.search_states.specs.declared.States.{States}
 use Rattle.search_states.specs.States.{row}
@@ -65,9 +64,9 @@ meeting-number k n a b d c h (ea, la) (eb, lb) (ed, ld) = rw (← ea, ← eb, �
     parts k a b d h la lb ld = omega arith
 
 -- what `find` says over states that are their own slots
-pub seeks : (slots : List ℕ) → Own width.slots slots → (n : ℕ) → n ≤ width.slots → (S : List ℕ) → length S ≡ n → (w : List ℕ) (b : Body) (v : ℕ) (fixed : Choice) (r : Found) → Decides v (Good w (take n slots) S b v fixed) r → Seeks S w b v fixed r
-seeks slots own n few S same w b v fixed (At c) d = (own-shows slots own n few S same w (chosen c) b d.good.0, d.good.1)
-seeks slots own n few S same w b v fixed Nowhere d = λ σ h f. d σ (shows-own slots own n few S same w σ b h, f)
+pub seeks : (slots : List ℕ) → Own width.slots slots → (n : ℕ) → n ≤ width.slots → (S : List ℕ) → length S ≡ n → (w : List ℕ) (b : Body) (v : ℕ) (fixed : Choice) (r : prelude.Option Choice) → Decides v (Good w (take n slots) S b v fixed) r → Seeks S w b v fixed r
+seeks slots own n few S same w b v fixed (prelude.Some c) d = (own-shows slots own n few S same w (chosen c) b d.good.0, d.good.1)
+seeks slots own n few S same w b v fixed prelude.None d = λ σ h f. d σ (shows-own slots own n few S same w σ b h, f)
 
 -- what is written is good in another way too
 pub written_as : (G H : List Place → Type 0) → ((ps : List Place) → G ps → H ps) → (most : ℕ) (run run' : List ℕ) (at at' : ℕ) → Written G most run at run' at' → Written H most run at run' at'
@@ -252,10 +251,10 @@ module _ (m : Model) (w : List ℕ) (s : States) (known : Known m w s) (k : ℕ)
     )
 
     -- it is found: no other variable is fixed
-    pub choose-found : (c : Choice) → Seeks (row s) w (stage_body m.literals (stage_at m k)) (stage_at m k).variables fixed (At c) → (τ : ℕ → ℕ) × Seating m w s k e f τ × Chooses (stage_at m k) c τ
+    pub choose-found : (c : Choice) → Seeks (row s) w (stage_body m.literals (stage_at m k)) (stage_at m k).variables fixed (prelude.Some c) → (τ : ℕ → ℕ) × Seating m w s k e f τ × Chooses (stage_at m k) c τ
     choose-found c h = (over m known.model k here c, found-seating c h.0 h.1, over-at m known.model k here c)
 
-    pub choose-none : ((x : ℕ) → chosen others x ≡ limit.none) → Seeks (row s) w (stage_body m.literals (stage_at m k)) (stage_at m k).variables fixed Nowhere → ⊥
+    pub choose-none : ((x : ℕ) → chosen others x ≡ limit.none) → Seeks (row s) w (stage_body m.literals (stage_at m k)) (stage_at m k).variables fixed prelude.None → ⊥
     choose-none free h = h (λ x. σ (number_in (stage_at m k) x)) (shows-body σ seated.0) (both-fixed m known.model k here e f others fixed fixes σ seated.1 (λ x l n. absurd (n (free x))))
 
 -- STAGE 1 WITH ITS FIRST VARIABLE in a slot of row j
@@ -267,12 +266,12 @@ module _ (m : Model) (w : List ℕ) (s : States) (known : Known m w s) (some-var
   first_below σ opens = slot-below m w s known 0 known.model.one σ opens.0.0 (first_variable m) first-stands
 
   module _ (u : ℕ) (free one fixed : Choice) (none : (x : ℕ) → chosen free x ≡ limit.none) (names : Names (stage_at m 0) (first_variable m) u free one) (fixes : NamesBoth m 0 e f one fixed) where
-    pub attempt-none : (σ : ℕ → ℕ) → Opens m w s rows j e f σ → σ (first_variable m) ≡ u → Seeks (row s) w (stage_body m.literals (stage_at m 0)) (stage_at m 0).variables fixed Nowhere → ⊥
+    pub attempt-none : (σ : ℕ → ℕ) → Opens m w s rows j e f σ → σ (first_variable m) ≡ u → Seeks (row s) w (stage_body m.literals (stage_at m 0)) (stage_at m 0).variables fixed prelude.None → ⊥
     attempt-none σ opens is h = h (λ x. σ (number_in (stage_at m 0) x)) (shows-body m w s known 0 known.model.one σ opens.0.0)
         (both-fixed m known.model 0 known.model.one e f one fixed fixes σ opens.0.1
         (names-fixed m known.model 0 known.model.one (first_variable m) u free one names σ (λ h. is) (λ x l n. absurd (n (none x)))))
 
-    pub attempt-found : (σ : ℕ → ℕ) → Opens m w s rows j e f σ → u < s.count → in_row rows j u ≡ true → (c : Choice) → Seeks (row s) w (stage_body m.literals (stage_at m 0)) (stage_at m 0).variables fixed (At c)
+    pub attempt-found : (σ : ℕ → ℕ) → Opens m w s rows j e f σ → u < s.count → in_row rows j u ≡ true → (c : Choice) → Seeks (row s) w (stage_body m.literals (stage_at m 0)) (stage_at m 0).variables fixed (prelude.Some c)
         → (τ : ℕ → ℕ) × Opens m w s rows j e f τ × Chooses (stage_at m 0) c τ
     attempt-found σ opens below among c h = (
       over m known.model 0 known.model.one c,

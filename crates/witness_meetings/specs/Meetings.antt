@@ -16,8 +16,6 @@ use Rattle.facts_bits.specs.Bits.{in_row}
 use Rattle.facts_table.specs.Table.{table_of, Consistent}
 use Rattle.facts_candidates.specs.declared.Choice.{Choice}
 use Rattle.facts_candidates.specs.Choices.{chosen}
-use Rattle.facts_find.specs.declared.Found.{Found}
-use Rattle.facts_find.specs.declared.Found.TheVariants.{At, Nowhere}
 use Rattle.facts_find.specs.Bodies.{Fixed}
 use Rattle.facts.specs.Facts.{Exact}
 use Rattle.search_states.specs.declared.States.{States}
@@ -66,9 +64,9 @@ abbrev pub meeting : ℕ → ℕ → Choice → Place
 meeting k n c = meet (suc k) (map (chosen c) (up_from 0 n))
 
 -- the answer is a choice with the fixed elements for which the body holds over S, or that there is none
-abbrev pub Seeks : Database → List ℕ → Body → ℕ → Choice → Found → Type 0
-Seeks S w b v fixed (At c) = Shows S (table_of w) (chosen c) b × Fixed v fixed (chosen c)
-Seeks S w b v fixed Nowhere = (σ : ℕ → ℕ) → Shows S (table_of w) σ b → Fixed v fixed σ → ⊥
+abbrev pub Seeks : Database → List ℕ → Body → ℕ → Choice → prelude.Option Choice → Type 0
+Seeks S w b v fixed (prelude.Some c) = Shows S (table_of w) (chosen c) b × Fixed v fixed (chosen c)
+Seeks S w b v fixed prelude.None = (σ : ℕ → ℕ) → Shows S (table_of w) σ b → Fixed v fixed σ → ⊥
 
 -- THE CAST: object `base` + i has state i of the row, and two more objects stand for the carried variables. They all have numbers.
 pub record Numbered (s : States) (cast : Cast) : Type 0 where
@@ -117,6 +115,6 @@ abbrev pub Opens : Model → List ℕ → States → List ℕ → ℕ → ℕ �
 Opens m w s rows j e f σ = Seating m w s 0 e f σ × (in_row rows j (σ (first_variable m)) ≡ true)
 
 -- the answer is a choice for which stage 1 holds with slot u for its first variable and slots e and f for the carried ones, or that there is none. Where the first variable is carried it has its own slot, whatever u is.
-abbrev pub Attempts : Model → List ℕ → States → ℕ → ℕ → ℕ → Found → Type 0
+abbrev pub Attempts : Model → List ℕ → States → ℕ → ℕ → ℕ → prelude.Option Choice → Type 0
 Attempts m w s u e f r = (free one fixed : Choice) × ((x : ℕ) → chosen free x ≡ limit.none) × Names (stage_at m 0) (first_variable m) u free one × NamesBoth m 0 e f one fixed
     × Seeks (row s) w (stage_body m.literals (stage_at m 0)) (stage_at m 0).variables fixed r

@@ -17,7 +17,6 @@ ghost use Rattle.witness_meetings.specs.Meetings.{Known, Written, Numbers, Spots
 
 use facts_bits::WIDTH;
 use facts_candidates::Choice;
-use facts_find::Found;
 use facts_holds::Part;
 use model::{Model, Place, Stage};
 use search_states::States;
@@ -72,7 +71,14 @@ fn name_first(m: Model, e: usize, c: Choice) -> Choice
 }
 
 // A choice of found states, with the fixed ones, for which a body holds, if there is one.
-fn seek(work: &[u8], slots: &[u8], n: usize, literals: &[u32], part: Part, fixed: Choice) -> Found
+fn seek(
+    work: &[u8],
+    slots: &[u8],
+    n: usize,
+    literals: &[u32],
+    part: Part,
+    fixed: Choice,
+) -> Option<Choice>
     requires { Consistent work.now × Own width.slots slots.now × (n ≤ width.slots) × Evaluable literals.now part }
     ensures { (S : List ℕ) → Rows S work.now → length S ≡ n → Seeks S work.now (body_at literals.now part.first part.count) part.variables fixed result }
 {
@@ -88,7 +94,14 @@ fn seek(work: &[u8], slots: &[u8], n: usize, literals: &[u32], part: Part, fixed
 }
 
 // A choice of found states, with the fixed ones, that meets stage k + 1, if there is one.
-fn seek_stage(work: &[u8], slots: &[u8], m: Model, s: States, k: usize, fixed: Choice) -> Found
+fn seek_stage(
+    work: &[u8],
+    slots: &[u8],
+    m: Model,
+    s: States,
+    k: usize,
+    fixed: Choice,
+) -> Option<Choice>
     requires { Known m work.now s × Own width.slots slots.now × (k < m.stagecount) }
     ensures { Seeks (row s) work.now (stage_body m.literals (stage_at m k)) (stage_at m k).variables fixed result }
 {
@@ -117,8 +130,8 @@ fn choose(
     let free = facts_holds::free();
     let fixed = name_both(m, k, first, second, free);
     match seek_stage(work, slots, m, s, k, fixed) {
-        Found::At(c) => c,
-        Found::Nowhere => fixed,
+        Some(c) => c,
+        None => fixed,
     }
 }
 
@@ -194,7 +207,7 @@ fn attempt(
     u: usize,
     first: usize,
     second: usize,
-) -> Found
+) -> Option<Choice>
     requires { Known m work.now s × Own width.slots slots.now }
     ensures { Attempts m work.now s u first second result }
 {
@@ -220,7 +233,7 @@ pub fn opening(
 {
     for u in 0..s.count {
         if facts_bits::get(rows, j * WIDTH + u) {
-            if let Found::At(c) = attempt(work, slots, m, s, u, first, second) {
+            if let Some(c) = attempt(work, slots, m, s, u, first, second) {
                 return c;
             }
         }

@@ -15,7 +15,7 @@ write-requires c =
     let y = told-yes (reading c.args.handin.now) c.in-Yes.first c.in-Yes.places (sym c.requires.1 ∙ c.in-Yes.is) in
     (c.requires.0, (c.in-Yes.first, y.0, y.1))
 
-pub returns : goal.returns
-returns c =
+pub returns-in-Yes : goal.returns-in-Yes
+returns-in-Yes c =
     let y = told-yes (reading c.args.handin.now) c.in-Yes.first c.in-Yes.places (sym c.requires.1 ∙ c.in-Yes.is) in
     c.write.ensures c.in-Yes.first y.0 y.1 ∙ ap (λ (h : Handin). written h c.args.run.now) (sym y.1)

@@ -8,7 +8,7 @@ use Rattle.limits.specs.Limits as limit
 use Rattle.semantics.specs.Runs.{meet}
 use Rattle.model.specs.Places.{objects}
 use Rattle.model.specs.Records.{stage_body, carried_at}
-use Rattle.facts_find.specs.declared.Found.TheVariants.{At, Nowhere}
+use Rattle.std.specs.Prelude.{Some, None}
 use Rattle.facts_find.specs.Bodies.{Decides}
 use Rattle.facts_rests.specs.Rests.{Within}
 use Rattle.replay_session.specs.Sessions.{Says, session_in}
@@ -54,8 +54,8 @@ returns-then-not-all_agree-clause-tried_by c =
     let n = subst (Says (AllAgree a.at.carried f.result)) c.if-not-all_agree.true c.all_agree.ensures in
     (disagrees m z v a.work.now l.ready l.left a.first a.second a.third a.stage next many f.result found n))
 
-pub decide-found-requires : goal.decide-found-requires
-decide-found-requires c =
+pub decide-requires : goal.decide-requires
+decide-requires c =
     let a = c.args in
     let m = c.requires.0.0 in
     let v = c.requires.0.1 in
@@ -64,15 +64,15 @@ decide-found-requires c =
     let g = c.stage_at-g in
     (l.ready.sees.known.agree, slots-enough m v z a.numbers.now a.literals.now a.slots.now a.work.now (meet a.stage (objects (a.first ∷ a.second ∷ a.third ∷ []))) l, part-within m a.numbers.now a.literals.now (plainly m v z a.numbers.now a.literals.now a.slots.now a.work.now (meet a.stage (objects (a.first ∷ a.second ∷ a.third ∷ []))) l) a.at.met l.left g.result g.ensures, part-good m a.numbers.now a.literals.now (plainly m v z a.numbers.now a.literals.now a.slots.now a.work.now (meet a.stage (objects (a.first ∷ a.second ∷ a.third ∷ []))) l) a.at.met l.left g.result g.ensures, part-supported m a.numbers.now a.literals.now (plainly m v z a.numbers.now a.literals.now a.slots.now a.work.now (meet a.stage (objects (a.first ∷ a.second ∷ a.third ∷ []))) l) a.at.met l.left g.result g.ensures)
 
-pub returns-in_default-clause-tried_by : goal.returns-in_default-clause-tried_by
-returns-in_default-clause-tried_by c =
+pub returns-in_err-decide-clause-tried_by : goal.returns-in_err-decide-clause-tried_by
+returns-in_err-decide-clause-tried_by c =
     let a = c.args in let g = c.stage_at-g in let e1 = c.if-stage-i.false in let next : a.stage ≡ suc a.at.met = omega arith in let count = sym c.count.ensures ∙ c.if-count-g.false in
     (λ m v states l.
     let z = session_in states a.at in
     let many = of-record m a.numbers.now a.literals.now (plainly m v z a.numbers.now a.literals.now a.slots.now a.work.now (meet a.stage (objects (a.first ∷ a.second ∷ a.third ∷ []))) l) a.at.met l.left g.result g.ensures (λ x y. length (objects (a.first ∷ a.second ∷ a.third ∷ [])) ≡ y.variables) count in
-    let held = of-record m a.numbers.now a.literals.now (plainly m v z a.numbers.now a.literals.now a.slots.now a.work.now (meet a.stage (objects (a.first ∷ a.second ∷ a.third ∷ []))) l) a.at.met l.left g.result g.ensures (λ x y. Decides y.variables (Holding m z (stage_body x y) y.variables (choice a.first a.second a.third)) Nowhere)
-    (subst (Decides g.result.variables _) c.in_default.is (c.decide-found.ensures m v z l.ready (lent m a.numbers.now a.literals.now (plainly m v z a.numbers.now a.literals.now a.slots.now a.work.now (meet a.stage (objects (a.first ∷ a.second ∷ a.third ∷ []))) l) a.at.met l.left g.result g.ensures (λ x y. Within l.ready.relations (stage_body x y)) (l.rests a.at.met l.left next)) l.seats refl)) in
-    (not-held m z v a.work.now l.ready l.left a.first a.second a.third a.stage next many held))
+    let held = of-record m a.numbers.now a.literals.now (plainly m v z a.numbers.now a.literals.now a.slots.now a.work.now (meet a.stage (objects (a.first ∷ a.second ∷ a.third ∷ []))) l) a.at.met l.left g.result g.ensures (λ x y. Decides y.variables (Holding m z (stage_body x y) y.variables (choice a.first a.second a.third)) None)
+    (c.in_err-decide.ensures m v z l.ready (lent m a.numbers.now a.literals.now (plainly m v z a.numbers.now a.literals.now a.slots.now a.work.now (meet a.stage (objects (a.first ∷ a.second ∷ a.third ∷ []))) l) a.at.met l.left g.result g.ensures (λ x y. Within l.ready.relations (stage_body x y)) (l.rests a.at.met l.left next)) l.seats refl) in
+    rw c.from_residual.ensures (not-held m z v a.work.now l.ready l.left a.first a.second a.third a.stage next many held))
 
 pub overflow_add-result-2 : goal.overflow_add-result-2
 overflow_add-result-2 c = record { fits = omega (arith, c.requires.0.3.ready.room) }
@@ -86,6 +86,6 @@ returns-clause-tried_by c =
     let f = c.all_named-objects in
     let found = of-record m a.numbers.now a.literals.now (plainly m v z a.numbers.now a.literals.now a.slots.now a.work.now (meet a.stage (objects (a.first ∷ a.second ∷ a.third ∷ []))) l) a.at.met l.left g.result g.ensures (λ x y. (u : ℕ) → u < limit.carried → Named y (carried_at m u) (choice a.first a.second a.third) (get_or f.result u 0)) (named-row m a.numbers.now g.result (choice a.first a.second a.third) f.result l.numbered f.ensures) in
     let agree = subst (Says (AllAgree a.at.carried f.result)) c.if-not-all_agree.false c.all_agree.ensures in
-    let held = of-record m a.numbers.now a.literals.now (plainly m v z a.numbers.now a.literals.now a.slots.now a.work.now (meet a.stage (objects (a.first ∷ a.second ∷ a.third ∷ []))) l) a.at.met l.left g.result g.ensures (λ x y. Decides y.variables (Holding m z (stage_body x y) y.variables (choice a.first a.second a.third)) (At c.in-At.field-0))
-    (subst (Decides g.result.variables _) c.in-At.is (c.decide-found.ensures m v z l.ready (lent m a.numbers.now a.literals.now (plainly m v z a.numbers.now a.literals.now a.slots.now a.work.now (meet a.stage (objects (a.first ∷ a.second ∷ a.third ∷ []))) l) a.at.met l.left g.result g.ensures (λ x y. Within l.ready.relations (stage_body x y)) (l.rests a.at.met l.left next)) l.seats refl)) in
+    let held = of-record m a.numbers.now a.literals.now (plainly m v z a.numbers.now a.literals.now a.slots.now a.work.now (meet a.stage (objects (a.first ∷ a.second ∷ a.third ∷ []))) l) a.at.met l.left g.result g.ensures (λ x y. Decides y.variables (Holding m z (stage_body x y) y.variables (choice a.first a.second a.third)) (Some c.in_ok-decide.field-0))
+    (c.in_ok-decide.ensures m v z l.ready (lent m a.numbers.now a.literals.now (plainly m v z a.numbers.now a.literals.now a.slots.now a.work.now (meet a.stage (objects (a.first ∷ a.second ∷ a.third ∷ []))) l) a.at.met l.left g.result g.ensures (λ x y. Within l.ready.relations (stage_body x y)) (l.rests a.at.met l.left next)) l.seats refl) in
     (meeting-kept m z v a.work.now l.ready l.left a.first a.second a.third a.stage next many f.result found agree c.carry_all.result c.carry_all.ensures _ held.good))

@@ -1,8 +1,7 @@
-use mathlib.Core.Path.{refl, subst}
+use mathlib.Core.Path.{refl}
 use native.Mathlib.Omega.{arith}
 use Rattle.model.specs.declared.Action.TheVariants.{New}
 use Rattle.model.specs.Records.{clause_body}
-use Rattle.facts_find.specs.Bodies.{Decides}
 use Rattle.replay_session.specs.Sessions.{session_in}
 use Rattle.replay_steps.proofs.Steps.{on-action, part-within, part-good, part-supported, part-vars, line-variables, slots-enough, only, objects-below, new-kept, new-other, new-fails}
 use Rattle.replay_steps.proofs.create.Goals as goal
@@ -14,34 +13,34 @@ returns-then-object-n-clause-tried_by c =
     (new-other m (session_in states a.at) v a.work.now t.ready t.left a.c.line a.object a.set (clause_body a.literals.now a.c) a.c.variables
     (on-action m v (session_in states a.at) a.literals.now a.slots.now a.work.now a.c t (New a.set) c.requires.2) c.if-object-n.true))
 
-pub decide-found-requires : goal.decide-found-requires
-decide-found-requires c =
+pub decide-requires : goal.decide-requires
+decide-requires c =
     let a = c.args in
     let m = c.requires.0.0 in let v = c.requires.0.1 in let t = c.requires.0.3 in
     let z = session_in c.requires.0.2 a.at in
     (t.ready.sees.known.agree, slots-enough m v z a.literals.now a.slots.now a.work.now a.c t, part-within m v z a.literals.now a.slots.now a.work.now a.c t, part-good m v z a.literals.now a.slots.now a.work.now a.c t, part-supported m v z a.literals.now a.slots.now a.work.now a.c t)
 
-pub returns-in_default-clause-tried_by : goal.returns-in_default-clause-tried_by
-returns-in_default-clause-tried_by c =
+pub returns-in_err-helpers-clause-tried_by : goal.returns-in_err-helpers-clause-tried_by
+returns-in_err-helpers-clause-tried_by c =
     let a = c.args in
-    (λ m v states t.
+    rw c.from_residual.ensures (λ m v states t.
     (new-fails m (session_in states a.at) v a.work.now t.ready t.left a.c.line a.object a.set (clause_body a.literals.now a.c) a.c.variables
     (on-action m v (session_in states a.at) a.literals.now a.slots.now a.work.now a.c t (New a.set) c.requires.2)
-    (subst (Decides a.c.variables _) c.in_default.is (c.decide-found.ensures m v (session_in states a.at) t.ready t.rests t.seats refl))))
+    (c.in_err-helpers.ensures m v (session_in states a.at) t.ready t.rests t.seats refl)))
 
 pub number-stood-requires : goal.number-stood-requires
 number-stood-requires c =
     let a = c.args in
     let m = c.requires.0.0 in let v = c.requires.0.1 in let t = c.requires.0.3 in
     let z = session_in c.requires.0.2 a.at in
-    let first = subst (Decides a.c.variables _) c.in-At.is (c.decide-found.ensures m v z t.ready t.rests t.seats refl) in
+    let first = c.in_ok-helpers.ensures m v z t.ready t.rests t.seats refl in
     objects-below m z v a.work.now t.ready t.left a.c.line a.object (clause_body a.literals.now a.c) a.c.variables (only 255) _ (part-vars m v z a.literals.now a.slots.now a.work.now a.c t) first.good
 
 pub returns-clause-tried_by : goal.returns-clause-tried_by
 returns-clause-tried_by c =
     let a = c.args in
     (λ m v states t.
-    let first = subst (Decides a.c.variables _) c.in-At.is (c.decide-found.ensures m v (session_in states a.at) t.ready t.rests t.seats refl) in
+    let first = c.in_ok-helpers.ensures m v (session_in states a.at) t.ready t.rests t.seats refl in
     rw c.onward.ensures (new-kept m (session_in states a.at) v a.work.now t.ready t.left a.c.line a.object a.set (clause_body a.literals.now a.c) a.c.variables
     (on-action m v (session_in states a.at) a.literals.now a.slots.now a.work.now a.c t (New a.set) c.requires.2)
     (line-variables m v (session_in states a.at) a.literals.now a.slots.now a.work.now a.c t (New a.set) c.requires.2) c.if-object-n.false _ c.number-stood.result first c.number-stood.ensures))

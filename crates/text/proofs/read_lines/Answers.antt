@@ -1,4 +1,5 @@
-use mathlib.Core.Path.{◌≡◌, sym, ◌∙◌}
+use mathlib.Core.Path.{◌≡◌, sym, ap, ◌∙◌}
+use Rattle.rows.specs.Rows.{row_number}
 use native.Mathlib.Omega.{arith}
 use lib.Seq.{length-take-le}
 use Rattle.model.specs.Records.{program_of}
@@ -53,12 +54,12 @@ returns-in_default c =
     let l = line-found c.line_end-e.ensures c.if-e-text.false in
     rw (i.2, line_unshaped i.1 l (c.in_default.ensures (c.at_bytes.ensures.missing c.if-at_bytes.false))) c.refusal-in_default.ensures
 
-pub returns-then-s-ne0 : goal.returns-then-s-ne0
-returns-then-s-ne0 c =
+pub returns-in-Some-row : goal.returns-in-Some-row
+returns-in-Some-row c =
     let i = c.loop-at.invariant in
     let l = line-found c.line_end-e.ensures c.if-e-text.false in
     let s = c.in-Some.ensures.steps (program_of c.loop-at.m) i.1.holds in
-    rw (i.2, line_refused i.1 l s c.if-s-ne0.true) c.refusal-then-s-ne0.ensures
+    rw (i.2, line_refused i.1 l s c.in-Some-row.is) c.refusal-in-Some-row.ensures
 
 pub overflow_add-at : goal.overflow_add-at
 overflow_add-at c = let h = c.line_end-e.ensures.within in omega (arith, c.loop-at.invariant.0)
@@ -76,7 +77,7 @@ loop-at-preserved c =
     let a = c.at_bytes.ensures.missing c.if-at_bytes.false in
     let r = c.in-Some.ensures in
     let s = r.steps (program_of c.loop-at.m) i.1.holds in
-    let z : c.in-Some.s.number ≡ 0 = omega (arith, c.if-s-ne0.false) in
+    let z : row_number c.in-Some.s.row ≡ 0 = ap row_number c.in_default-row.is in
     (i.0, reached-on i.1 l s z r.aside, i.2 ∙ onwards-on i.1 l s z a)
 
 pub returns : goal.returns

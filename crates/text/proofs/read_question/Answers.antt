@@ -1,4 +1,5 @@
-use mathlib.Core.Path.{sym}
+use mathlib.Core.Path.{sym, ap}
+use Rattle.rows.specs.Rows.{row_number}
 use native.Mathlib.Omega.{arith}
 use lib.Seq.{length-take-le}
 use Rattle.text_opening.proofs.Laws.{fitted-empty}
@@ -20,11 +21,11 @@ read_ask-requires c =
 pub returns-in_default : goal.returns-in_default
 returns-in_default c = rw (ask-unshaped c.requires.1 c.requires.2 c.in_default.ensures) c.refusal.ensures
 
-pub returns-then-r-ne0 : goal.returns-then-r-ne0
-returns-then-r-ne0 c = rw (ask-refused c.requires.1 c.requires.2 c.in-Some.ensures c.if-r-ne0.true) c.refusal-then-r-ne0.ensures
+pub returns-in-Some-row : goal.returns-in-Some-row
+returns-in-Some-row c = rw (ask-refused c.requires.1 c.requires.2 c.in-Some.ensures c.in-Some-row.is) c.refusal-in-Some-row.ensures
 
 pub returns-then-e-text : goal.returns-then-e-text
-returns-then-e-text c = rw (ask-followed c.requires.1 c.requires.2 c.in-Some.ensures (omega (arith, c.if-r-ne0.false)) c.if-e-text.true) c.refusal-then-e-text.ensures
+returns-then-e-text c = rw (ask-followed c.requires.1 c.requires.2 c.in-Some.ensures (ap row_number c.in_default-row.is) c.if-e-text.true) c.refusal-then-e-text.ensures
 
 pub returns : goal.returns
-returns c = ask-last c.requires.1 c.requires.2 c.in-Some.ensures (omega (arith, c.if-r-ne0.false)) (omega (arith, c.if-e-text.false)) c.fit-f.ensures
+returns c = ask-last c.requires.1 c.requires.2 c.in-Some.ensures (ap row_number c.in_default-row.is) (omega (arith, c.if-e-text.false)) c.fit-f.ensures

@@ -4,6 +4,7 @@ use native.Mathlib.Omega.{arith}
 use lib.Seq.{slice}
 use Rattle.grammar.specs.Shapes.{rel_rest}
 use Rattle.text_declarations.proofs.Laws.{room, rel-few, rel-unclosed, rel-part, rel-faulty, rel-added}
+use Rattle.rows.proofs.Laws.{row-some, row-none}
 use Rattle.text_declarations.proofs.read_rel.Goals as goal
 
 pub returns-in_err-e : goal.returns-in_err-e
@@ -33,22 +34,22 @@ overflow_add-e-3 c = omega (arith, (c.at_byte-2.ensures.found c.if-not-at_byte-2
 pub returns-then-e-text : goal.returns-then-e-text
 returns-then-e-text c = let x = c.in_ok-e.ensures in rel-part c.args.text.now c.args.d c.args.at c.in_ok-e.e c.in_ok-n.n x.read (c.at_byte.ensures.found c.if-not-at_byte.false).1 c.in_ok-n.ensures.read (c.at_byte-2.ensures.found c.if-not-at_byte-2.false).1 (c.at_byte-2.ensures.found c.if-not-at_byte-2.false).0 c.if-e-text.true
 
-pub rel_number-number-requires : goal.rel_number-number-requires
-rel_number-number-requires c = let x = c.in_ok-e.ensures in (c.requires.2, omega (arith, x.begins), x.ends)
+pub rel_row-row-requires : goal.rel_row-row-requires
+rel_row-row-requires c = let x = c.in_ok-e.ensures in (c.requires.2, omega (arith, x.begins), x.ends)
 
-pub returns-then-number-ne0 : goal.returns-then-number-ne0
-returns-then-number-ne0 c = let x = c.in_ok-e.ensures in rel-faulty c.args.text.now c.args.d c.args.at c.in_ok-e.e c.in_ok-n.n x.read (c.at_byte.ensures.found c.if-not-at_byte.false).1 c.in_ok-n.ensures.read (c.at_byte-2.ensures.found c.if-not-at_byte-2.false).1 c.if-e-text.false c.rel_number-number.ensures c.if-number-ne0.true
+pub returns-then-is_some : goal.returns-then-is_some
+returns-then-is_some c = let x = c.in_ok-e.ensures in rel-faulty c.args.text.now c.args.d c.args.at c.in_ok-e.e c.in_ok-n.n x.read (c.at_byte.ensures.found c.if-not-at_byte.false).1 c.in_ok-n.ensures.read (c.at_byte-2.ensures.found c.if-not-at_byte-2.false).1 c.if-e-text.false c.rel_row-row.ensures (row-some c.rel_row-row.result (sym c.is_some.ensures ∙ c.if-is_some.true))
 
 pub overflow_add-n : goal.overflow_add-n
 overflow_add-n c = omega (arith, c.in_ok-n.ensures.small)
 
 pub enter-r-requires : goal.enter-r-requires
 enter-r-requires c = let x = c.in_ok-e.ensures in let t = c.args.text.now in
-    let z = rel-few t c.args.d (slice c.args.at c.in_ok-e.e t) c.in_ok-n.n (sym c.rel_number-number.ensures ∙ c.if-number-ne0.false) in
+    let z = rel-few t c.args.d (slice c.args.at c.in_ok-e.e t) c.in_ok-n.n (sym c.rel_row-row.ensures ∙ row-none c.rel_row-row.result (sym c.is_some.ensures ∙ c.if-is_some.false)) in
     (room t c.args.d c.args.at c.in_ok-e.e c.requires.2 c.requires.3 (omega (arith, x.begins)) x.ends (inr z), c.requires.2.codes, omega (arith, x.begins), omega (arith, x.ends, c.requires.1), omega (arith, c.in_ok-n.ensures.small))
 
 pub returns : goal.returns
 returns c = let x = c.in_ok-e.ensures in let t = c.args.text.now in
-    let y = sym c.rel_number-number.ensures ∙ c.if-number-ne0.false in
+    let y = sym c.rel_row-row.ensures ∙ row-none c.rel_row-row.result (sym c.is_some.ensures ∙ c.if-is_some.false) in
     rel-added c.args.text.now c.args.d c.args.at c.in_ok-e.e c.in_ok-n.n x.read (c.at_byte.ensures.found c.if-not-at_byte.false).1 c.in_ok-n.ensures.read (c.at_byte-2.ensures.found c.if-not-at_byte-2.false).1 c.if-e-text.false
     c.in_ok-n.ensures.small c.requires.2 c.requires.3 (omega (arith, x.begins)) x.ends y (rel-few t c.args.d (slice c.args.at c.in_ok-e.e t) c.in_ok-n.n y) c.enter-r.ensures

@@ -7,8 +7,8 @@ use borrow.Author.Tests.{ne_eqb, lt-leb}
 use Rattle.text_names.specs.Names.{declared_of}
 use Rattle.text_names.proofs.Laws.{tally-count}
 use Rattle.text_declarations.proofs.Laws.{tally-le, rel-crowded, rel-pairs, rel-free, rel-again}
-use Rattle.text_declarations.proofs.rel_number.Goals as goal
-use Rattle.text_declarations.proofs.rel_number.Goals.{else-n-eq2-via-else-n-eq2, else-n-eq2-via-then-n-eq2+else-pairs-ge-PAIRS}
+use Rattle.text_declarations.proofs.rel_row.Goals as goal
+use Rattle.text_declarations.proofs.rel_row.Goals.{else-n-eq2-via-else-n-eq2, else-n-eq2-via-then-n-eq2+else-pairs-ge-PAIRS}
 
 pub tally_of-nullary-requires : goal.tally_of-nullary-requires
 tally_of-nullary-requires c = (c.requires.0.count, c.requires.0.codes)

@@ -3,7 +3,7 @@ use lib.Seq.{slice}
 use Rattle.text_names.specs.Names.{declared_of}
 use Rattle.text_names.proofs.Laws.{tally-count}
 use Rattle.text_declarations.proofs.Laws.{state-crowded, state-free, state-again}
-use Rattle.text_declarations.proofs.state_number.Goals as goal
+use Rattle.text_declarations.proofs.state_row.Goals as goal
 
 pub tally_of-requires : goal.tally_of-requires
 tally_of-requires c = (c.requires.0.count, c.requires.0.codes)

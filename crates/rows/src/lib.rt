@@ -1,0 +1,41 @@
+// The rows of the table of refusals, by name; no text and no call is refused 13.
+#![tactic(auto)]
+
+ghost use Rattle.std.specs.Prelude.{◌≡◌};
+ghost use Rattle.rows.specs.Rows.{number_of};
+
+// Why a text or a call is refused.
+#[derive(Clone, Copy, PartialEq, Eq, PartialOrd, Ord)]
+pub enum Row {
+    Size = 1,
+    Byte = 2,
+    Shape = 3,
+    Count = 4,
+    Again = 5,
+    Kind = 6,
+    Arity = 7,
+    Negation = 8,
+    Variables = 9,
+    End = 10,
+    Carried = 11,
+    Lent = 12,
+    Length = 14,
+    States = 15,
+    Place = 16,
+    NoVariable = 17,
+    Objects = 18,
+    Lines = 19,
+    Processes = 20,
+    Moves = 21,
+    Question = 22,
+    Unreachable = 23,
+}
+
+impl Row {
+    // The row's number in the table.
+    pub fn number(self) -> u32
+        ensures { result ≡ number_of self }
+    {
+        self as u32
+    }
+}
