@@ -5,7 +5,7 @@ ghost use Rattle.std.specs.Prelude.{◌≤◌, length, List, ℕ};
 ghost use Rattle.grammar.specs.Bytes.{Word};
 ghost use Rattle.grammar.specs.Forms as form;
 ghost use Rattle.grammar.specs.Shapes.{Read, name, rest, atom, literal, list, stage};
-ghost use Rattle.display_shapes.specs.Ends.{Ends};
+ghost use Rattle.display_shapes.specs.Ends.{Ends, after_space};
 ghost use Rattle.display_shapes.specs.Rows.{Behind, Picked};
 
 use limits::{BODY, LIST};
@@ -48,6 +48,25 @@ impl Item for Name {
     }
 }
 
+pub struct Names;
+
+impl Item for Names {
+    ghost Value = { List Word };
+
+    ghost read = { list };
+
+    fn end(text: &[u8], at: usize) -> Option<usize> {
+        if at_bytes(text, at, b"()") {
+            return Some(at + 2);
+        }
+        if !at_byte(text, at, b'(') {
+            return None;
+        }
+        let e = text_scan::name_end(text, at + 1)?;
+        items_end::<Name>(text, e, NAMES)
+    }
+}
+
 pub struct Literal;
 
 impl Item for Literal {
@@ -86,6 +105,17 @@ impl Item for Stage {
     }
 }
 
+// Where a space and the item behind it end.
+pub fn spaced_end<T: Item>(text: &[u8], at: usize) -> Option<usize>
+    ensures { Ends (after_space T.read) text.now at result }
+{
+    if at_byte(text, at, b' ') {
+        T::end(text, at + 1)
+    } else {
+        None
+    }
+}
+
 // Where at most n items, each after a space, end with the closing bracket.
 pub fn items_end<T: Item>(text: &[u8], at: usize, n: usize) -> Option<usize>
     requires { at ≤ length text.now }
@@ -106,21 +136,6 @@ pub fn items_end<T: Item>(text: &[u8], at: usize, n: usize) -> Option<usize>
     } else {
         None
     }
-}
-
-// Where the list that is next ends.
-pub fn list_end(text: &[u8], at: usize) -> Option<usize>
-    requires { at ≤ length text.now }
-    ensures { Ends list text.now at result }
-{
-    if at_bytes(text, at, b"()") {
-        return Some(at + 2);
-    }
-    if !at_byte(text, at, b'(') {
-        return None;
-    }
-    let e = text_scan::name_end(text, at + 1)?;
-    items_end::<Name>(text, e, NAMES)
 }
 
 // Where the atom that is next ends.

@@ -1,5 +1,5 @@
 use Rattle.display_shapes.proofs.Laws.{list-empty, list-unopened, list-nameless, list-found}
-use Rattle.display_shapes.proofs.list_end.Goals as goal
+use Rattle.display_shapes.proofs.NamesItem.end.Goals as goal
 
 pub returns-then-at_bytes : goal.returns-then-at_bytes
 returns-then-at_bytes c = let f = c.at_bytes.ensures.found c.if-at_bytes.true in list-empty c.args.text.now c.args.at f.0 f.1
