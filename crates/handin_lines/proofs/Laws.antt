@@ -1,18 +1,18 @@
 -- Laws of the parts of a line: bytes, words, numerals and the end.
 use mathlib.Core.Path.{◌≡◌, refl, sym, ap, ◌∙◌}
-use mathlib.Core.Logic.{◌⊎◌, inl, inr, ⊎_elim}
-use mathlib.Core.Bool.{Bool, true, false, cond, not, and-true, or-true, or-false}
+use mathlib.Core.Logic.{⊎_elim}
+use mathlib.Core.Bool.{Bool, true, false, cond, not, or-true, or-false}
 use mathlib.Core.List.{List, [], ◌∷◌}
 use mathlib.Core.Option.{Option, none, some, none-ne-some}
 use Rattle.std.specs.Prelude as std
 use Rattle.std.specs.Prelude.{Some, None}
 use Prim.Native.Nat.{ℕ, zero, suc, ◌+◌, ◌-◌, ◌*◌, ◌≤◌, ◌<◌}
 use native.Mathlib.Omega.{arith}
-use lib.Dec.{eqb, leb}
+use lib.Dec.{eqb}
 use lib.ListN.{length, drop, get_or, length-drop}
 use lib.Seq.{length-slice}
 use borrow.Author.Tests.{lt-leb, le-leb, lt-ltb, le-ltb, eqb-true, eqb-false, eq-eqb, ne_eqb}
-use Rattle.grammar.specs.Bytes.{bytes, digit, alphanumeric, Word}
+use Rattle.grammar.specs.Bytes.{bytes, digit, Word}
 use Rattle.grammar.specs.Shapes.{Read, ◌>>=◌, after, word, rest, whole}
 use Rattle.grammar.proofs.Tests.{either}
 use Rattle.grammar.proofs.Reading.{onto, rest-closes, rest-ends, rest-fails, rest-item}

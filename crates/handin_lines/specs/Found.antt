@@ -8,10 +8,8 @@ use Rattle.grammar.specs.Bytes.{bytes}
 use Rattle.grammar.specs.Shapes.{Read, ◌>>=◌, after}
 use Rattle.listing_bytes.specs.Numerals.{value_after}
 use Rattle.handin_lines.specs.Lines as lines
-use Rattle.handin_lines.specs.Lines.{digits, after_digits, number, below, nothing, place}
+use Rattle.handin_lines.specs.Lines.{digits, after_digits, number, below, Said, nothing, place}
 use Rattle.handin_lines.specs.declared.Number.{Number}
-use Rattle.handin_lines.specs.declared.Said.{Said}
-use Rattle.handin_lines.specs.declared.Said.TheVariants.{Nothing, Place}
 
 -- a number as it is kept: from 8,388,608 on all are alike
 abbrev pub cut : ℕ → ℕ
@@ -58,23 +56,17 @@ last (some []) = true
 last (some (b ∷ s)) = false
 
 -- the place with number n, if the line ends with the bracket that is next
-abbrev pub met : List ℕ → ℕ → ℕ → std.Option Said
-met line at n = cond (last (after (bytes ")") (drop at line))) (Some (Place n)) None
-
--- what a line says, a place by its number
-abbrev pub answer : Option lines.Said → std.Option Said
-answer none = None
-answer (some nothing) = Some Nothing
-answer (some (place p)) = Some (Place (number_of p))
+abbrev pub met : List ℕ → ℕ → ℕ → std.Option ℕ
+met line at n = cond (last (after (bytes ")") (drop at line))) (Some n) None
 
 -- whether a line says nothing
-abbrev pub is_silent : Option lines.Said → Bool
+abbrev pub is_silent : Option Said → Bool
 is_silent none = false
 is_silent (some nothing) = true
 is_silent (some (place p)) = false
 
 -- the number of the place that a line says
-abbrev pub number_said : Option lines.Said → std.Option ℕ
+abbrev pub number_said : Option Said → std.Option ℕ
 number_said none = None
 number_said (some nothing) = None
 number_said (some (place p)) = Some (number_of p)

@@ -9,18 +9,11 @@ ghost use Rattle.model.specs.Places.{numeral};
 ghost use Rattle.grammar.specs.Bytes.{bytes};
 ghost use Rattle.grammar.specs.Shapes.{after, whole};
 ghost use Rattle.handin_lines.specs.Lines.{verdict, below, nothing, states_rest, atomic_rest, step_rest, meet_rest, said_by};
-ghost use Rattle.handin_lines.specs.Found.{cut, DigitsEnd, NumberEnd, BelowEnd, object, last, met, answer, is_silent, number_said, clear};
+ghost use Rattle.handin_lines.specs.Found.{cut, DigitsEnd, NumberEnd, BelowEnd, object, last, met, is_silent, number_said, clear};
 
 use limits::NONE;
 use model::{Place, number_of};
 use text_scan::{at_byte, at_bytes, same_words, word_end};
-
-// What a line after the first says: nothing, or the place with this number.
-#[derive(Clone, Copy)]
-enum Said {
-    Nothing,
-    Place { number: u32 },
-}
 
 // A number, and where it ends.
 #[derive(Clone, Copy)]
@@ -33,6 +26,7 @@ struct Number {
 const LARGE: u32 = 8_388_608;
 
 // Whether the line ends with the bracket that is next.
+// The line and a place in it stay two parameters: the readers of `text_scan`, which these ask, take both.
 fn ends(line: &[u8], at: usize) -> bool
     requires { at ≤ length line.now }
     ensures { result ≡ last (after (bytes ")") (drop at line.now)) }
@@ -41,6 +35,7 @@ fn ends(line: &[u8], at: usize) -> bool
 }
 
 // Whether words are next, up to the end of the line.
+// The walk stays a `while`: each word begins where the one before it ends.
 fn is_words(line: &[u8], at: usize) -> bool
     requires { at ≤ length line.now }
     ensures { whole (atomic_rest (drop at line.now)) ≡ cond result (some nothing) none }
@@ -133,24 +128,22 @@ fn is_number(line: &[u8], at: usize) -> bool
     }
 }
 
-// The place, if the line ends with the bracket that is next.
-fn end_place(line: &[u8], at: usize, p: Place) -> Option<Said>
+// The number of the place, if the line ends with the bracket that is next.
+fn end_place(line: &[u8], at: usize, p: Place) -> Option<u32>
     requires { at ≤ length line.now }
     ensures { result ≡ met line.now at (numeral p) }
 {
     if ends(line, at) {
-        Some(Said::Place {
-            number: number_of(p),
-        })
+        Some(number_of(p))
     } else {
         None
     }
 }
 
-// What is left of a `step` line after its first word.
-fn read_step(line: &[u8], at: usize) -> Option<Said>
+// The number of the place that is left of a `step` line after its first word.
+fn read_step(line: &[u8], at: usize) -> Option<u32>
     requires { at ≤ length line.now }
-    ensures { result ≡ answer (whole (step_rest (drop at line.now))) }
+    ensures { result ≡ number_said (whole (step_rest (drop at line.now))) }
 {
     let n = read_below(line, at, LARGE)?;
     let o = read_object(line, n.end)?;
@@ -164,7 +157,7 @@ fn read_step(line: &[u8], at: usize) -> Option<Said>
     )
 }
 
-// The meeting of these objects, if the line ends with the bracket that is next.
+// The number of the meeting of these objects, if the line ends with the bracket that is next.
 fn end_meeting(
     line: &[u8],
     at: usize,
@@ -172,7 +165,7 @@ fn end_meeting(
     first: u32,
     second: u32,
     third: u32,
-) -> Option<Said>
+) -> Option<u32>
     requires { at ≤ length line.now }
     ensures { result ≡ met line.now at (numeral (Meeting stage first second third)) }
 {
@@ -188,10 +181,10 @@ fn end_meeting(
     )
 }
 
-// What is left of a `meet` line after its first word.
-fn read_meeting(line: &[u8], at: usize) -> Option<Said>
+// The number of the place that is left of a `meet` line after its first word.
+fn read_meeting(line: &[u8], at: usize) -> Option<u32>
     requires { at ≤ length line.now }
-    ensures { result ≡ answer (whole (meet_rest (drop at line.now))) }
+    ensures { result ≡ number_said (whole (meet_rest (drop at line.now))) }
 {
     let n = read_below(line, at, 128)?;
     let Some(a) = read_object(line, n.end) else {
@@ -206,23 +199,23 @@ fn read_meeting(line: &[u8], at: usize) -> Option<Said>
     end_meeting(line, c.end, n.value, a.value, b.value, c.value)
 }
 
-// Nothing, if the line is one that says so.
-fn nothing_if(known: bool) -> Option<Said>
-    ensures { result ≡ answer (cond known (some nothing) none) }
-{
-    known.then_some(Said::Nothing)
-}
-
-// A line after the first, if it can be read.
-fn read_line(line: &[u8]) -> Option<Said>
-    ensures { result ≡ answer (said_by line.now) }
+// Whether a line after the first says nothing.
+pub fn says_nothing(line: &[u8]) -> bool
+    ensures { result ≡ is_silent (said_by line.now) }
 {
     if at_bytes(line, 0, b"(states ") {
-        return nothing_if(is_number(line, 8));
+        return is_number(line, 8);
     }
     if at_bytes(line, 0, b"(atomic") {
-        return nothing_if(is_words(line, 7));
+        return is_words(line, 7);
     }
+    false
+}
+
+// The number of the place that a line after the first says.
+pub fn read_place(line: &[u8]) -> Option<u32>
+    ensures { result ≡ number_said (said_by line.now) }
+{
     if at_bytes(line, 0, b"(step ") {
         return read_step(line, 6);
     }
@@ -230,23 +223,6 @@ fn read_line(line: &[u8]) -> Option<Said>
         return read_meeting(line, 6);
     }
     None
-}
-
-// Whether a line after the first says nothing.
-pub fn says_nothing(line: &[u8]) -> bool
-    ensures { result ≡ is_silent (said_by line.now) }
-{
-    matches!(read_line(line), Some(Said::Nothing))
-}
-
-// The number of the place that a line after the first says.
-pub fn read_place(line: &[u8]) -> Option<u32>
-    ensures { result ≡ number_said (said_by line.now) }
-{
-    match read_line(line) {
-        Some(Said::Place { number }) => Some(number),
-        _ => None,
-    }
 }
 
 // Whether the first line says yes, if it can be read.

@@ -1,5 +1,3 @@
-use Prim.Native.Nat.{◌+◌}
-use lib.Dec.{eqb}
 use Rattle.handin_lines.proofs.Laws.{number-empty, number-single, number-zero, number-found}
 use Rattle.handin_lines.proofs.read_number.Goals as goal
 use Rattle.handin_lines.proofs.read_number.Goals.{else-r-at-2-via-then-r-at-2+else-line-at-eq48, else-r-at-2-via-else-r-at-2}

@@ -1,4 +1,4 @@
-use Rattle.handin_lines.proofs.Laws.{object-found, object-missing}
+use Rattle.handin_lines.proofs.Laws.{object-found}
 use Rattle.handin_lines.proofs.read_object.Goals as goal
 
 pub returns-then-at_byte : goal.returns-then-at_byte
