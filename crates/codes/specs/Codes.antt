@@ -1,7 +1,7 @@
 -- THE NUMBERS OF ANSWERS: kind × 2^32 + value; of what is shown: where it begins × 2^32, and what else there is to say of it.
-use Rattle.std.specs.Prelude.{cond, ℕ, ◌+◌, ◌*◌}
-use Rattle.handin.specs.declared.Handin.{Handin}
-use Rattle.handin.specs.declared.Handin.TheVariants as said
+use Rattle.std.specs.Prelude.{cond, Option, Some, None, Result, Ok, Err, ℕ, ◌+◌, ◌*◌}
+use Rattle.handin.specs.declared.Run.{Run}
+use Rattle.handin.specs.declared.Unreadable as handin
 use Rattle.marker_worth.specs.declared.Mark.{Mark}
 use Rattle.marker_worth.specs.declared.Mark.TheVariants.{Refused, Unreadable, Right, Other, Breaks}
 use Rattle.display_shapes.specs.declared.Span.{Span}
@@ -11,10 +11,10 @@ abbrev pub code : ℕ → ℕ → ℕ
 code kind value = kind * 4294967296 + value
 
 -- WHAT A HAND-IN SAYS: kind 5 is unreadable, with the line; kind 9 no; kind 10 yes, with places × 65,536 + the line of the first
-abbrev pub handed : Handin → ℕ
-handed said.No = code 9 0
-handed (said.Yes first places) = code 10 (places * 65536 + first)
-handed (said.Unreadable line) = code 5 line
+abbrev pub handed : Result (Option Run) handin.Unreadable → ℕ
+handed (Ok None) = code 9 0
+handed (Ok (Some yes)) = code 10 (yes.places * 65536 + yes.first)
+handed (Err unreadable) = code 5 unreadable.line
 
 -- THE MARK: kind 2 is refused, with number × 65,536 + line; kind 5 unreadable, with the line; kind 6 right; kind 7 the other verdict, with 1 where that is reached; kind 8 a run that breaks, with place × 65,536 + line
 abbrev pub marked : Mark → ℕ

@@ -1,16 +1,16 @@
 -- NUMBERS THAT FIT their codes.
-use Rattle.std.specs.Prelude.{◌≤◌}
+use Rattle.std.specs.Prelude.{Option, Some, None, Result, Ok, Err, ◌≤◌}
 use Rattle.limits.specs.Limits as limit
-use Rattle.handin.specs.declared.Handin.{Handin}
-use Rattle.handin.specs.declared.Handin.TheVariants as said
+use Rattle.handin.specs.declared.Run.{Run}
+use Rattle.handin.specs.declared.Unreadable as handin
 use Rattle.marker_worth.specs.declared.Mark.{Mark}
 use Rattle.marker_worth.specs.declared.Mark.TheVariants.{Refused, Unreadable, Right, Other, Breaks}
 
 -- the run of a hand-in fits the table
-abbrev pub ShortRun : Handin → Type 0
-ShortRun said.No = Unit {0}
-ShortRun (said.Yes first places) = places ≤ limit.run
-ShortRun (said.Unreadable line) = Unit {0}
+abbrev pub ShortRun : Result (Option Run) handin.Unreadable → Type 0
+ShortRun (Ok None) = Unit {0}
+ShortRun (Ok (Some yes)) = yes.places ≤ limit.run
+ShortRun (Err unreadable) = Unit {0}
 
 -- it breaks at one of its places, or at its end
 abbrev pub LowPlace : Mark → Type 0

@@ -8,20 +8,18 @@ ghost use Rattle.codes.specs.Ranges.{ShortRun, LowPlace};
 
 use display::Declaration;
 use display_shapes::Span;
-use handin::Handin;
+use handin::{Run, Unreadable};
 use marker_worth::Mark;
 
 // The number of what a hand-in says.
-pub fn handed(said: Handin) -> u64
+pub fn handed(said: Result<Option<Run>, Unreadable>) -> u64
     requires { ShortRun said }
     ensures { result ≡ handin_code said }
 {
     match said {
-        Handin::No => 9 * 4_294_967_296,
-        Handin::Yes { first, places } => {
-            10 * 4_294_967_296 + (places as u64 * 65_536 + first as u64)
-        }
-        Handin::Unreadable { line } => 5 * 4_294_967_296 + line as u64,
+        Ok(None) => 9 * 4_294_967_296,
+        Ok(Some(yes)) => 10 * 4_294_967_296 + (yes.places as u64 * 65_536 + yes.first as u64),
+        Err(unreadable) => 5 * 4_294_967_296 + unreadable.line as u64,
     }
 }
 

@@ -10,8 +10,8 @@ use lib.Dec.{eqb}
 use lib.ListN.{length, take, drop, get_or, length-append, length-drop}
 use lib.Seq.{slice, drop-drop, take-append_seam}
 use borrow.Author.Tests.{eqb-true}
-use Rattle.grammar.specs.Bytes.{alphanumeric, Word, same, is_name}
-use Rattle.grammar.specs.Shapes.{word, after_word, name}
+use Rattle.grammar.specs.Bytes.{Word, same, is_name}
+use Rattle.grammar.specs.Shapes.{word, name}
 use Rattle.grammar.specs.Declarations.{member, extend}
 use Rattle.grammar.proofs.Tests.{either}
 use Rattle.grammar.proofs.Words.{same-eq, member-append, extend-append}
@@ -23,14 +23,11 @@ use Rattle.display_shapes.specs.Rows.{pick, Shown}
 use Rattle.display_parts.specs.Placed.{behind, spaced, leading, heading, Heads}
 use Rattle.display_parts.specs.declared.Part.{Part}
 use Rattle.display_shapes.specs.Ends.{after_space, EndsAt}
-use Rattle.display_shapes.proofs.Rows.{some-none, pick_out, same_read}
+use Rattle.display_shapes.proofs.Rows.{some-none, pick_out}
+use Rattle.display_parts.proofs.Inverse.{name-inverse, name-joined}
 use Rattle.display_variables.specs.Order.{behind_at, before, Within, BehindEnd, IsStale, FreshEnd}
 
 -- A NAME THAT IS READ has a letter, and stands at the front
-word-joined : (s : List ℕ) → s ≡ word s ++ after_word s
-word-joined [] = refl
-word-joined (b ∷ s) = ⊎_elim (λ (q : alphanumeric b ≡ true). rw q (ap (λ (t : List ℕ). b ∷ t) (word-joined s))) (λ (q : alphanumeric b ≡ false). rw q) (either (alphanumeric b))
-
 name-long : (w : Word) → is_name w ≡ true → 0 < length w
 unfolding is_name
 name-long [] h = absurd (let z : ◌≡◌ {A = ℕ} 0 1 = cc in omega arith)
@@ -38,11 +35,12 @@ name-long (b ∷ w) h = omega arith
 
 name-front : (s : List ℕ) {w t : List ℕ} → name s ≡ some (w, t) → (0 < length w) × (s ≡ w ++ t)
 unfolding name
-name-front s {w} {t} e = ⊎_elim
-    (λ (q : is_name (word s) ≡ true).
-      let (p, r) = same_read (rw q at e) in
-      rw (← p, ← r) (name-long (word s) q, word-joined s))
-    (λ (q : is_name (word s) ≡ false). some-none e (rw q)) (either (is_name (word s)))
+name-front s {w} {t} e = (
+  ⊎_elim
+  (λ (q : is_name (word s) ≡ true). let (p, r) = name-inverse s e in rw p (name-long (word s) q))
+  (λ (q : is_name (word s) ≡ false). some-none e (rw q)) (either (is_name (word s))),
+  name-joined s e,
+)
 
 name-slice : (line : List ℕ) (a e : ℕ) {w : List ℕ} → a ≤ e → e ≤ length line → name (drop a line) ≡ some (w, drop e line) → (a < e) × (w ≡ slice a e line)
 name-slice line a e {w} h k n =

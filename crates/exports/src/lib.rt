@@ -18,7 +18,7 @@ ghost use Rattle.exports.specs.Ranges.{ShortRun, LowPlace, LowNumber, Shown, Sma
 
 use analyzer_verdict::Analysis;
 use asbestos_writer::CELLS;
-use handin::Handin;
+use handin::{Run, Unreadable};
 use limits::{LISTED, OBJECTS, RUN, TEXT};
 use replay_session::Session;
 
@@ -221,11 +221,11 @@ pub extern "C" fn eon_line(text: &[u8], i: usize) -> u64
 }
 
 // Writes the run of a hand-in that says yes into the table.
-fn write_run(handin: &[u8], said: Handin, run: &mut [u32])
+fn write_run(handin: &[u8], said: Result<Option<Run>, Unreadable>, run: &mut [u32])
     requires { (limit.run ≤ length run.old) × (said ≡ told (reading handin.now)) }
     ensures { run.new ≡ written (reading handin.now) run.old }
 {
-    if let Handin::Yes { .. } = said {
+    if let Ok(Some(_)) = said {
         handin::write(handin, run);
     }
 }

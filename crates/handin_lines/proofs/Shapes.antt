@@ -39,21 +39,21 @@ pub step-lineless : (s : List ℕ) → below 8388608 s ≡ none → None ≡ num
 unfolding step_rest
 step-lineless s z = rw z
 
-module _ {text : List ℕ} {at : ℕ} {n : Number} (stepped : BelowAt text at 8388608 (below 8388608 (drop at text)) n) where
+module _ (l : List ℕ) {n : Number} (stepped : BelowAt 8388608 (below 8388608 l) n) where
   abbrev rest_of : ℕ × List ℕ → Read Said
   rest_of p = after (bytes ")") p.1 >>= λ z. some (place (step n.value p.0), z)
 
-  step-read : step_rest (drop at text) ≡ (object (drop n.end text) >>= rest_of)
+  step-read : step_rest l ≡ (object n.rest.now >>= rest_of)
   unfolding step_rest
-  step-read = rw stepped.found (object-then rest_of (after (bytes " ") (drop n.end text)))
+  step-read = rw stepped.found (object-then rest_of (after (bytes " ") n.rest.now))
 
-  pub step-objectless : object (drop n.end text) ≡ none → None ≡ number_said (whole (step_rest (drop at text)))
+  pub step-objectless : object n.rest.now ≡ none → None ≡ number_said (whole (step_rest l))
   step-objectless z = rw (step-read, z)
 
-  pub step-found : {o : Number} → BelowAt text n.end 255 (object (drop n.end text)) o → met text o.end (numeral (Step n.value o.value)) ≡ number_said (whole (step_rest (drop at text)))
+  pub step-found : {o : Number} → BelowAt 255 (object n.rest.now) o → met o.rest.now (numeral (Step n.value o.value)) ≡ number_said (whole (step_rest l))
   step-found {o} moved =
       let e : numeral (Step n.value o.value) ≡ number_of (step n.value o.value) = omega (arith, stepped.small, moved.small) in
-      rw (step-read, moved.found, e) (end-place (step n.value o.value) (after (bytes ")") (drop o.end text)))
+      rw (step-read, moved.found, e) (end-place (step n.value o.value) (after (bytes ")") o.rest.now))
 
 -- MEETINGS
 -- one object more
@@ -84,42 +84,42 @@ pub meet-stageless : (s : List ℕ) → below 128 s ≡ none → None ≡ number
 unfolding meet_rest
 meet-stageless s z = rw z
 
-module _ {text : List ℕ} {at : ℕ} {n : Number} (staged : BelowAt text at 128 (below 128 (drop at text)) n) where
+module _ (l : List ℕ) {n : Number} (staged : BelowAt 128 (below 128 l) n) where
   -- the objects xs are read up to e, and no more follow
-  met-there : (xs : List ℕ) (k e number : ℕ) → number ≡ number_of (meet n.value xs) → rest (below 255) 3 (drop n.end text) ≡ onto xs (rest (below 255) k (drop e text))
-      → rest (below 255) k (drop e text) ≡ (after (bytes ")") (drop e text) >>= λ t. some ([], t)) → met text e number ≡ number_said (whole (meet_rest (drop at text)))
+  met-there : (xs : List ℕ) (k : ℕ) (e : List ℕ) (number : ℕ) → number ≡ number_of (meet n.value xs) → rest (below 255) 3 n.rest.now ≡ onto xs (rest (below 255) k e)
+      → rest (below 255) k e ≡ (after (bytes ")") e >>= λ t. some ([], t)) → met e number ≡ number_said (whole (meet_rest l))
   unfolding meet_rest
-  met-there xs k e number z r s = rw (staged.found, r, s, z) (met-end n.value xs (after (bytes ")") (drop e text)))
+  met-there xs k e number z r s = rw (staged.found, r, s, z) (met-end n.value xs (after (bytes ")") e))
 
-  pub meet-none : object (drop n.end text) ≡ none → met text n.end (numeral (Meeting n.value 255 255 255)) ≡ number_said (whole (meet_rest (drop at text)))
+  pub meet-none : object n.rest.now ≡ none → met n.rest.now (numeral (Meeting n.value 255 255 255)) ≡ number_said (whole (meet_rest l))
   meet-none z =
-      met-there [] 3 n.end (numeral (Meeting n.value 255 255 255)) (omega (arith, staged.small))
-      (sym (onto-nothing (rest (below 255) 3 (drop n.end text)))) (object-none 3 (drop n.end text) z)
+      met-there [] 3 n.rest.now (numeral (Meeting n.value 255 255 255)) (omega (arith, staged.small))
+      (sym (onto-nothing (rest (below 255) 3 n.rest.now))) (object-none 3 n.rest.now z)
 
-  module _ {a : Number} (one : BelowAt text n.end 255 (object (drop n.end text)) a) where
-    first : rest (below 255) 3 (drop n.end text) ≡ onto (a.value ∷ []) (rest (below 255) 2 (drop a.end text))
-    first = object-more 2 (drop n.end text) one.found
+  module _ {a : Number} (one : BelowAt 255 (object n.rest.now) a) where
+    first : rest (below 255) 3 n.rest.now ≡ onto (a.value ∷ []) (rest (below 255) 2 a.rest.now)
+    first = object-more 2 n.rest.now one.found
 
-    pub meet_one : object (drop a.end text) ≡ none → met text a.end (numeral (Meeting n.value a.value 255 255)) ≡ number_said (whole (meet_rest (drop at text)))
+    pub meet_one : object a.rest.now ≡ none → met a.rest.now (numeral (Meeting n.value a.value 255 255)) ≡ number_said (whole (meet_rest l))
     meet_one z =
-        met-there (a.value ∷ []) 2 a.end (numeral (Meeting n.value a.value 255 255)) (omega (arith, staged.small, one.small))
-        first (object-none 2 (drop a.end text) z)
+        met-there (a.value ∷ []) 2 a.rest.now (numeral (Meeting n.value a.value 255 255)) (omega (arith, staged.small, one.small))
+        first (object-none 2 a.rest.now z)
 
-    module _ {b : Number} (two : BelowAt text a.end 255 (object (drop a.end text)) b) where
-      second : rest (below 255) 3 (drop n.end text) ≡ onto (a.value ∷ b.value ∷ []) (rest (below 255) 1 (drop b.end text))
-      second = first ∙ rw (object-more 1 (drop a.end text) two.found) (onto-more (a.value ∷ []) b.value (rest (below 255) 1 (drop b.end text)))
+    module _ {b : Number} (two : BelowAt 255 (object a.rest.now) b) where
+      second : rest (below 255) 3 n.rest.now ≡ onto (a.value ∷ b.value ∷ []) (rest (below 255) 1 b.rest.now)
+      second = first ∙ rw (object-more 1 a.rest.now two.found) (onto-more (a.value ∷ []) b.value (rest (below 255) 1 b.rest.now))
 
-      pub meet-two : object (drop b.end text) ≡ none → met text b.end (numeral (Meeting n.value a.value b.value 255)) ≡ number_said (whole (meet_rest (drop at text)))
+      pub meet-two : object b.rest.now ≡ none → met b.rest.now (numeral (Meeting n.value a.value b.value 255)) ≡ number_said (whole (meet_rest l))
       meet-two z =
-          met-there (a.value ∷ b.value ∷ []) 1 b.end (numeral (Meeting n.value a.value b.value 255)) (omega (arith, staged.small, one.small, two.small))
-          second (object-none 1 (drop b.end text) z)
+          met-there (a.value ∷ b.value ∷ []) 1 b.rest.now (numeral (Meeting n.value a.value b.value 255)) (omega (arith, staged.small, one.small, two.small))
+          second (object-none 1 b.rest.now z)
 
-      pub meet-three : {c : Number} → BelowAt text b.end 255 (object (drop b.end text)) c → met text c.end (numeral (Meeting n.value a.value b.value c.value)) ≡ number_said (whole (meet_rest (drop at text)))
+      pub meet-three : {c : Number} → BelowAt 255 (object b.rest.now) c → met c.rest.now (numeral (Meeting n.value a.value b.value c.value)) ≡ number_said (whole (meet_rest l))
       unfolding rest
       meet-three {c} three =
-          met-there (a.value ∷ b.value ∷ c.value ∷ []) 0 c.end (numeral (Meeting n.value a.value b.value c.value))
+          met-there (a.value ∷ b.value ∷ c.value ∷ []) 0 c.rest.now (numeral (Meeting n.value a.value b.value c.value))
           (omega (arith, staged.small, one.small, two.small, three.small))
-          (second ∙ rw (object-more 0 (drop b.end text) three.found) (onto-more (a.value ∷ b.value ∷ []) c.value (rest (below 255) 0 (drop c.end text)))) refl
+          (second ∙ rw (object-more 0 b.rest.now three.found) (onto-more (a.value ∷ b.value ∷ []) c.value (rest (below 255) 0 c.rest.now))) refl
 
 -- STEPS AND MEETINGS say a place, and the others none
 said-place : (p : runs.Place) (o : Option (List ℕ)) → is_silent (whole (o >>= λ t. some (place p, t))) ≡ false

@@ -10,7 +10,7 @@ ghost use Rattle.handin.specs.Handins.{says-yes, reading};
 ghost use Rattle.marker_worth.specs.Worth.{Worth};
 ghost use Rattle.marker.specs.Marking.{narrow, Leaves, Marks};
 
-use handin::Handin;
+use handin::Unreadable;
 use limits::RUN;
 use marker_worth::Mark;
 use model::Model;
@@ -47,9 +47,9 @@ fn mark_model(m: Model, handin: &[u8], work: &mut [u8], run: &mut [u32], stood: 
 {
     let said = handin::read(handin);
     match said {
-        Handin::Yes { first, places } => mark_yes(m, handin, first, places, work, run, stood),
-        Handin::No => marker_worth::mark_no(m, work),
-        Handin::Unreadable { line } => Mark::Unreadable { line },
+        Ok(Some(yes)) => mark_yes(m, handin, yes.first, yes.places, work, run, stood),
+        Ok(None) => marker_worth::mark_no(m, work),
+        Err(Unreadable { line }) => Mark::Unreadable { line },
     }
 }
 
