@@ -36,7 +36,7 @@ use Rattle.search_levels.proofs.Targets.{aims-points}
 use Rattle.search_levels.proofs.Laws as levels
 use Rattle.search.specs.declared.Explored.{Explored}
 use Rattle.search.specs.declared.Found.{Found}
-use Rattle.search.specs.Search.{Surveyed, Explores, Entered, explored_of, Judged, Searched, Finds, SearchedFrom, FindsFrom}
+use Rattle.search.specs.Search.{Surveyed, Entered, Judged, Searched, SearchedFrom}
 
 -- THE ROWS OF A LEVEL one after the other: those below f have no slot
 module _ (rows : List ℕ) (k : ℕ) where
@@ -107,73 +107,39 @@ module _ (m : Model) (wf : WellFormed m) (w : List ℕ) (s : States) (reaches : 
 pub surveyed-exactly : (m : Model) (w : List ℕ) (e : Explored) → Surveyed m w e → Exactly m w e.states
 surveyed-exactly m w e h = record { proper = h.proper; agree = h.agree; shown = h.exact.states; facts = h.exact.facts; marks = h.marks }
 
-module _ (m : Model) (wf : WellFormed m) (w : List ℕ) where
-  -- THE VERDICT over the explored states, by the levels
-  module _ (r : Found) (surveyed : Surveyed m w (explored_of r)) (test : (r.reached ≡ true) ↔ Entered r.levels.rows m.stagecount) where
-    pub searched : Filled m (row r.states) w r.moves.ways nothing r.levels → Searched m w r
-    searched filled = record {
-      proper = surveyed.proper;
-      reachable = surveyed.reachable;
-      listing = surveyed.listing;
-      verdict = go r.reached test;
-      entered = test.0;
-      found = surveyed.found;
-      whole = surveyed.whole;
-      agree = surveyed.agree;
-      exact = surveyed.exact;
-      moves = surveyed.moves;
-      levels = filled;
-    }
-      where
-        law : Entered r.levels.rows m.stagecount ↔ Verdict (program_of m) (question_of m) true
-        law = levels.verdict m wf w r.states (surveyed-exactly m w (explored_of r) surveyed) r.moves.ways surveyed.moves.ways nothing r.levels filled surveyed.whole surveyed.found refl
+-- THE VERDICT over the explored states, by the levels
+module _ (m : Model) (wf : WellFormed m) (w : List ℕ) (e : Explored) (surveyed : Surveyed m w e) (p : Pointing) (r : Found) (judged : Judged m w e p r) where
+  surveyed-found : Surveyed m w r.explored
+  surveyed-found = subst (Surveyed m w) (sym judged.explored) surveyed
 
-        go : (b : Bool) → (b ≡ true) ↔ Entered r.levels.rows m.stagecount → Verdict (program_of m) (question_of m) b
-        go true q = law.0 (q.0 refl)
-        go false q = λ x. absurd (false≢true (q.1 (law.1 x)))
+  filled : Filled m (row r.explored.states) w r.explored.moves.ways p r.levels
+  filled = subst (λ (x : Explored). Filled m (row x.states) w x.moves.ways p r.levels) (sym judged.explored) judged.levels
 
-    -- and from a database, with an object of state s
-    pub searched-from : 0 < (stage_at m 0).variables → (s : ℕ) (p : Pointing) → Aims r.states r.moves.ways s p → Filled m (row r.states) w r.moves.ways p r.levels → SearchedFrom m s w r
-    searched-from one s p aims filled = record {
-      explored = surveyed;
-      verdict = λ ps t lead o there same. let law = levels.verdict-from m wf w r.states exactly r.moves.ways surveyed.moves.ways p r.levels filled surveyed.whole surveyed.found s points one ps t lead o there same in
-          ((λ q. law.0 (test.0 q)), λ q. test.1 (law.1 q));
-      entered = test.0;
-      asked = p;
-      aims = aims;
-      levels = filled;
-    }
-      where
-        exactly : Exactly m w r.states
-        exactly = surveyed-exactly m w (explored_of r) surveyed
+  pub searched : p ≡ nothing → Searched m w r
+  searched plain = record { explored = surveyed-found; verdict = go r.reached judged.entered; entered = judged.entered.0; levels = unasked }
+    where
+      unasked : Filled m (row r.explored.states) w r.explored.moves.ways nothing r.levels
+      unasked = subst (λ (x : Pointing). Filled m (row r.explored.states) w r.explored.moves.ways x r.levels) plain filled
 
-        points : Points (program_of m) (row r.states) s p
-        points = aims-points m wf r.states surveyed.proper r.moves.ways surveyed.moves.ways s p aims
+      law : Entered r.levels.rows m.stagecount ↔ Verdict (program_of m) (question_of m) true
+      law = levels.verdict m wf w r.explored.states (surveyed-exactly m w r.explored surveyed-found) r.explored.moves.ways surveyed-found.moves.ways nothing r.levels unasked surveyed-found.whole surveyed-found.found refl
 
-  -- WHAT IS FOUND, where there are not too many states
-  module _ (e : Explored) (explores : Explores m w e) (fits : e.crowded ≡ false) (p : Pointing) (r : Found) (judged : Judged m w e p r) where
-    judged-surveyed : Surveyed m w (explored_of r)
-    judged-surveyed = subst (Surveyed m w) (sym judged.explored) (explores.surveyed fits)
+      go : (b : Bool) → (b ≡ true) ↔ Entered r.levels.rows m.stagecount → Verdict (program_of m) (question_of m) b
+      go true q = law.0 (q.0 refl)
+      go false q = λ x. absurd (false≢true (q.1 (law.1 x)))
 
-    judged-fits : r.crowded ≡ false
-    judged-fits = ap (λ (x : Explored). x.crowded) judged.explored ∙ fits
-
-    few-enough : (r.crowded ≡ true) ↔ MoreThan limit.atomic (program_of m)
-    few-enough = ((λ q. clash q judged-fits), λ q. clash (explores.crowded.1 q) fits)
-
-    pub finds : p ≡ nothing → Finds m w r
-    finds plain = record { crowded = few-enough; searched = λ q. searched r judged-surveyed judged.entered (subst (λ (x : Pointing). Filled m (row r.states) w r.moves.ways x r.levels) plain judged.levels) }
-
-    pub finds-from : 0 < (stage_at m 0).variables → (s : ℕ) → Aims e.states e.moves.ways s p → FindsFrom m s w r
-    finds-from one s aims = record { crowded = few-enough; searched = λ q. searched-from r judged-surveyed judged.entered one s p (subst (λ (x : Explored). Aims x.states x.moves.ways s p) (sym judged.explored) aims) judged.levels }
-
-  -- and where there are
-  module _ (e : Explored) (explores : Explores m w e) (full : e.crowded ≡ true) (r : Found) (same : r.crowded ≡ e.crowded) where
-    many : (r.crowded ≡ true) ↔ MoreThan limit.atomic (program_of m)
-    many = ((λ q. explores.crowded.0 full), λ q. same ∙ full)
-
-    pub finds-many : Finds m w r
-    finds-many = record { crowded = many; searched = λ q. clash (same ∙ full) q }
-
-    pub finds-many-from : (s : ℕ) → FindsFrom m s w r
-    finds-many-from s = record { crowded = many; searched = λ q. clash (same ∙ full) q }
+  -- and from a database, with an object of state s
+  pub searched-from : 0 < (stage_at m 0).variables → (s : ℕ) → Aims e.states e.moves.ways s p → SearchedFrom m s w r
+  searched-from one s aims = record {
+    explored = surveyed-found;
+    verdict = λ ps t lead o there same. let law = levels.verdict-from m wf w r.explored.states (surveyed-exactly m w r.explored surveyed-found) r.explored.moves.ways surveyed-found.moves.ways p r.levels filled surveyed-found.whole surveyed-found.found s
+            (aims-points m wf r.explored.states surveyed-found.proper r.explored.moves.ways surveyed-found.moves.ways s p aimed) one ps t lead o there same in
+        ((λ q. law.0 (judged.entered.0 q)), λ q. judged.entered.1 (law.1 q));
+    entered = judged.entered.0;
+    asked = p;
+    aims = aimed;
+    levels = filled;
+  }
+    where
+      aimed : Aims r.explored.states r.explored.moves.ways s p
+      aimed = subst (λ (x : Explored). Aims x.states x.moves.ways s p) (sym judged.explored) aims
