@@ -13,7 +13,7 @@ use Rattle.model.specs.Records.{program_of, question_of}
 use Rattle.model.specs.WellFormed.{WellFormed}
 use Rattle.model.specs.Places.{number_of, placed, stands_for, place_of}
 use Rattle.model.proofs.Accepted.{stages}
-use Rattle.search_levels.specs.Levels.{nothing}
+use Rattle.std.specs.Prelude.{None}
 use Rattle.search.specs.declared.Found.{Found}
 use Rattle.search.specs.Search.{Searched}
 use Rattle.witness_table.specs.Runs.{numbers}
@@ -48,7 +48,7 @@ module _ (m : Model) (wf : WellFormed m) where
           mapped = record { whole = e.whole; tabled = e.moves.tabled; moves = e.moves.table; stepped = e.moves.stepped; single = e.moves.steps };
           long = e.moves.closed;
           comes = e.moves.ways;
-          asked = nothing;
+          asked = None;
           levels = h.levels;
         }
 

@@ -4,6 +4,7 @@ use mathlib.Core.Logic.{◌↔◌, inl, inr}
 use mathlib.Core.Bool.{true, false, false≢true}
 use mathlib.Core.List.{List, [], ◌∷◌, ◌++◌, map}
 use mathlib.Core.Option.{some, some-injective}
+use Rattle.std.specs.Prelude.{Some}
 use Prim.Native.Nat.{ℕ, zero, suc, ◌-◌, ◌≤◌, ◌<◌}
 use native.Mathlib.Omega.{arith}
 use lib.ListN.{length, take, drop, get_or, length-map}
@@ -116,7 +117,7 @@ module _ (m : Model) (s : Session) (o : ℕ) (h : Ready m s o) (w : List ℕ) (r
         mapped = record { whole = e.whole; tabled = e.moves.tabled; moves = e.moves.table; stepped = e.moves.stepped; single = e.moves.steps };
         long = e.moves.closed;
         comes = e.moves.ways;
-        asked = f.asked;
+        asked = Some f.asked;
         levels = f.levels;
       }
 
@@ -130,7 +131,7 @@ module _ (m : Model) (s : Session) (o : ℕ) (h : Ready m s o) (w : List ℕ) (r
   came e g sits =
       let c = came-besides m w r.explored.states r.levels.rows r.explored.moves.table r.explored.moves.steps r.explored.moves.ways recorded 0 e g h.model.one sits in
       let l = c.1.0.0 (first_variable m) (first-stands m h.model h.variable) in
-      let z = (f.aims.slots (c.0 (first_variable m)) (omega (arith, l, length-row r.explored.states f.explored.proper, f.explored.proper.count))).0 (c.2 f.aims.given) in
+      let z = (f.aims.slots (c.0 (first_variable m)) (omega (arith, l, length-row r.explored.states f.explored.proper, f.explored.proper.count))).0 c.2 in
       (c.0, c.1, z.0, z.1)
 
   pub points : Openable m w r.explored.states r.levels.rows r.explored.moves.ways slot

@@ -39,8 +39,8 @@ fn show(m: Model, s: Session, object: u32, facts: &[u8], run: &mut [u32], found:
     let table = moves.table;
     let steps = moves.steps;
     let ways = moves.ways;
-    let known = states.states;
-    let slot = search_states::seek(&known, states.count, s.states[object as usize]);
+    let slot =
+        search_states::seek(&states.states[..states.count], s.states[object as usize]).unwrap();
     witness_from::witness_from(
         run,
         facts,

@@ -60,7 +60,7 @@ fn arranged(s: States, listing: Listing, ranks: [Option<u32>; LISTED]) -> [u32; 
 {
     let mut moves = [0u32; LISTED];
     for (i, state) in listing.states[..listing.count].iter().enumerate() {
-        let slot = search_states::seek(&s.states, s.count, *state);
+        let slot = search_states::seek(&s.states[..s.count], *state).unwrap_or(s.count);
         moves[i] = ranks[slot].unwrap_or(NONE);
     }
     moves

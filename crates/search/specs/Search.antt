@@ -1,5 +1,5 @@
 -- WHAT THE SEARCH FINDS of a model: exactly the reachable states, and the verdict, both about runs of every length; and what a run can be built from. Or that there are too many states.
-use Rattle.std.specs.Prelude.{◌≡◌, ◌↔◌, true, Option, MatchOption, List, [], ℕ, ◌<◌, length}
+use Rattle.std.specs.Prelude.{◌≡◌, ◌↔◌, true, Option, Some, None, MatchOption, List, [], ℕ, ◌<◌, length}
 use Rattle.limits.specs.Limits as limit
 use Rattle.semantics.specs.Facts.{state}
 use Rattle.semantics.specs.Steps.{Reachable, MoreThan}
@@ -20,8 +20,7 @@ use Rattle.search_states.specs.States.{row, Known, Proper, Discovered}
 use Rattle.search_states.specs.Rising.{Lists}
 use Rattle.search_ways.specs.Moves.{table_bytes, matrix_bytes, Marks, CanTake}
 use Rattle.search_ways.specs.Steps.{Between, OneStep}
-use Rattle.search_levels.specs.declared.Pointing.{Pointing}
-use Rattle.search_levels.specs.Levels.{pair_at, nothing, first_variable, Aims, Filled}
+use Rattle.search_levels.specs.Levels.{pair_at, first_variable, Aims, Filled}
 use Rattle.search.specs.declared.Moves.{Moves}
 use Rattle.search.specs.declared.Explored.{Explored}
 use Rattle.search.specs.declared.Found.{Found}
@@ -62,7 +61,7 @@ abbrev pub Entered : List ℕ → ℕ → Type 0
 Entered rows k = (e f : ℕ) × (e < limit.listed) × (f < limit.listed) × (pair_at rows k e f ≡ true)
 
 -- the levels over the explored states, where p is what stage 1 asks besides, and whether the last one has a pair
-pub record Judged (m : Model) (w : List ℕ) (e : Explored) (p : Pointing) (r : Found) : Type 0 where
+pub record Judged (m : Model) (w : List ℕ) (e : Explored) (p : Option (List ℕ)) (r : Found) : Type 0 where
   pub explored : r.explored ≡ e
   pub levels : Filled m (row e.states) w e.moves.ways p r.levels
   pub entered : (r.reached ≡ true) ↔ Entered r.levels.rows m.stagecount
@@ -74,7 +73,7 @@ pub record Searched (m : Model) (w : List ℕ) (r : Found) : Type 0 where
   pub verdict : Verdict (program_of m) (question_of m) r.reached
   pub entered : r.reached ≡ true → Entered r.levels.rows m.stagecount
   -- the levels of the question
-  pub levels : Filled m (row r.explored.states) w r.explored.moves.ways nothing r.levels
+  pub levels : Filled m (row r.explored.states) w r.explored.moves.ways None r.levels
 
 -- WHAT IS FOUND: nothing exactly if more than 127 non-empty states are reachable, and else all that is searched for
 abbrev pub Finds : Model → List ℕ → Option Found → Type 0
@@ -88,9 +87,9 @@ pub record SearchedFrom (m : Model) (s : ℕ) (w : List ℕ) (r : Found) : Type 
       → (r.reached ≡ true) ↔ ReachedFrom (program_of m) (question_of m) t.db (first_variable m) o
   pub entered : r.reached ≡ true → Entered r.levels.rows m.stagecount
   -- the levels of the question, where stage 1 asks besides for a slot to whose state such an object can come
-  pub asked : Pointing
+  pub asked : List ℕ
   pub aims : Aims r.explored.states r.explored.moves.ways s asked
-  pub levels : Filled m (row r.explored.states) w r.explored.moves.ways asked r.levels
+  pub levels : Filled m (row r.explored.states) w r.explored.moves.ways (Some asked) r.levels
 
 abbrev pub FindsFrom : Model → ℕ → List ℕ → Option Found → Type 0
 FindsFrom m s w r = MatchOption r (MoreThan limit.atomic (program_of m)) (SearchedFrom m s w)

@@ -1,7 +1,7 @@
 // The search: the reachable states of a model, their moves, the levels of its question, and the verdict; or that more states are reachable than it has room for.
 #![tactic(auto)]
 
-ghost use Rattle.std.specs.Prelude.{◌≡◌, ◌↔◌, true, false, ◌≤◌, ◌<◌, length};
+ghost use Rattle.std.specs.Prelude.{◌≡◌, ◌↔◌, true, ◌≤◌, ◌<◌, length, IfSome};
 ghost use Rattle.limits.specs.Limits as limit;
 ghost use Rattle.semantics.specs.Walkers.{Whole};
 ghost use Rattle.model.specs.Records.{program_of, stage_at};
@@ -15,7 +15,8 @@ ghost use Rattle.search.specs.Search.{Moving, Surveyed, Explores, Entered, Judge
 
 use limits::LISTED;
 use model::Model;
-use search_levels::{Levels, Pointing};
+use facts_bits::BYTES;
+use search_levels::Levels;
 use search_states::{Listing, States};
 use search_ways::{MATRIX, TABLE};
 
@@ -58,9 +59,9 @@ fn tables(work: &[u8], m: Model, s: States) -> Moves
     Moves { table, steps, ways }
 }
 
-// The listing and the moves of the reachable states, where there are not too many.
+// The listing and the moves of the reachable states.
 fn surveyed(work: &[u8], m: Model, states: States) -> Explored
-    requires { WellFormed m × (room ≤ length work.now) × Reaches m work.now states × (states.over ≡ false) }
+    requires { WellFormed m × (room ≤ length work.now) × Reaches m work.now states }
     ensures { Surveyed m work.now result }
 {
     let listing = search_states::rising(states);
@@ -77,10 +78,7 @@ pub fn explore(work: &mut [u8], m: Model) -> Option<Explored>
     requires { WellFormed m × (room ≤ length work.old) }
     ensures { Explores m work.new result × (length work.new ≡ length work.old) }
 {
-    let states = search_reachable::reachable(work, m);
-    if states.over {
-        return None;
-    }
+    let states = search_reachable::reachable(work, m)?;
     Some(surveyed(work, m, states))
 }
 
@@ -99,9 +97,9 @@ fn entered(rows: &[u8], k: usize) -> bool
     false
 }
 
-// The levels over the reachable states, where p is what stage 1 asks besides, and whether the last one has a pair.
-fn judged(work: &[u8], m: Model, explored: Explored, p: Pointing) -> Found
-    requires { WellFormed m × Surveyed m work.now explored × (p.given ≡ true → 0 < (stage_at m 0).variables) }
+// The levels over the reachable states, where p is a row in which stage 1 asks besides for the slot of its first variable, or nothing, and whether the last one has a pair.
+fn judged(work: &[u8], m: Model, explored: Explored, p: Option<[u8; BYTES]>) -> Found
+    requires { WellFormed m × Surveyed m work.now explored × IfSome p (λ among. 0 < (stage_at m 0).variables) }
     ensures { Judged m work.now explored p result }
 {
     let moves = explored.moves;
@@ -120,7 +118,7 @@ pub fn search(work: &mut [u8], m: Model) -> Option<Found>
     ensures { Finds m work.new result × (length work.new ≡ length work.old) }
 {
     let explored = explore(work, m)?;
-    Some(judged(work, m, explored, search_levels::unasked()))
+    Some(judged(work, m, explored, None))
 }
 
 // The same question with an object of the given state for the first variable of stage 1, from wherever places that were kept have led; stage 1 has a variable.
@@ -130,6 +128,6 @@ pub fn search_from(work: &mut [u8], m: Model, state: u32) -> Option<Found>
 {
     let explored = explore(work, m)?;
     let moves = explored.moves;
-    let p = search_levels::aim(explored.states, &moves.ways, state);
-    Some(judged(work, m, explored, p))
+    let among = search_levels::aim(explored.states, &moves.ways, state);
+    Some(judged(work, m, explored, Some(among)))
 }

@@ -38,7 +38,7 @@ fn known(s: States, state: u32) -> bool
     if state == 0 {
         return s.empty;
     }
-    search_states::among(&s.states, s.count, state)
+    s.states[..s.count].contains(&state)
 }
 
 // A shortest way from one slot to another.
@@ -98,11 +98,11 @@ fn onward(
     if from == 0 {
         return Answer::NoWay;
     }
-    let e = search_states::seek(&s.states, s.count, from);
+    let e = search_states::seek(&s.states[..s.count], from).unwrap();
     if to == 0 {
         return emptied(m, s, table, links, ways, e, run);
     }
-    let u = search_states::seek(&s.states, s.count, to);
+    let u = search_states::seek(&s.states[..s.count], to).unwrap();
     between(m, s, table, links, ways, e, u, run)
 }
 
