@@ -26,7 +26,6 @@ use model::Model;
 use reasons::Reason;
 use replay_runs::Ending;
 use replay_session::{Answer, Session};
-use text::Acceptance;
 
 // What is said of a run: a refusal with its number and line, that it is kept, or that it is broken at a place, and why.
 #[derive(Clone, Copy)]
@@ -101,18 +100,11 @@ pub fn explain(text: &[u8], run: &[u32], work: &mut [u8], stood: &mut [u32]) -> 
     ensures { Explained (run_outcome text.now run.now work.old stood.old) run.now work.old stood.old result work.new stood.new }
 {
     let short = calls::short(work.len(), stood.len());
-    let row = calls::early(text.len(), short, run.len() > RUN);
-    if row != 0 {
-        return Explanation::Refused {
-            number: row,
-            line: 0,
-        };
+    match text::accept(text, short, run.len() > RUN) {
+        Ok(m) => explain_model(m, run, work, stood),
+        Err(refusal) => Explanation::Refused {
+            number: refusal.row.number(),
+            line: refusal.line,
+        },
     }
-    let reading = text::read(text);
-    let acceptance = reading.answer;
-    if let Acceptance::Refused { number, line } = acceptance {
-        return Explanation::Refused { number, line };
-    }
-    let m = reading.model;
-    explain_model(m, run, work, stood)
 }

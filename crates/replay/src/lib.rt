@@ -2,20 +2,24 @@
 #![tactic(auto)]
 
 ghost use Rattle.std.specs.Prelude.{◌≡◌};
+ghost use Rattle.rows.specs.Rows.{number_of};
 ghost use Rattle.replay_session.specs.declared.PlaceAnswer.TheVariants.{Refused};
 ghost use Rattle.replay.specs.Replies.{run_outcome, Replayed, place_outcome, Put};
 
 use limits::{RUN, WORK};
 use replay_runs::Reply;
 use replay_session::{Answer, PlaceAnswer, Session};
-use text::Acceptance;
+use rows::Refusal;
 
 // A refusal leaves the state.
-fn refuse(s: Session, number: u32, line: u32) -> Reply
-    ensures { (result.answer ≡ Refused number line) × (result.session ≡ s) }
+fn refuse(s: Session, refusal: Refusal) -> Reply
+    ensures { (result.answer ≡ Refused (number_of refusal.row) refusal.line) × (result.session ≡ s) }
 {
     Reply {
-        answer: PlaceAnswer::Refused { number, line },
+        answer: PlaceAnswer::Refused {
+            number: refusal.row.number(),
+            line: refusal.line,
+        },
         session: s,
     }
 }
@@ -25,35 +29,21 @@ pub fn replay(text: &[u8], run: &[u32], work: &mut [u8], table: &mut [u32]) -> A
     ensures { Replayed (run_outcome text.now run.now work.old table.old) run.now work.old table.old result work.new table.new }
 {
     let short = calls::short(work.len(), table.len());
-    let row = calls::early(text.len(), short, run.len() > RUN);
-    if row != 0 {
-        return Answer::Refused {
-            number: row,
-            line: 0,
-        };
+    match text::accept(text, short, run.len() > RUN) {
+        Ok(m) => replay_runs::replay_model(m, run, work, table),
+        Err(refusal) => Answer::Refused {
+            number: refusal.row.number(),
+            line: refusal.line,
+        },
     }
-    let reading = text::read(text);
-    let acceptance = reading.answer;
-    if let Acceptance::Refused { number, line } = acceptance {
-        return Answer::Refused { number, line };
-    }
-    let m = reading.model;
-    replay_runs::replay_model(m, run, work, table)
 }
 
 // Puts one place to a state over a text.
 pub fn place(text: &[u8], s: Session, n: u32, work: &mut [u8]) -> Reply
     ensures { Put (place_outcome text.now s work.old) s n work.old result.answer result.session work.new }
 {
-    let row = calls::early(text.len(), work.len() < WORK, s.kept == RUN);
-    if row != 0 {
-        return refuse(s, row, 0);
+    match text::accept(text, work.len() < WORK, s.kept == RUN) {
+        Ok(m) => replay_runs::place_model(m, s, n, work),
+        Err(refusal) => refuse(s, refusal),
     }
-    let reading = text::read(text);
-    let acceptance = reading.answer;
-    if let Acceptance::Refused { number, line } = acceptance {
-        return refuse(s, number, line);
-    }
-    let m = reading.model;
-    replay_runs::place_model(m, s, n, work)
 }
