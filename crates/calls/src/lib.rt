@@ -13,6 +13,12 @@ use rows::{Refusal, Row};
 // The number of the refusal where more than 127 non-empty states are reachable.
 pub const TOO_MANY: u32 = 15;
 
+// The refusal where there are so many.
+pub const CROWDED: Refusal = Refusal {
+    row: Row::States,
+    line: 0,
+};
+
 // Is a call refused before its lines are read? By the text's bytes, a lent buffer that is too short, a run that is too long.
 pub fn early(bytes: usize, short: bool, long: bool) -> Result<(), Refusal>
     ensures { MatchResult result (λ _. early_row bytes short long ≡ 0) (λ r. (number_of r.row ≡ early_row bytes short long) × (r.line ≡ 0)) }

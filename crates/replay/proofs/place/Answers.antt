@@ -1,25 +1,28 @@
 use mathlib.Core.Path.{refl}
 use lib.ListN.{length}
 use borrow.Author.Tests.{ltb-false, eqb-false}
+use Rattle.std.proofs.lemmas.Result.{err_from_is_err_and}
 use Rattle.limits.specs.Limits as limit
 use Rattle.text.proofs.Laws.{not-short, not-long, called-well-formed}
 use Rattle.replay.proofs.Laws.{declared-states}
 use Rattle.replay.proofs.place.Goals as goal
 
+pub returns-in_err-m : goal.returns-in_err-m
+returns-in_err-m c =
+    let p = err_from_is_err_and c.from_residual.result c.from_residual.ensures.1 in
+    rw (p.1, p.2, c.in_err-m.ensures) ((refl, refl), refl, refl)
+
 pub place_model-requires : goal.place_model-requires
 place_model-requires c =
     let a = c.args in
-    let r = c.in-Ok.ensures in (
+    let r = c.in_ok-m.ensures in (
       called-well-formed a.text.now _ _ _ r,
       eqb-false a.s.kept limit.run (not-long a.text.now _ _ _ r),
       ltb-false (length a.work.now) limit.work (not-short a.text.now _ _ _ r),
     )
 
-pub returns-in-Ok : goal.returns-in-Ok
-returns-in-Ok c =
-    let r = c.in-Ok.ensures in
+pub returns : goal.returns
+returns c =
+    let r = c.in_ok-m.ensures in
     let p = c.place_model.ensures in
     rw r.says (rw (← declared-states c.args.text.now _ _ _ r) p.0, p.1)
-
-pub returns-in-Err : goal.returns-in-Err
-returns-in-Err c = let r = c.refuse.ensures in rw c.in-Err.ensures (r.0, r.1, refl)
