@@ -18,7 +18,6 @@ use limits::WORK;
 use model::Model;
 use strike_list::{Lines, MOST};
 use strike_table::{REACHED, Table};
-use text::Acceptance;
 
 // The number of the refusal of the list.
 const LIST: u32 = 19;
@@ -114,18 +113,14 @@ fn judge(m: Model, list: &[u32], work: &mut [u8]) -> Advice
 pub fn cure(text: &[u8], list: &[u32], work: &mut [u8]) -> Advice
     ensures { Cures text.now list.now work.old result work.new }
 {
-    let row = calls::early(text.len(), work.len() < WORK, false);
-    if row != 0 {
-        return refuse(row, 0);
+    match text::accept(text, work.len() < WORK, false) {
+        Ok(m) => {
+            if strike_list::faulty(m, list) {
+                refuse(LIST, 0)
+            } else {
+                judge(m, list, work)
+            }
+        }
+        Err(refusal) => refuse(refusal.row.number(), refusal.line),
     }
-    let reading = text::read(text);
-    let acceptance = reading.answer;
-    if let Acceptance::Refused { number, line } = acceptance {
-        return refuse(number, line);
-    }
-    let m = reading.model;
-    if strike_list::faulty(m, list) {
-        return refuse(LIST, 0);
-    }
-    judge(m, list, work)
 }

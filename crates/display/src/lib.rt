@@ -11,7 +11,6 @@ use display_parts::locate;
 use display_shapes::{Literal, Span, item_at};
 use display_variables::variable_of;
 use model::Model;
-use text::Acceptance;
 
 // A declared relation: its name begins at byte `from` of the text and has `size` bytes.
 #[derive(Clone, Copy)]
@@ -37,14 +36,16 @@ fn recorded(m: &Model, i: usize) -> Declaration
 fn relation_in(text: &[u8], i: usize) -> Option<Declaration>
     ensures { FindsRelation text.now (relation_at (outcome text.now) i) result }
 {
-    let reading = text::read(text);
-    if let Acceptance::Refused { .. } = reading.answer {
-        return None;
+    match text::read(text) {
+        Ok(m) => {
+            if i < m.relations.count {
+                Some(recorded(&m, i))
+            } else {
+                None
+            }
+        }
+        Err(_) => None,
     }
-    if i < reading.model.relations.count {
-        return Some(recorded(&reading.model, i));
-    }
-    None
 }
 
 // Declared relation i of an accepted text, from 0; all 0 where there is none.

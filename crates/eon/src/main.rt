@@ -56,9 +56,11 @@ fn mark(text: &[u8], work: &mut [u8], run: &mut [u32], out: &mut [u8]) -> usize
     requires { (limit.work ≤ length work.old) × (limit.run ≤ length run.old) × (size ≤ length out.old) }
     ensures { Output text.now work.old run.old work.new run.new (take result out.new) × IsPrefixLen result out.new }
 {
-    let reading = text::read(text);
     let analysis = analyzer::analyze(text, work, run);
-    list(out, text, &reading.model, &analysis, run)
+    match text::read(text) {
+        Ok(m) => list(out, text, &m, &analysis, run),
+        Err(refusal) => listing::put_refusal(out, refusal.row.number(), refusal.line),
+    }
 }
 
 // Writes the listing of the text.

@@ -26,12 +26,11 @@ use model::Model;
 use reasons::Reason;
 use replay_runs::Ending;
 use replay_session::{Answer, Session};
-use text::Acceptance;
+use rows::Refusal;
 
-// What is said of a run: a refusal with its number and line, that it is kept, or that it is broken at a place, and why.
+// What is said of a run: that it is kept, or that it is broken at a place, and why.
 #[derive(Clone, Copy)]
 pub enum Explanation {
-    Refused { number: u32, line: u32 },
     Kept,
     Broken { place: usize, reason: Reason },
 }
@@ -72,7 +71,6 @@ fn tell(m: Model, ending: Ending, run: &[u32], work: &mut [u8]) -> Explanation
             let reason = why_broken(m, session, place, run, work);
             Explanation::Broken { place, reason }
         }
-        Answer::Refused { number, line } => Explanation::Refused { number, line },
     }
 }
 
@@ -97,22 +95,15 @@ fn explain_model(m: Model, run: &[u32], work: &mut [u8], stood: &mut [u32]) -> E
 }
 
 // Replays a run over a text and explains the answer, and notes in the table who stood by at each kept step.
-pub fn explain(text: &[u8], run: &[u32], work: &mut [u8], stood: &mut [u32]) -> Explanation
+pub fn explain(
+    text: &[u8],
+    run: &[u32],
+    work: &mut [u8],
+    stood: &mut [u32],
+) -> Result<Explanation, Refusal>
     ensures { Explained (run_outcome text.now run.now work.old stood.old) run.now work.old stood.old result work.new stood.new }
 {
     let short = calls::short(work.len(), stood.len());
-    let row = calls::early(text.len(), short, run.len() > RUN);
-    if row != 0 {
-        return Explanation::Refused {
-            number: row,
-            line: 0,
-        };
-    }
-    let reading = text::read(text);
-    let acceptance = reading.answer;
-    if let Acceptance::Refused { number, line } = acceptance {
-        return Explanation::Refused { number, line };
-    }
-    let m = reading.model;
-    explain_model(m, run, work, stood)
+    let m = text::accept(text, short, run.len() > RUN)?;
+    Ok(explain_model(m, run, work, stood))
 }

@@ -13,7 +13,7 @@ use Rattle.handin.specs.Answers.{told}
 use Rattle.display_shapes.specs.declared.Span.{Span}
 use Rattle.display_shapes.specs.Rows.{Shows}
 use Rattle.codes.specs.Codes.{handed, spanned}
-use Rattle.exports.specs.Codes.{refusal}
+use Rattle.words.specs.Words.{refusal}
 use Rattle.exports.specs.Calls.{written, Handed, Spanned}
 
 -- a hand-in that says no yes leaves the table

@@ -11,7 +11,7 @@ ghost use Rattle.handin.specs.Answers.{told};
 ghost use Rattle.display.specs.Shown.{literal_at, variable_at};
 ghost use Rattle.effects.specs.Effects.{effect_at};
 ghost use Rattle.asbestos_writer.specs.Writing.{kinds_of};
-ghost use Rattle.exports.specs.Codes.{refusal as refusal_code, coded as code_of, replied as reply_code, put as place_code};
+ghost use Rattle.exports.specs.Codes.{coded as code_of, replied as reply_code, put as place_code};
 ghost use Rattle.exports.specs.Cells.{last_number, table as table_of, state_of, cells_of};
 ghost use Rattle.exports.specs.Calls.{Analyzed, Asked, Replayed, Placed, written, Handed, Marked, Reasoned, Declared, Spanned, Desked};
 ghost use Rattle.exports.specs.Ranges.{ShortRun, LowPlace, LowNumber, Shown, Small};
@@ -20,7 +20,8 @@ use analyzer_verdict::Analysis;
 use asbestos_writer::CELLS;
 use handin::{Run, Unreadable};
 use limits::{LISTED, OBJECTS, RUN, TEXT};
-use replay_session::Session;
+use replay_session::{PlaceAnswer, Session};
+use rows::{Refusal, Row};
 
 // The cells beside an answer of the analysis, of which the last has the shown run's last place.
 const LAST: usize = LISTED + 1;
@@ -46,13 +47,6 @@ fn copy(cells: &mut [u32], at: usize, numbers: &[u32])
     cells[at..at + numbers.len()].copy_from_slice(numbers);
 }
 
-// The number of a refusal.
-fn refusal(number: u32, line: u32) -> u64
-    ensures { result ≡ refusal_code number line }
-{
-    2 * 4_294_967_296 + (number as u64 * 65_536 + line as u64)
-}
-
 // The number of an analysis's answer.
 fn coded(answer: analyzer_verdict::Answer) -> u64
     requires { ShortRun answer }
@@ -61,31 +55,31 @@ fn coded(answer: analyzer_verdict::Answer) -> u64
     match answer {
         analyzer_verdict::Answer::Unreached => 0,
         analyzer_verdict::Answer::Reached { places, .. } => 4_294_967_296 + places as u64,
-        analyzer_verdict::Answer::Refused { number, line } => refusal(number, line),
+        analyzer_verdict::Answer::Refused { number, line } => words::refusal(number, line),
     }
 }
 
 // The number of a replay's answer.
-fn replied(answer: replay_session::Answer) -> u64
+fn replied(answer: Result<replay_session::Answer, Refusal>) -> u64
     requires { LowPlace answer }
     ensures { result ≡ reply_code answer }
 {
     match answer {
-        replay_session::Answer::Kept => 3 * 4_294_967_296,
-        replay_session::Answer::Broken { place } => 4 * 4_294_967_296 + place as u64,
-        replay_session::Answer::Refused { number, line } => refusal(number, line),
+        Ok(replay_session::Answer::Kept) => 3 * 4_294_967_296,
+        Ok(replay_session::Answer::Broken { place }) => 4 * 4_294_967_296 + place as u64,
+        Err(r) => words::refused(r),
     }
 }
 
 // The number of the answer to one place.
-fn put(answer: replay_session::PlaceAnswer) -> u64
+fn put(answer: Result<PlaceAnswer, Refusal>) -> u64
     requires { LowNumber answer }
     ensures { result ≡ place_code answer }
 {
     match answer {
-        replay_session::PlaceAnswer::Kept { stood } => 3 * 4_294_967_296 + stood as u64,
-        replay_session::PlaceAnswer::Broken { place } => 4 * 4_294_967_296 + place as u64,
-        replay_session::PlaceAnswer::Refused { number, line } => refusal(number, line),
+        Ok(PlaceAnswer::Kept { stood }) => 3 * 4_294_967_296 + stood as u64,
+        Ok(PlaceAnswer::Broken { place }) => 4 * 4_294_967_296 + place as u64,
+        Err(r) => words::refused(r),
     }
 }
 
@@ -204,11 +198,10 @@ pub extern "C" fn eon_place(
     ensures { Placed text.now session.old place work.old result session.new work.new }
 {
     let cells = *session;
-    let reply = lent::place(text, unpack(cells), place, work);
-    let after = reply.session;
-    let left = pack(after);
+    let mut state = unpack(cells);
+    let answer = lent::put(text, &mut state, place, work);
+    let left = pack(state);
     *session = left;
-    let answer = reply.answer;
     put(answer)
 }
 
@@ -236,7 +229,10 @@ pub extern "C" fn eon_handin(handin: &[u8], run: &mut [u32]) -> u64
     ensures { Handed handin.now run.old result run.new }
 {
     if run.len() < RUN {
-        return refusal(12, 0);
+        return words::refused(Refusal {
+            row: Row::Lent,
+            line: 0,
+        });
     }
     let said = handin::read(handin);
     write_run(handin, said, run);

@@ -14,7 +14,6 @@ use handin::Unreadable;
 use limits::RUN;
 use marker_worth::Mark;
 use model::Model;
-use text::Acceptance;
 
 // Is the work area too short, or one of the two tables?
 fn short(bytes: usize, places: usize, standing: usize) -> bool
@@ -58,18 +57,11 @@ pub fn mark(text: &[u8], handin: &[u8], work: &mut [u8], run: &mut [u32], stood:
     ensures { Marks text.now handin.now work.old run.old stood.old result work.new run.new stood.new }
 {
     let short = short(work.len(), run.len(), stood.len());
-    let row = calls::early(text.len(), short, false);
-    if row != 0 {
-        return Mark::Refused {
-            number: row,
-            line: 0,
-        };
+    match text::accept(text, short, false) {
+        Ok(m) => mark_model(m, handin, work, run, stood),
+        Err(refusal) => Mark::Refused {
+            number: refusal.row.number(),
+            line: refusal.line,
+        },
     }
-    let reading = text::read(text);
-    let acceptance = reading.answer;
-    if let Acceptance::Refused { number, line } = acceptance {
-        return Mark::Refused { number, line };
-    }
-    let m = reading.model;
-    mark_model(m, handin, work, run, stood)
 }

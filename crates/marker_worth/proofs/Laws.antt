@@ -5,18 +5,14 @@ use mathlib.Core.Bool.{true, false}
 use mathlib.Core.List.{List, [], ◌∷◌}
 use Prim.Native.Nat.{ℕ, suc, ◌+◌, ◌≤◌}
 use native.Mathlib.Omega.{arith}
-use types.Run.{OneOf}
-use denote.Enum.Declared.{tag_of}
 use lib.ListN.{length, replicate, length-replicate}
 use Rattle.limits.specs.Limits as limit
 use Rattle.semantics.specs.Models.{Program, Question}
 use Rattle.semantics.specs.Runs.{Place, Session, start, after, Plays}
 use Rattle.calls.specs.Wiping.{wiped}
 use Rattle.calls.proofs.Wiped.{wiped-over}
-use Rattle.replay_session.specs.declared.Answer.{Answer}
-use Rattle.replay_session.specs.declared.Answer.TheVariants.{Kept, Broken, Refused}
+use Rattle.replay_session.specs.declared.Answer.TheVariants.{Kept, Broken}
 use Rattle.replay_session.specs.Replays.{Replays, Decodes}
-use Rattle.replay_session.specs.contracts.Answer.{the_type}
 use Rattle.replay_session.proofs.Answers.{broken}
 use Rattle.handin.specs.Handins.{says-no, says-yes}
 use Rattle.marker_worth.specs.declared.Mark.{Mark}
@@ -50,18 +46,6 @@ module _ (P : Program) (Q : Question) where
   -- at a place of the run, or at its end
   pub within : (s : Session) (ns : List ℕ) (j : ℕ) → Replays P Q s ns 0 (Broken j) → j ≤ length ns
   within s ns j h = ((broken P Q s ns 0 j).0 (subst (λ (k : ℕ). Replays P Q s ns 0 (Broken k)) (omega arith) h)).0
-
-  -- NO REFUSAL
-  no-refusal : (s : Session) (ns : List ℕ) (i number line : ℕ) → Replays P Q s ns i (Refused number line) → ⊥
-  no-refusal s [] i number line h = h
-  no-refusal s (n ∷ ns) i number line (inl (q, e, l, g)) = no-refusal (after P Q s q) ns (suc i) number line g
-  no-refusal s (n ∷ ns) i number line (inr (never, e)) = absurd (let z : ◌≡◌ {A = ℕ} 0 1 = cc in omega arith)
-
-  -- what is not broken is kept
-  pub kept-else : (s : Session) (ns : List ℕ) (i : ℕ) (a : Answer) → OneOf (0 ∷ 2 ∷ []) (tag_of the_type a) → Replays P Q s ns i a → Replays P Q s ns i Kept
-  kept-else s ns i Kept h g = g
-  kept-else s ns i (Broken j) h g = absurd (⊎_elim (λ e. omega arith) (λ e. omega arith) h)
-  kept-else s ns i (Refused number line) h g = absurd (no-refusal s ns i number line g)
 
   -- A NO
   pub no-worth : (r : Mark) → Judged P Q (Other true) Right r → Worth P Q says-no r

@@ -74,9 +74,8 @@ pub fn mark_run(m: Model, first: u32, run: &[u32], work: &mut [u8], stood: &mut 
     requires { WellFormed m × (first + length run.now < 4294967296) × (length run.now ≤ limit.run) × (limit.work ≤ length work.old) × (limit.run ≤ length stood.old) }
     ensures { ((ps : List Place) → Decodes run.now ps → Worth (program_of m) (question_of m) (says-yes first ps) result) × Notes (program_of m) (question_of m) (start []) run.now stood.old stood.new × (work.new ≡ wiped work.old) }
 {
-    let answer = replay_runs::replay_model(m, run, work, stood);
-    if let Answer::Broken { place } = answer {
-        return mark_broken(m, first, place, work);
+    match replay_runs::replay_model(m, run, work, stood) {
+        Answer::Kept => Mark::Right,
+        Answer::Broken { place } => mark_broken(m, first, place, work),
     }
-    Mark::Right
 }

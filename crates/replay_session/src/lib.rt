@@ -11,20 +11,18 @@ ghost use Rattle.replay_session.specs.Records.{Fits};
 use limits::{CARRIED, NONE, OBJECTS, RUN};
 use model::{Model, Relations};
 
-// The replay's answer to a run: kept, broken at a place, or a refusal with its number and line.
+// The replay's answer to a run: kept, or broken at a place.
 #[derive(Clone, Copy)]
 pub enum Answer {
     Kept,
     Broken { place: usize },
-    Refused { number: u32, line: u32 },
 }
 
-// The answer to one place: kept with the number of those who stood by, broken at the count of places kept, or a refusal with its number and line.
+// The answer to one place: kept with the number of those who stood by, or broken at the count of places kept.
 #[derive(Clone, Copy)]
 pub enum PlaceAnswer {
     Kept { stood: u32 },
     Broken { place: usize },
-    Refused { number: u32, line: u32 },
 }
 
 // The replay's state: the database, the stages met, the carried objects in the order of their variables (255 for none) and the count of places kept.

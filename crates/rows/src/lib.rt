@@ -39,3 +39,10 @@ impl Row {
         self as u32
     }
 }
+
+// A row that refuses a text or a call, and the line that it stands on; 0 where no line is to blame.
+#[derive(Clone, Copy, PartialEq, Eq)]
+pub struct Refusal {
+    pub row: Row,
+    pub line: u32,
+}

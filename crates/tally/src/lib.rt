@@ -16,7 +16,6 @@ use calls::TOO_MANY;
 use limits::WORK;
 use model::Model;
 use strike_table::{REACHED, Table};
-use text::Acceptance;
 
 // The number of the refusal of the list.
 const LIST: u32 = 19;
@@ -101,24 +100,20 @@ fn judge(m: Model, list: &[u32], work: &mut [u8]) -> Count
 pub fn tally(text: &[u8], list: &[u32], work: &mut [u8]) -> Count
     ensures { Tallies text.now list.now work.old result work.new }
 {
-    let row = calls::early(text.len(), work.len() < WORK, false);
-    if row != 0 {
-        return Count::Refused {
-            number: row,
-            line: 0,
-        };
+    match text::accept(text, work.len() < WORK, false) {
+        Ok(m) => {
+            if strike_list::faulty(m, list) {
+                Count::Refused {
+                    number: LIST,
+                    line: 0,
+                }
+            } else {
+                judge(m, list, work)
+            }
+        }
+        Err(refusal) => Count::Refused {
+            number: refusal.row.number(),
+            line: refusal.line,
+        },
     }
-    let reading = text::read(text);
-    let acceptance = reading.answer;
-    if let Acceptance::Refused { number, line } = acceptance {
-        return Count::Refused { number, line };
-    }
-    let m = reading.model;
-    if strike_list::faulty(m, list) {
-        return Count::Refused {
-            number: LIST,
-            line: 0,
-        };
-    }
-    judge(m, list, work)
 }

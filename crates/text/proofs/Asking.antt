@@ -27,8 +27,7 @@ use Rattle.text_lines.proofs.Going.{reads-unshaped, reads-faulty, reads-ask, ask
 use Rattle.text_scan.proofs.Laws.{nothing}
 use Rattle.text_opening.specs.Openings.{fitted}
 use Rattle.text_opening.proofs.Laws.{length_declared, before}
-use Rattle.text.specs.declared.Acceptance.TheVariants.{Accepted}
-use Rattle.text.specs.Reading.{Names, Reads}
+use Rattle.text.specs.Reading.{Names, Accepts}
 use Rattle.text.specs.Reached.{Reached, onwards, AskLine}
 use Rattle.text.proofs.Lines.{some-lines, valid-there, onwards-line}
 
@@ -72,7 +71,7 @@ module _ {text : List ℕ} {at n e : ℕ} {d : Declared} {m : Model} (so : Reach
       unfolding finish
       ask-followed h = let w = some-lines (drop (e + 1) text) (omega (arith, length-drop (e + 1) text)) in onwards-ask ∙ rw (w.2, add-one)
 
-      pub ask-last : length text ≤ e + 1 → f ≡ fitted m d n → Reads (onwards text at n d m) text (record { answer = Accepted; model = r.model })
+      pub ask-last : length text ≤ e + 1 → f ≡ fitted m d n → Accepts (onwards text at n d m) text r.model
       unfolding finish
       ask-last h y =
           let g = subst (λ (x : Model). Asks (declared_of (take e text) d) x a.qs r.model) y (a.accepted z) in
@@ -80,4 +79,10 @@ module _ {text : List ℕ} {at n e : ℕ} {d : Declared} {m : Model} (so : Reach
           let t = k.line.ends in
           let gone : drop (e + 1) text ≡ [] = nothing text (e + 1) h in
           let count : n ≡ length (lines text) = (let c = rw (k.line.read, gone) at so.number in omega arith) in
-          rw (onwards-ask, gone) (refl, rw (sym count) (represents (before d n so.holds v) g), names_stand text d e r.model (omega arith) v g.names g.lengths)
+          let w = represents (before d n so.holds v) g in
+          record {
+            declared = declared_of (take e text) d;
+            says = rw (onwards-ask, gone, w.program, w.question) refl;
+            represents = rw (sym count, w.program, w.question) w;
+            names = names_stand text d e r.model (omega arith) v g.names g.lengths;
+          }

@@ -1,5 +1,5 @@
 -- `exports::put` meets its contract.
-use mathlib.Core.Path.{refl, ◌∙◌}
+use mathlib.Core.Path.{refl}
 use native.Mathlib.Omega.{arith}
 use Rattle.exports.proofs.put.Goals as goal
 
@@ -11,6 +11,3 @@ returns-in-Kept c = rw c.in-Kept.is refl
 
 pub returns-in-Broken : goal.returns-in-Broken
 returns-in-Broken c = rw c.in-Broken.is refl
-
-pub returns-in-Refused : goal.returns-in-Refused
-returns-in-Refused c = c.refusal.ensures ∙ rw c.in-Refused.is refl

@@ -1,5 +1,5 @@
 -- `exports::replied` meets its contract.
-use mathlib.Core.Path.{refl, ◌∙◌}
+use mathlib.Core.Path.{refl}
 use native.Mathlib.Omega.{arith}
 use Rattle.exports.proofs.replied.Goals as goal
 
@@ -8,6 +8,3 @@ overflow_add-result c = record { fits = omega (arith, rw c.in-Broken.is at c.req
 
 pub returns-in-Broken : goal.returns-in-Broken
 returns-in-Broken c = rw c.in-Broken.is refl
-
-pub returns-in-Refused : goal.returns-in-Refused
-returns-in-Refused c = c.refusal.ensures ∙ rw c.in-Refused.is refl

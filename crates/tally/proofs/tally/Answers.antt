@@ -1,47 +1,27 @@
-use mathlib.Core.Path.{◌≡◌, refl, sym, ◌∙◌}
-use mathlib.Core.Bool.{false}
-use lib.Dec.{ltb}
-use lib.ListN.{length}
-use Rattle.limits.specs.Limits as limit
-use Rattle.calls.specs.Calls.{early}
-use Rattle.strike_calls.proofs.Laws.{asked-early, asked-room, asked-refused, asked-model, asked-faulty, asked-taken}
+use mathlib.Core.Path.{refl, sym, ap, ◌∙◌}
+use Prim.Native.Nat.{ℕ}
+use Rattle.strike_calls.proofs.Laws.{asked-room, asked-refused, asked-model, asked-faulty, asked-taken}
+use Rattle.tally.specs.declared.Count.TheVariants.{Refused}
 use Rattle.tally.proofs.tally.Goals as goal
-use Rattle.tally.proofs.tally.Goals.{Else-row-ne0}
-
-pub returns-then-row-ne0 : goal.returns-then-row-ne0
-returns-then-row-ne0 c =
-    let a = c.args in
-    let e = c.early-row in
-    rw (asked-early a.text.now a.list.now a.work.now e.result e.ensures c.if-row-ne0.true) (refl, refl)
-
--- no row before the lines
-none : (c : Else-row-ne0) → let a = c.args in early (length a.text.now) (ltb (length a.work.now) limit.work) false ≡ 0
-none c = sym c.early-row.ensures ∙ c.if-row-ne0.false
-
-pub returns-in-Refused : goal.returns-in-Refused
-returns-in-Refused c =
-    let a = c.args in
-    let r = c.read-reading in
-    rw (asked-refused a.text.now a.list.now a.work.now (none (goal.at.returns-in-Refused c).Else-row-ne0) r.result r.ensures c.in-Refused.number c.in-Refused.line c.in-Refused.is) (refl, refl)
 
 pub faulty-requires : goal.faulty-requires
-faulty-requires c = let a = c.args in asked-model a.text.now a.list.now a.work.now (none (goal.at.faulty-requires c).Else-row-ne0) c.read-reading.result c.read-reading.ensures c.in_default.is
+faulty-requires c = let a = c.args in asked-model a.text.now a.list.now a.work.now _ c.in-Ok.ensures
 
 pub returns-then-faulty : goal.returns-then-faulty
 returns-then-faulty c =
     let a = c.args in
-    let r = c.read-reading in
-    rw (asked-faulty a.text.now a.list.now a.work.now (none (goal.at.returns-then-faulty c).Else-row-ne0) r.result r.ensures c.in_default.is (sym c.faulty.ensures ∙ c.if-faulty.true)) (refl, refl)
+    rw (asked-faulty a.text.now a.list.now a.work.now _ c.in-Ok.ensures (sym c.faulty.ensures ∙ c.if-faulty.true)) (refl, refl)
 
 pub judge-requires : goal.judge-requires
 judge-requires c =
     let a = c.args in
-    let r = c.read-reading in
-    (asked-model a.text.now a.list.now a.work.now (none (goal.at.judge-requires c).Else-row-ne0) r.result r.ensures c.in_default.is, sym c.faulty.ensures ∙ c.if-faulty.false, asked-room a.text.now a.list.now a.work.now (none (goal.at.judge-requires c).Else-row-ne0))
+    let r = c.in-Ok.ensures in
+    (asked-model a.text.now a.list.now a.work.now _ r, sym c.faulty.ensures ∙ c.if-faulty.false, asked-room a.text.now a.list.now a.work.now _ r)
 
-pub returns : goal.returns
-returns c =
+pub returns-else-faulty : goal.returns-else-faulty
+returns-else-faulty c =
     let a = c.args in
-    let r = c.read-reading in
-    let t = asked-taken a.text.now a.list.now a.work.now (none (goal.at.returns c).Else-row-ne0) r.result r.ensures c.in_default.is (sym c.faulty.ensures ∙ c.if-faulty.false) in
-    rw t.1 c.judge.ensures
+    rw (asked-taken a.text.now a.list.now a.work.now _ c.in-Ok.ensures (sym c.faulty.ensures ∙ c.if-faulty.false)) c.judge.ensures
+
+pub returns-in-Err : goal.returns-in-Err
+returns-in-Err c = let a = c.args in rw (asked-refused a.text.now a.list.now a.work.now c.in-Err.ensures) (ap (λ (n : ℕ). Refused n _) c.number.ensures, refl)

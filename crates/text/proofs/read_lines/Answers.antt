@@ -17,7 +17,7 @@ pub line_end-e-requires : goal.line_end-e-requires
 line_end-e-requires c = c.loop-at-test.true
 
 pub returns-then-e-text : goal.returns-then-e-text
-returns-then-e-text c = rw (c.loop-at.invariant.2, onwards-bad c.loop-at.invariant.1 c.line_end-e.ensures c.if-e-text.true) c.refusal.ensures
+returns-then-e-text c = rw (c.refusal.ensures, c.loop-at.invariant.2) (onwards-bad c.loop-at.invariant.1 c.line_end-e.ensures c.if-e-text.true)
 
 pub slice_bounds-at_bytes-end : goal.slice_bounds-at_bytes-end
 slice_bounds-at_bytes-end c = sym (length-take-le c.line_end-e.result c.args.text.now c.line_end-e.ensures.within)
@@ -52,14 +52,14 @@ pub returns-in_default : goal.returns-in_default
 returns-in_default c =
     let i = c.loop-at.invariant in
     let l = line-found c.line_end-e.ensures c.if-e-text.false in
-    rw (i.2, line_unshaped i.1 l (c.in_default.ensures (c.at_bytes.ensures.missing c.if-at_bytes.false))) c.refusal-in_default.ensures
+    rw (c.refusal-in_default.ensures, i.2) (line_unshaped i.1 l (c.in_default.ensures (c.at_bytes.ensures.missing c.if-at_bytes.false)))
 
 pub returns-in-Some-row : goal.returns-in-Some-row
 returns-in-Some-row c =
     let i = c.loop-at.invariant in
     let l = line-found c.line_end-e.ensures c.if-e-text.false in
     let s = c.in-Some.ensures.steps (program_of c.loop-at.m) i.1.holds in
-    rw (i.2, line_refused i.1 l s c.in-Some-row.is) c.refusal-in-Some-row.ensures
+    rw (c.refusal-in-Some-row.ensures, i.2) (line_refused i.1 l s c.in-Some-row.is)
 
 pub overflow_add-at : goal.overflow_add-at
 overflow_add-at c = let h = c.line_end-e.ensures.within in omega (arith, c.loop-at.invariant.0)
@@ -81,4 +81,4 @@ loop-at-preserved c =
     (i.0, reached-on i.1 l s z r.aside, i.2 ∙ onwards-on i.1 l s z a)
 
 pub returns : goal.returns
-returns c = let k = c.loop-at in rw (k.invariant.2, onwards-end c.args.text.now k.at k.line k.d k.m (omega (arith, c.loop-at-test.false))) c.refusal-2.ensures
+returns c = let k = c.loop-at in rw (c.refusal-2.ensures, k.invariant.2) (onwards-end c.args.text.now k.at k.line k.d k.m (omega (arith, c.loop-at-test.false)))

@@ -19,13 +19,13 @@ read_ask-requires c =
     (omega (arith, k, c.requires.2.room), omega arith, omega (arith, k, c.requires.0), valid-there so c.requires.2.line, rw c.fit-f.ensures (fitted-empty a.d a.line so.holds so.stagecount so.stages))
 
 pub returns-in_default : goal.returns-in_default
-returns-in_default c = rw (ask-unshaped c.requires.1 c.requires.2 c.in_default.ensures) c.refusal.ensures
+returns-in_default c = rw c.refusal.ensures (ask-unshaped c.requires.1 c.requires.2 c.in_default.ensures)
 
 pub returns-in-Some-row : goal.returns-in-Some-row
-returns-in-Some-row c = rw (ask-refused c.requires.1 c.requires.2 c.in-Some.ensures c.in-Some-row.is) c.refusal-in-Some-row.ensures
+returns-in-Some-row c = rw c.refusal-in-Some-row.ensures (ask-refused c.requires.1 c.requires.2 c.in-Some.ensures c.in-Some-row.is)
 
 pub returns-then-e-text : goal.returns-then-e-text
-returns-then-e-text c = rw (ask-followed c.requires.1 c.requires.2 c.in-Some.ensures (ap row_number c.in_default-row.is) c.if-e-text.true) c.refusal-then-e-text.ensures
+returns-then-e-text c = rw c.refusal-then-e-text.ensures (ask-followed c.requires.1 c.requires.2 c.in-Some.ensures (ap row_number c.in_default-row.is) c.if-e-text.true)
 
 pub returns : goal.returns
 returns c = ask-last c.requires.1 c.requires.2 c.in-Some.ensures (ap row_number c.in_default-row.is) (omega (arith, c.if-e-text.false)) c.fit-f.ensures
