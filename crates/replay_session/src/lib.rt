@@ -26,6 +26,7 @@ pub enum PlaceAnswer {
 }
 
 // The replay's state: the database, the stages met, the carried objects in the order of their variables (255 for none) and the count of places kept.
+// The count stays beside the array: memory is fixed, and the states behind it are not read.
 #[derive(Clone, Copy)]
 pub struct Session {
     pub states: [u32; OBJECTS],
@@ -36,6 +37,7 @@ pub struct Session {
 }
 
 // The replay's state but for the states of the objects.
+// The count stays without an array: the states are lent beside a position.
 #[derive(Clone, Copy)]
 pub struct Position {
     pub objects: usize,
