@@ -31,6 +31,7 @@ pub trait Item {
     ghost read: { List ℕ → Read Value };
 
     // Where the item that is next ends.
+    // The line and a place stay two parameters: the place where an item ends in the whole line is the answer.
     fn end(text: &[u8], at: usize) -> Option<usize>
         requires { at ≤ length text.now }
         ensures { Ends read text.now at result };
@@ -106,6 +107,7 @@ impl Item for Stage {
 }
 
 // Where a space and the item behind it end.
+// The line and a place stay two parameters, as at `Item::end`.
 pub fn spaced_end<T: Item>(text: &[u8], at: usize) -> Option<usize>
     ensures { Ends (after_space T.read) text.now at result }
 {
@@ -117,6 +119,7 @@ pub fn spaced_end<T: Item>(text: &[u8], at: usize) -> Option<usize>
 }
 
 // Where at most n items, each after a space, end with the closing bracket.
+// The line and a place stay two parameters, as at `Item::end`.
 pub fn items_end<T: Item>(text: &[u8], at: usize, n: usize) -> Option<usize>
     requires { at ≤ length text.now }
     ensures { Ends (rest T.read n) text.now at result }
@@ -139,6 +142,7 @@ pub fn items_end<T: Item>(text: &[u8], at: usize, n: usize) -> Option<usize>
 }
 
 // Where the atom that is next ends.
+// The line and a place stay two parameters, as at `Item::end`.
 pub fn atom_end(text: &[u8], at: usize) -> Option<usize>
     requires { at ≤ length text.now }
     ensures { Ends atom text.now at result }
@@ -151,6 +155,7 @@ pub fn atom_end(text: &[u8], at: usize) -> Option<usize>
 }
 
 // The item behind byte i, unless that closes the row.
+// The line and a place stay two parameters: the span has places of the whole line.
 fn item_behind<T: Item>(text: &[u8], i: usize) -> Option<Span>
     requires { i ≤ length text.now }
     ensures { Behind T.read text.now i result }
@@ -166,6 +171,7 @@ fn item_behind<T: Item>(text: &[u8], i: usize) -> Option<Span>
 }
 
 // Item k of the row of them that is next.
+// The line and a place stay two parameters: the span has places of the whole line.
 pub fn item_at<T: Item>(text: &[u8], at: usize, k: usize) -> Option<Span>
     requires { at ≤ length text.now }
     ensures { Picked T.read text.now at k result }

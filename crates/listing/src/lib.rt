@@ -26,6 +26,7 @@ fn put_summary(out: &mut [u8], reached: bool, n: u32) -> usize
 }
 
 // Writes the line of an atomic state from place `at` on.
+// The text and the model stay beside the slice: both are read only to find a name, and the slice is borrowed anew for each line.
 fn put_state(out: &mut [u8], at: usize, text: &[u8], m: &Model, set: u32) -> usize
     requires { GoodRelations m.now × Named text.now m.now × (at + longest ≤ length out.old) }
     ensures { Writes out.old at (atomic_line text.now m.now set) result out.new × (result ≤ at + longest) }
