@@ -13,8 +13,8 @@ code kind value = kind * 4294967296 + value
 -- WHAT A HAND-IN SAYS: kind 5 is unreadable, with the line; kind 9 no; kind 10 yes, with places × 65,536 + the line of the first
 abbrev pub handed : Result (Option Run) handin.Unreadable → ℕ
 handed (Ok None) = code 9 0
-handed (Ok (Some yes)) = code 10 (yes.places * 65536 + yes.first)
-handed (Err unreadable) = code 5 unreadable.line
+handed (Ok (Some r)) = code 10 (r.places * 65536 + r.first)
+handed (Err u) = code 5 u.line
 
 -- THE MARK: kind 2 is refused, with number × 65,536 + line; kind 5 unreadable, with the line; kind 6 right; kind 7 the other verdict, with 1 where that is reached; kind 8 a run that breaks, with place × 65,536 + line
 abbrev pub marked : Mark → ℕ

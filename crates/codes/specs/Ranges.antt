@@ -9,8 +9,8 @@ use Rattle.marker_worth.specs.declared.Mark.TheVariants.{Refused, Unreadable, Ri
 -- the run of a hand-in fits the table
 abbrev pub ShortRun : Result (Option Run) handin.Unreadable → Type 0
 ShortRun (Ok None) = Unit {0}
-ShortRun (Ok (Some yes)) = yes.places ≤ limit.run
-ShortRun (Err unreadable) = Unit {0}
+ShortRun (Ok (Some r)) = r.places ≤ limit.run
+ShortRun (Err u) = Unit {0}
 
 -- it breaks at one of its places, or at its end
 abbrev pub LowPlace : Mark → Type 0
