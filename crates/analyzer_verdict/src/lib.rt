@@ -6,7 +6,6 @@ ghost use Rattle.limits.specs.Limits as limit;
 ghost use Rattle.model.specs.Records.{program_of, question_of};
 ghost use Rattle.model.specs.WellFormed.{WellFormed};
 ghost use Rattle.search.specs.Search.{Searched, Finds};
-ghost use Rattle.calls.specs.Crowding.{Crowded};
 ghost use Rattle.analyzer_verdict.specs.Judging.{Answered, Beside, refusal, Judges};
 
 use calls::TOO_MANY;
@@ -44,19 +43,20 @@ pub fn refuse(number: u32, line: u32) -> Analysis
 
 // The verdict that a search gives; the run of a reached question is written.
 fn conclude(m: Model, facts: &[u8], run: &mut [u32], found: Found) -> Answer
-    requires { WellFormed m × Searched m facts.now found × (limit.run ≤ length run.old) × (Crowded (program_of m) → ⊥) }
+    requires { WellFormed m × Searched m facts.now found × (limit.run ≤ length run.old) }
     ensures { Answered (program_of m) (question_of m) run.old run.new result }
 {
     if !found.reached {
         return Answer::Unreached;
     }
+    let explored = found.explored;
     let rows = &found.levels.rows;
-    let moves = &found.moves;
+    let moves = &explored.moves;
     let places = witness::witness(
         run,
         facts,
         m,
-        found.states,
+        explored.states,
         rows,
         &moves.table,
         &moves.steps,
@@ -67,15 +67,16 @@ fn conclude(m: Model, facts: &[u8], run: &mut [u32], found: Found) -> Answer
 }
 
 // The analysis that a search gives: too many states, or the verdict with the states beside it.
-fn judge(m: Model, facts: &[u8], run: &mut [u32], found: Found) -> Analysis
-    requires { WellFormed m × Finds m facts.now found × (limit.run ≤ length run.old) }
+fn judge(m: Model, facts: &[u8], run: &mut [u32], searched: Option<Found>) -> Analysis
+    requires { WellFormed m × Finds m facts.now searched × (limit.run ≤ length run.old) }
     ensures { Answered (program_of m) (question_of m) run.old run.new result.answer × Beside (program_of m) result.states result.count result.answer }
 {
-    if found.crowded {
+    let Some(found) = searched else {
         return refuse(TOO_MANY, 0);
-    }
+    };
     let answer = conclude(m, facts, run, found);
-    let listing = found.listing;
+    let explored = found.explored;
+    let listing = explored.listing;
     let states = listing.states;
     Analysis {
         answer,
@@ -90,8 +91,8 @@ pub fn decide(m: Model, work: &mut [u8], run: &mut [u32]) -> Analysis
     ensures { Judges (program_of m) (question_of m) work.old run.old result work.new run.new }
 {
     let mut facts = [0u8; ROOM];
-    let found = search::search(&mut facts, m);
-    let analysis = judge(m, &facts, run, found);
+    let searched = search::search(&mut facts, m);
+    let analysis = judge(m, &facts, run, searched);
     calls::wipe(work);
     analysis
 }

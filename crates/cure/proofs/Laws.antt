@@ -11,7 +11,7 @@ use lib.ListN.{length, get_or}
 use Rattle.semantics.specs.Labels.{has}
 use Rattle.semantics.specs.Models.{Program, Question}
 use Rattle.semantics.specs.Questions.{Reached, Verdict}
-use Rattle.semantics.proofs.Tools.{either, clash}
+use Rattle.semantics.proofs.Tools.{either}
 use Rattle.striking.specs.Striking.{strike, most, Cured, Cure, rising}
 use Rattle.striking.specs.Numbers.{numbered}
 use Rattle.striking.proofs.Numbers.{Sooner, cure-by, no-cure-by}
@@ -19,10 +19,10 @@ use Rattle.strike_list.specs.declared.Lines.{Lines}
 use Rattle.strike_list.specs.Lists.{shown, listed}
 use Rattle.strike_list.proofs.Records.{listed-shown}
 use Rattle.strike_table.specs.declared.Table.{Table}
-use Rattle.strike_table.specs.Tables.{Fills}
+use Rattle.strike_table.specs.Tables.{Filled}
 use Rattle.cure.specs.declared.Answer.TheVariants.{Strike}
 use Rattle.cure.specs.declared.Advice.{Advice}
-use Rattle.cure.specs.Curing.{refusal, told, Answers}
+use Rattle.cure.specs.Curing.{told, Answers}
 use Rattle.cure.specs.Soonest.{size_at, Soonest}
 
 -- what a size says of a choice
@@ -37,16 +37,16 @@ numbered-few : (ys : List ℕ) (k : ℕ) → length (numbered ys k) ≤ length y
 numbered-few [] k = omega arith
 numbered-few (y ∷ ys) k = ⊎_elim (λ (q : has k (length ys) ≡ true). rw q (omega (arith, numbered-few ys k))) (λ (q : has k (length ys) ≡ false). rw q (omega (arith, numbered-few ys k))) (either (has k (length ys)))
 
-module _ (P : Program) (Q : Question) (L : List ℕ) (t : Table) (n : ℕ) (few : length (rising L) ≤ most) (sparse : t.crowded ≡ false) (d : Fills P Q (rising L) t) (s : Soonest (size_at (rising L) t.said) t.total n) where
+module _ (P : Program) (Q : Question) (L : List ℕ) (t : Table) (n : ℕ) (few : length (rising L) ≤ most) (d : Filled P Q (rising L) t) (s : Soonest (size_at (rising L) t.said) t.total n) where
   abbrev xs : List ℕ
   xs = rising L
 
   -- a choice whose size is its own is unreached, and one with a larger size is reached
   is-reached : (k : ℕ) → k < 2 ^ length xs → eqb (get_or t.said k 0) 1 ≡ true → Reached (strike P (numbered xs k)) Q
-  is-reached k l e = subst (λ (b : Bool). Verdict (strike P (numbered xs k)) Q b) e (d.verdict sparse k l)
+  is-reached k l e = subst (λ (b : Bool). Verdict (strike P (numbered xs k)) Q b) e (d.verdict k l)
 
   is-unreached : (k : ℕ) → k < 2 ^ length xs → eqb (get_or t.said k 0) 1 ≡ false → Reached (strike P (numbered xs k)) Q → ⊥
-  is-unreached k l e = subst (λ (b : Bool). Verdict (strike P (numbered xs k)) Q b) e (d.verdict sparse k l)
+  is-unreached k l e = subst (λ (b : Bool). Verdict (strike P (numbered xs k)) Q b) e (d.verdict k l)
 
   pub none-cures : n ≡ t.total → Cured P Q L none
   none-cures e = no-cure-by L P Q (λ k l. ⊎_elim (is-reached k l)
@@ -75,14 +75,11 @@ module _ (P : Program) (Q : Question) (L : List ℕ) (t : Table) (n : ℕ) (few 
       (λ (w : (n < t.total) × (size_at xs t.said n ≤ most)). cures w.0 w.1) s.which
 
 -- THE ANSWER of a table over the lines of a list
-module _ (P : Program) (Q : Question) (L : List ℕ) (l : Lines) (t : Table) (few : l.count ≤ most) (e : l ≡ shown (rising L)) (f : Fills P Q (rising L) t) where
+module _ (P : Program) (Q : Question) (L : List ℕ) (l : Lines) (t : Table) (few : l.count ≤ most) (e : l ≡ shown (rising L)) (f : Filled P Q (rising L) t) where
   lines : listed l ≡ rising L
   lines = ap listed e ∙ listed-shown (rising L)
 
-  pub answers-crowded : t.crowded ≡ true → Answers P Q L (refusal 15 0)
-  answers-crowded c = inl (f.crowded.0 c, refl)
-
-  module _ (n : ℕ) (c : t.crowded ≡ false) (s : Soonest (size_at (listed l) t.said) t.total n) where
+  module _ (n : ℕ) (s : Soonest (size_at (listed l) t.said) t.total n) where
     short : length (rising L) ≤ most
     short = omega (arith, few, ap (λ (k : Lines). k.count) e)
 
@@ -90,14 +87,14 @@ module _ (P : Program) (Q : Question) (L : List ℕ) (l : Lines) (t : Table) (fe
     found = subst (λ (xs : List ℕ). Soonest (size_at xs t.said) t.total n) lines s
 
     pub answers-none : n ≡ t.total → Answers P Q L (told none)
-    answers-none z = inr ((λ h. clash (f.crowded.1 h) c), (none, none-cures P Q L t n short c f found z, refl))
+    answers-none z = inr (f.few, (none, none-cures P Q L t n short f found z, refl))
 
     pub answers-some : (n ≡ t.total → ⊥) → (k : Lines) → k ≡ shown (numbered (listed l) n) → Answers P Q L (record { answer = Strike k.count; lines = k.lines })
     answers-some z k q = inr (
-      (λ h. clash (f.crowded.1 h) c),
+      f.few,
       (
         some (numbered (rising L) n),
-        some-cures P Q L t n short c f found z,
+        some-cures P Q L t n short f found z,
         ap {B = Advice} (λ (j : Lines). record { answer = Strike j.count; lines = j.lines }) (q ∙ ap (λ (xs : List ℕ). shown (numbered xs n)) lines),
       ),
     )

@@ -9,7 +9,7 @@ ghost use Rattle.model.specs.WellFormed.{WellFormed};
 ghost use Rattle.calls.specs.Wiping.{wiped};
 ghost use Rattle.striking.specs.Striking.{most, faulty, rising};
 ghost use Rattle.strike_list.specs.Lists.{shown, listed};
-ghost use Rattle.strike_table.specs.Tables.{Fills};
+ghost use Rattle.strike_table.specs.Tables.{Filled};
 ghost use Rattle.cure.specs.Curing.{refusal, Answers, Cures};
 ghost use Rattle.cure.specs.Soonest.{size_of, size_at, Soonest};
 
@@ -79,11 +79,8 @@ fn soonest(l: Lines, t: Table) -> usize
 // The answer by the table of choices.
 fn conclude(l: Lines, t: Table) -> Advice
     requires { (l.count ≤ most) × (t.total ≤ 1024) }
-    ensures { (P : Program) (Q : Question) (L : List ℕ) → l ≡ shown (rising L) → Fills P Q (rising L) t → Answers P Q L result }
+    ensures { (P : Program) (Q : Question) (L : List ℕ) → l ≡ shown (rising L) → Filled P Q (rising L) t → Answers P Q L result }
 {
-    if t.crowded {
-        return refuse(TOO_MANY, 0);
-    }
     let n = soonest(l, t);
     if n == t.total {
         return Advice {
@@ -105,8 +102,10 @@ fn judge(m: Model, list: &[u32], work: &mut [u8]) -> Advice
     ensures { Answers (program_of m) (question_of m) list.now result × (work.new ≡ wiped work.old) }
 {
     let l = strike_list::rising(m, list);
-    let t = strike_table::fill(m, l);
     calls::wipe(work);
+    let Some(t) = strike_table::fill(m, l) else {
+        return refuse(TOO_MANY, 0);
+    };
     conclude(l, t)
 }
 

@@ -31,15 +31,16 @@ fn show(m: Model, s: Session, object: u32, facts: &[u8], run: &mut [u32], found:
     requires { Ready m s object × SearchedFrom m (state_in s object) facts.now found × (found.reached ≡ true) × (limit.run ≤ length run.old) }
     ensures { ShownFrom m (there m s) object run.old run.new result }
 {
-    let states = found.states;
+    let explored = found.explored;
+    let states = explored.states;
     let levels = found.levels;
     let rows = levels.rows;
-    let moves = found.moves;
+    let moves = explored.moves;
     let table = moves.table;
     let steps = moves.steps;
     let ways = moves.ways;
-    let known = states.states;
-    let slot = search_states::seek(&known, states.count, s.states[object as usize]);
+    let slot =
+        search_states::seek(&states.states[..states.count], s.states[object as usize]).unwrap();
     witness_from::witness_from(
         run,
         facts,
@@ -82,12 +83,12 @@ fn ask(m: Model, s: Session, object: u32, run: &mut [u32]) -> Analysis
 {
     let mut facts = [0u8; ROOM];
     let state = s.states[object as usize];
-    let found = search::search_from(&mut facts, m, state);
-    if found.crowded {
+    let Some(found) = search::search_from(&mut facts, m, state) else {
         return analyzer_verdict::refuse(TOO_MANY, 0);
-    }
+    };
     let answer = conclude(m, s, object, &facts, run, found);
-    let listing = found.listing;
+    let explored = found.explored;
+    let listing = explored.listing;
     let states = listing.states;
     Analysis {
         answer,

@@ -60,7 +60,7 @@ fn arranged(s: States, listing: Listing, ranks: [Option<u32>; LISTED]) -> [u32; 
 {
     let mut moves = [0u32; LISTED];
     for (i, state) in listing.states[..listing.count].iter().enumerate() {
-        let slot = search_states::seek(&s.states, s.count, *state);
+        let slot = search_states::seek(&s.states[..s.count], *state).unwrap_or(s.count);
         moves[i] = ranks[slot].unwrap_or(NONE);
     }
     moves
@@ -93,11 +93,10 @@ fn explored(m: Model, attacker: &[u32], guardian: &[u32], work: &mut [u8]) -> Ga
     ensures { Settles (program_of m) (question_of m) attacker.now guardian.now work.old result work.new }
 {
     let mut facts = [0u8; ROOM];
-    let found = search::explore(&mut facts, m);
     calls::wipe(work);
-    if found.crowded {
+    let Some(found) = search::explore(&mut facts, m) else {
         return refuse(TOO_MANY, 0);
-    }
+    };
     tell(m, attacker, guardian, &facts, found)
 }
 

@@ -23,7 +23,8 @@ fn lead(states: &[u32], plus: u32, minus: u32, table: &[u8], i: usize, moves: &m
 {
     for (e, state) in states.iter().enumerate() {
         if facts_bits::get(table, i * WIDTH + e) {
-            let t = search_states::seek(states, states.len(), labels::relabel(*state, plus, minus));
+            let led = labels::relabel(*state, plus, minus);
+            let t = search_states::seek(states, led).unwrap_or(states.len());
             facts_bits::put(moves, e * WIDTH + t);
         }
     }
@@ -50,7 +51,7 @@ pub fn own(m: Model, s: States, table: &[u8], list: &[u32]) -> [u8; MATRIX]
     let mut moves = [0u8; MATRIX];
     for i in 0..m.clausecount {
         let c = m.clauses[i];
-        if search_states::among(list, list.len(), c.line) {
+        if list.contains(&c.line) {
             lead_clause(states, c, table, i, &mut moves);
         }
     }

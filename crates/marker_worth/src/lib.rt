@@ -34,14 +34,13 @@ fn judge(m: Model, reached: Mark, unreached: Mark, work: &mut [u8]) -> Mark
     ensures { Judged (program_of m) (question_of m) reached unreached result × (work.new ≡ wiped work.old) }
 {
     let mut table = [0u8; ROOM];
-    let found = search::search(&mut table, m);
     calls::wipe(work);
-    if found.crowded {
+    let Some(found) = search::search(&mut table, m) else {
         return Mark::Refused {
             number: TOO_MANY,
             line: 0,
         };
-    }
+    };
     if found.reached {
         return reached;
     }

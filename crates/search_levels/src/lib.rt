@@ -1,7 +1,7 @@
 // The levels of a question: in which states the carried objects can be with so many stages met, pair by pair, by who can come from which state to which.
 #![tactic(auto)]
 
-ghost use Rattle.std.specs.Prelude.{◌≡◌, ◌↔◌, true, cond, ◌&&◌, ◌||◌, ℕ, suc, ◌+◌, ◌*◌, ◌≤◌, ◌<◌, eqb, length};
+ghost use Rattle.std.specs.Prelude.{◌≡◌, ◌↔◌, true, cond, ◌&&◌, ◌||◌, ℕ, suc, ◌+◌, ◌*◌, ◌≤◌, ◌<◌, eqb, length, IfSome};
 ghost use Rattle.limits.specs.Limits as limit;
 ghost use Rattle.model.specs.Records.{stage_at};
 ghost use Rattle.model.specs.WellFormed.{WellFormed};
@@ -10,7 +10,7 @@ ghost use Rattle.facts_bits.specs.Bits.{bit_at, in_row};
 ghost use Rattle.facts_candidates.specs.Choices.{chosen};
 ghost use Rattle.search_states.specs.States.{row, Proper};
 ghost use Rattle.search_ways.specs.Moves.{matrix_bytes, Exactly};
-ghost use Rattle.search_levels.specs.Levels.{nothing, Aims, levels_bytes, pair_at, Filled};
+ghost use Rattle.search_levels.specs.Levels.{Aims, levels_bytes, pair_at, Filled};
 ghost use Rattle.search_levels.specs.Passing.{Has, Picked, Onward, Led, besides, Aimed, Holding, Met, Hopeful, Over, Asked, Ready, walker_of, meeting_of, Clear, Written};
 
 use facts_bits::{BYTES, SLOTS, WIDTH};
@@ -31,13 +31,6 @@ pub struct Levels {
     pub rows: [u8; LEVELS],
 }
 
-// What stage 1 asks besides of the object of its first variable: that its slot is in the row, or nothing.
-#[derive(Clone, Copy)]
-pub struct Pointing {
-    pub given: bool,
-    pub among: [u8; BYTES],
-}
-
 // A carried variable at a stage: its number in the stage, whether it stands there, and whether it stood in a stage before.
 #[derive(Clone, Copy)]
 struct Walker {
@@ -46,46 +39,31 @@ struct Walker {
     chosen: bool,
 }
 
-// A stage with the two carried variables, and what is asked besides of its first variable.
+// A stage with the two carried variables, and a row in which the slot of its first variable has to be, if there is one.
 #[derive(Clone, Copy)]
 struct Meeting {
     part: Part,
     first: Walker,
     second: Walker,
-    pointing: Pointing,
+    pointing: Option<[u8; BYTES]>,
 }
 
 // What is asked where an object of the state stands for the first variable: a slot to which it can come. A state that is not in the row, such as the empty one, comes to none.
-pub fn aim(s: States, ways: &[u8], state: u32) -> Pointing
+pub fn aim(s: States, ways: &[u8], state: u32) -> [u8; BYTES]
     requires { Proper s × (length ways.now ≡ matrix_bytes) }
     ensures { Aims s ways.now state result }
 {
-    let states = s.states;
-    let e = search_states::seek(&states, s.count, state);
-    if e < s.count {
-        let among = facts_bits::row(ways, e);
-        return Pointing { given: true, among };
-    }
-    let among = [0u8; BYTES];
-    Pointing { given: true, among }
-}
-
-// Nothing is asked besides.
-pub fn unasked() -> Pointing
-    ensures { result ≡ nothing }
-{
-    let among = [0u8; BYTES];
-    Pointing {
-        given: false,
-        among,
+    match search_states::seek(&s.states[..s.count], state) {
+        Some(e) => facts_bits::row(ways, e),
+        None => [0u8; BYTES],
     }
 }
 
 // What stage k asks besides.
-fn asked_at(p: Pointing, k: usize) -> Pointing
+fn asked_at(p: Option<[u8; BYTES]>, k: usize) -> Option<[u8; BYTES]>
     ensures { result ≡ besides p k }
 {
-    if k == 0 { p } else { unasked() }
+    if k == 0 { p } else { None }
 }
 
 // The choice with slot e for the variable, where it stands in the stage.
@@ -112,13 +90,11 @@ fn somewhere(
     requires { Asked work.now slots.now n literals.now part × (0 < part.variables) × (chosen c 0 ≡ limit.none) }
     ensures { Over work.now n (λ S. (result ≡ true) ↔ Holding S work.now literals.now part c (λ σ. bit_at row (σ 0) ≡ true)) }
 {
-    let mut e = facts_bits::next(row, 0);
-    while e < n {
+    for e in facts_bits::slots(row) {
         let one = facts_candidates::choose(c, 0, e);
         if facts_holds::shows(work, slots, n, literals, part, one) {
             return true;
         }
-        e = facts_bits::next(row, e + 1);
     }
     false
 }
@@ -130,19 +106,18 @@ fn pointed(
     n: usize,
     literals: &[u32],
     part: Part,
-    p: Pointing,
+    p: Option<[u8; BYTES]>,
     c: Choice,
 ) -> bool
-    requires { Asked work.now slots.now n literals.now part × (p.given ≡ true → 0 < part.variables) × (chosen c 0 ≤ limit.none) }
+    requires { Asked work.now slots.now n literals.now part × IfSome p (λ among. 0 < part.variables) × (chosen c 0 ≤ limit.none) }
     ensures { Over work.now n (λ S. (result ≡ true) ↔ Holding S work.now literals.now part c (Aimed p)) }
 {
     if !facts_holds::shows(work, slots, n, literals, part, c) {
         return false;
     }
-    if !p.given {
+    let Some(among) = p else {
         return true;
-    }
-    let among = p.among;
+    };
     if c.first < SLOTS {
         return facts_bits::get(&among, c.first);
     }
@@ -182,12 +157,10 @@ fn fitting(
     ensures { Over work.now n (λ S. Has result (λ e. (bit_at row e ≡ true) × Met S work.now literals.now t e f)) }
 {
     let mut out = [0u8; BYTES];
-    let mut e = facts_bits::next(row, 0);
-    while e < n {
-        if holds(work, slots, n, literals, t, e, f) {
+    for e in facts_bits::slots(row) {
+        if e < n && holds(work, slots, n, literals, t, e, f) {
             facts_bits::put(&mut out, e);
         }
-        e = facts_bits::next(row, e + 1);
     }
     out
 }
@@ -223,11 +196,11 @@ fn union(table: &[u8], at: usize, picked: [u8; BYTES]) -> [u8; BYTES]
     ensures { Has result (Picked table.now at picked) }
 {
     let mut out = [0u8; BYTES];
-    let mut u = facts_bits::next(picked, 0);
-    while u < LISTED {
-        let row = facts_bits::row(table, at + u);
-        facts_bits::join(&mut out, 0, row);
-        u = facts_bits::next(picked, u + 1);
+    for u in facts_bits::slots(picked) {
+        if u < LISTED {
+            let row = facts_bits::row(table, at + u);
+            facts_bits::join(&mut out, 0, row);
+        }
     }
     out
 }
@@ -377,8 +350,7 @@ fn standing(stage: Stage, x: u32, chosen: bool) -> Walker
     ensures { result ≡ walker_of stage x chosen }
 {
     let variables = stage.variables as usize;
-    let numbers = stage.numbers;
-    let seat = search_states::seek(&numbers, variables, x);
+    let seat = search_states::seek(&stage.numbers[..variables], x).unwrap_or(variables);
     Walker {
         seat,
         stands: seat < variables,
@@ -387,7 +359,13 @@ fn standing(stage: Stage, x: u32, chosen: bool) -> Walker
 }
 
 // A stage with the carried variables, where it is known which of them stood in a stage before, and what is asked besides.
-fn asked(stage: Stage, carried: [u32; 2], first: bool, second: bool, pointing: Pointing) -> Meeting
+fn asked(
+    stage: Stage,
+    carried: [u32; 2],
+    first: bool,
+    second: bool,
+    pointing: Option<[u8; BYTES]>,
+) -> Meeting
     requires { stage.variables ≤ length stage.numbers }
     ensures { result ≡ meeting_of stage carried first second pointing }
 {
@@ -411,9 +389,9 @@ fn after(w: Walker) -> bool
     w.chosen || w.stands
 }
 
-// The levels of a question over the found states, where `ways` has who can come from which slot to which, and p is what stage 1 asks besides.
-pub fn fill(work: &[u8], m: Model, s: States, ways: &[u8], p: Pointing) -> Levels
-    requires { WellFormed m × Exactly m work.now s × (length ways.now ≡ matrix_bytes) × (p.given ≡ true → 0 < (stage_at m 0).variables) }
+// The levels of a question over the found states, where `ways` has who can come from which slot to which, and p is a row in which stage 1 asks besides for the slot of its first variable, or nothing.
+pub fn fill(work: &[u8], m: Model, s: States, ways: &[u8], p: Option<[u8; BYTES]>) -> Levels
+    requires { WellFormed m × Exactly m work.now s × (length ways.now ≡ matrix_bytes) × IfSome p (λ among. 0 < (stage_at m 0).variables) }
     ensures { Filled m (row s) work.now ways.now p result }
 {
     let slots = facts_candidates::slots();

@@ -38,7 +38,7 @@ fn known(s: States, state: u32) -> bool
     if state == 0 {
         return s.empty;
     }
-    search_states::among(&s.states, s.count, state)
+    s.states[..s.count].contains(&state)
 }
 
 // A shortest way from one slot to another.
@@ -98,25 +98,25 @@ fn onward(
     if from == 0 {
         return Answer::NoWay;
     }
-    let e = search_states::seek(&s.states, s.count, from);
+    let e = search_states::seek(&s.states[..s.count], from).unwrap();
     if to == 0 {
         return emptied(m, s, table, links, ways, e, run);
     }
-    let u = search_states::seek(&s.states, s.count, to);
+    let u = search_states::seek(&s.states[..s.count], to).unwrap();
     between(m, s, table, links, ways, e, u, run)
 }
 
 // The answer that the explored states give.
-fn find(m: Model, found: Explored, from: u32, to: u32, run: &mut [u32]) -> Answer
-    requires { WellFormed m × ((w : List ℕ) × Explores m w found) × (limit.run ≤ length run.old) }
+fn find(m: Model, explored: Option<Explored>, from: u32, to: u32, run: &mut [u32]) -> Answer
+    requires { WellFormed m × ((w : List ℕ) × Explores m w explored) × (limit.run ≤ length run.old) }
     ensures { Answered (program_of m) from to run.old run.new result }
 {
-    if found.crowded {
+    let Some(found) = explored else {
         return Answer::Refused {
             number: TOO_MANY,
             line: 0,
         };
-    }
+    };
     let s = found.states;
     if !known(s, from) {
         return Answer::Refused {
@@ -146,8 +146,8 @@ pub fn decide(m: Model, from: u32, to: u32, work: &mut [u8], run: &mut [u32]) ->
     ensures { Finds (program_of m) from to work.old run.old result work.new run.new }
 {
     let mut facts = [0u8; ROOM];
-    let found = search::explore(&mut facts, m);
-    let answer = find(m, found, from, to, run);
+    let explored = search::explore(&mut facts, m);
+    let answer = find(m, explored, from, to, run);
     calls::wipe(work);
     answer
 }

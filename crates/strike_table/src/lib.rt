@@ -25,12 +25,11 @@ pub const REACHED: u8 = 1;
 
 pub const UNREACHED: u8 = 2;
 
-// What is said of each choice by its number, and how many choices there are; or that there are too many states, and then nothing is said.
+// What is said of each choice by its number, and how many choices there are.
 #[derive(Clone, Copy)]
 pub struct Table {
     pub said: [u8; CHOICES],
     pub total: usize,
-    pub crowded: bool,
 }
 
 // Whether the choice of number n, of which v is said, settles that of number k: a reached one those that strike fewer of its lines, an unreached one those that strike more.
@@ -66,7 +65,11 @@ fn reached(m: Model, l: Lines, n: u32, facts: &mut [u8]) -> bool
 {
     let chosen = strike_list::choose(l, n);
     let struck = strike_model::strike(m, &chosen.lines[..chosen.count]);
-    search::search(facts, struck).reached
+    let Some(found) = search::search(facts, struck) else {
+        // No more states are reachable with lines struck than with none.
+        unreachable!()
+    };
+    found.reached
 }
 
 // Decides a choice, unless a decided one has settled it, and says what it settles.
@@ -129,27 +132,16 @@ fn ways(count: usize) -> usize
     1 << count
 }
 
-// Searches with nothing struck, and where the states are not too many decides every choice.
-pub fn fill(m: Model, l: Lines) -> Table
+// Searches with nothing struck, and decides every choice; or nothing, where there are too many states.
+pub fn fill(m: Model, l: Lines) -> Option<Table>
     requires { WellFormed m × (l.count ≤ most) }
     ensures { Fills (program_of m) (question_of m) (listed l) result }
 {
     let total = ways(l.count);
     let mut said = [0u8; CHOICES];
     let mut facts = [0u8; ROOM];
-    let whole = search::search(&mut facts, m);
-    if whole.crowded {
-        return Table {
-            said,
-            total,
-            crowded: true,
-        };
-    }
+    let whole = search::search(&mut facts, m)?;
     mark(&mut said, total, 0, code(whole.reached));
     complete(&mut said, total, m, l, &mut facts);
-    Table {
-        said,
-        total,
-        crowded: false,
-    }
+    Some(Table { said, total })
 }

@@ -1,6 +1,6 @@
 -- THE COUNT BY THE TABLE: what a table that decides every choice says of them is counted.
 use mathlib.Core.Path.{◌≡◌, refl, sym, ap, ◌∙◌, subst}
-use mathlib.Core.Logic.{inl, inr, ⊎_elim}
+use mathlib.Core.Logic.{inr, ⊎_elim}
 use mathlib.Core.Bool.{true, false}
 use mathlib.Core.List.{List, map}
 use Prim.Native.Nat.{ℕ, zero, suc, ◌+◌, ◌-◌, ◌*◌, ◌/◌, ◌%◌, ◌^◌, ◌≤◌, ◌<◌}
@@ -12,14 +12,14 @@ use lib.ListN.{length, get_or}
 use lib.Pow.{pow_pos}
 use Rattle.semantics.specs.Models.{Program, Question, Distinct}
 use Rattle.semantics.specs.Questions.{Verdict}
-use Rattle.semantics.proofs.Tools.{either, clash}
+use Rattle.semantics.proofs.Tools.{either}
 use Rattle.striking.specs.Striking.{strike, rising, choices, Counts, nothing, reached, unreached, Tally}
 use Rattle.striking.specs.Numbers.{numbered, falling}
 use Rattle.striking.proofs.Choices.{rising-length}
 use Rattle.striking.proofs.Numbers.{choices-numbered}
 use Rattle.strike_table.specs.declared.Table.{Table}
-use Rattle.strike_table.specs.Tables.{Fills}
-use Rattle.tally.specs.declared.Count.TheVariants.{Counted, Refused}
+use Rattle.strike_table.specs.Tables.{Filled}
+use Rattle.tally.specs.declared.Count.TheVariants.{Counted}
 use Rattle.tally.specs.Ones.{ones}
 use Rattle.tally.specs.Tallying.{Answers}
 
@@ -59,11 +59,11 @@ module _ (said : List ℕ) (i n : ℕ) (c : Counting said i n) where
   counting-end total e = c.same ∙ ap (ones said) e
 
 -- THE TALLY
-module _ (P : Program) (Q : Question) (L : List ℕ) (t : Table) (once : Distinct L) (sparse : t.crowded ≡ false) (d : Fills P Q (rising L) t) where
+module _ (P : Program) (Q : Question) (L : List ℕ) (t : Table) (once : Distinct L) (d : Filled P Q (rising L) t) where
   counted : (i : ℕ) → i ≤ 2 ^ length (rising L) → Counts P Q (map (numbered (rising L)) (falling i)) (ones t.said i) (i - ones t.said i)
   counted zero l = nothing
   counted (suc i) l =
-      let v = d.verdict sparse i l in
+      let v = d.verdict i l in
       let c = counted i (omega arith) in
       let m = ones-most t.said i in
       ⊎_elim
@@ -85,7 +85,4 @@ module _ (P : Program) (Q : Question) (L : List ℕ) (t : Table) (once : Distinc
   }
 
   pub answers-tally : (r : ℕ) → r ≡ ones t.said t.total → Answers P Q L (Counted r (t.total - r) (100 * r / t.total) (100 * r % t.total))
-  answers-tally r e = inr ((λ h. clash (d.crowded.1 h) sparse), (r, t.total - r, 100 * r / t.total, 100 * r % t.total, tallied r e, refl))
-
-pub answers-crowded : (P : Program) (Q : Question) (L : List ℕ) (t : Table) → Fills P Q (rising L) t → t.crowded ≡ true → Answers P Q L (Refused 15 0)
-answers-crowded P Q L t d c = inl (d.crowded.0 c, refl)
+  answers-tally r e = inr (d.few, (r, t.total - r, 100 * r / t.total, 100 * r % t.total, tallied r e, refl))

@@ -8,7 +8,7 @@ ghost use Rattle.model.specs.Records.{program_of, question_of};
 ghost use Rattle.model.specs.WellFormed.{WellFormed};
 ghost use Rattle.calls.specs.Wiping.{wiped};
 ghost use Rattle.striking.specs.Striking.{faulty, rising};
-ghost use Rattle.strike_table.specs.Tables.{Fills};
+ghost use Rattle.strike_table.specs.Tables.{Filled};
 ghost use Rattle.tally.specs.Ones.{ones};
 ghost use Rattle.tally.specs.Tallying.{Answers, Tallies};
 
@@ -68,14 +68,8 @@ fn rest(reached: u32, total: u32) -> u32
 // The counts of the table, and the share.
 fn conclude(t: Table) -> Count
     requires { (t.total ≤ 1024) × (0 < t.total) }
-    ensures { (P : Program) (Q : Question) (L : List ℕ) → Distinct L → Fills P Q (rising L) t → Answers P Q L result }
+    ensures { (P : Program) (Q : Question) (L : List ℕ) → Distinct L → Filled P Q (rising L) t → Answers P Q L result }
 {
-    if t.crowded {
-        return Count::Refused {
-            number: TOO_MANY,
-            line: 0,
-        };
-    }
     let reached = reached(t);
     let total = t.total as u32;
     Count::Counted {
@@ -92,8 +86,13 @@ fn judge(m: Model, list: &[u32], work: &mut [u8]) -> Count
     ensures { Answers (program_of m) (question_of m) list.now result × (work.new ≡ wiped work.old) }
 {
     let l = strike_list::rising(m, list);
-    let t = strike_table::fill(m, l);
     calls::wipe(work);
+    let Some(t) = strike_table::fill(m, l) else {
+        return Count::Refused {
+            number: TOO_MANY,
+            line: 0,
+        };
+    };
     conclude(t)
 }
 

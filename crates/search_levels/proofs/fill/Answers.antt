@@ -12,7 +12,7 @@ use Rattle.model.specs.Records.{stage_at}
 use Rattle.facts_bits.proofs.Laws.{with-bit-length}
 use Rattle.search_states.specs.States.{row}
 use Rattle.search_states.proofs.Laws.{length-row}
-use Rattle.search_levels.specs.declared.Pointing.{Pointing}
+use Rattle.std.specs.Prelude.{Option}
 use Rattle.search_levels.specs.declared.Meeting.{Meeting}
 use Rattle.search_levels.specs.Levels.{levels_bytes, chosen, pair_at, Passed}
 use Rattle.search_levels.specs.Passing.{besides, Led, Met, Ready, meeting_of, Clear}
@@ -38,7 +38,7 @@ pub asked-t-requires : goal.asked-t-requires
 asked-t-requires c = numbers-long c.args.m c.requires.0 c.loop-k.k c.loop-k-test.true
 
 -- the stage as it is asked
-same-meeting : (g : Stage) (cells : List ℕ) (a a' b b' : Bool) (p p' : Pointing) → a ≡ a' → b ≡ b' → p ≡ p' → meeting_of g cells a b p ≡ meeting_of g cells a' b' p'
+same-meeting : (g : Stage) (cells : List ℕ) (a a' b b' : Bool) (p p' : Option (List ℕ)) → a ≡ a' → b ≡ b' → p ≡ p' → meeting_of g cells a b p ≡ meeting_of g cells a' b' p'
 same-meeting g cells a a' b b' p p' e f h = rw (e, f, h)
 
 met-as : (c : After-asked-t) → let a = c.args in let k = c.loop-k.k in c.asked-t.result ≡ meeting_of (stage_at a.m k) a.m.carried (chosen a.m 0 k) (chosen a.m 1 k) (besides a.p k)

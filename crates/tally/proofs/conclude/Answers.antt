@@ -1,9 +1,6 @@
 use native.Mathlib.Omega.{arith}
-use Rattle.tally.proofs.Laws.{ones-most, answers-crowded, answers-tally}
+use Rattle.tally.proofs.Laws.{ones-most, answers-tally}
 use Rattle.tally.proofs.conclude.Goals as goal
-
-pub returns-then-t : goal.returns-then-t
-returns-then-t c = λ P Q L once f. answers-crowded P Q L c.args.t f c.if-t.true
 
 pub overflow_cast-total : goal.overflow_cast-total
 overflow_cast-total c = omega (arith, c.requires.0)
@@ -20,4 +17,4 @@ rest-requires c = (omega (arith, c.reached-reached.ensures, ones-most c.args.t.s
 pub returns : goal.returns
 returns c = λ P Q L once f.
     let r = c.reached-reached in
-    rw (c.hundredths.ensures, c.rest.ensures) (answers-tally P Q L c.args.t once c.if-t.false f r.result r.ensures)
+    rw (c.hundredths.ensures, c.rest.ensures) (answers-tally P Q L c.args.t once f r.result r.ensures)
