@@ -20,4 +20,4 @@ pub returns-in-Ok : goal.returns-in-Ok
 returns-in-Ok c = rw (← c.short.ensures, c.in-Ok.ensures.says) c.decide.ensures
 
 pub returns-in-Err : goal.returns-in-Err
-returns-in-Err c = rw (← c.short.ensures, c.in-Err.ensures) (c.refuse.ensures ∙ ap (λ (n : ℕ). refusal n _) c.number.ensures, refl, refl)
+returns-in-Err c = rw (← c.short.ensures, c.in-Err.ensures) (c.refuse.ensures ∙ ap (λ (n : ℕ). refusal n c.in-Err.refusal.line) c.number.ensures, refl, refl)

@@ -26,4 +26,4 @@ pub returns-in-Ok : goal.returns-in-Ok
 returns-in-Ok c = rw (← c.short-short.ensures, c.in-Ok.ensures.says) c.mark_model.ensures
 
 pub returns-in-Err : goal.returns-in-Err
-returns-in-Err c = rw (← c.short-short.ensures, c.in-Err.ensures) (ap (λ (n : ℕ). Refused n _) c.number.ensures, refl, refl, refl)
+returns-in-Err c = rw (← c.short-short.ensures, c.in-Err.ensures) (ap (λ (n : ℕ). Refused n c.in-Err.refusal.line) c.number.ensures, refl, refl, refl)
