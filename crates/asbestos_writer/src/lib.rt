@@ -13,18 +13,12 @@ ghost use Rattle.asbestos_writer.specs.Writing.{kinds_of, all_proper, refuses, D
 use asbestos::{LEVELS, resulting};
 use limits::TEXT;
 use listing_bytes::{put_byte, put_bytes};
+use rows::{Refusal, Row};
 
 // At most so many kinds, each of three cells: its send level, its receive level, and its mark, 0 if it has none.
 const KINDS: usize = 18;
 
 pub const CELLS: usize = 3 * KINDS;
-
-// The text's length, or a refusal with its number and line.
-#[derive(Clone, Copy)]
-pub enum Answer {
-    Written { length: usize },
-    Refused { number: u32, line: u32 },
-}
 
 // Writes the bytes, and the digit of a level behind them.
 fn put_level(out: &mut [u8], at: usize, bytes: &[u8], level: u32) -> usize
@@ -229,15 +223,14 @@ pub fn write_text(
     count: usize,
     port: u32,
     level: u32,
-) -> Answer
+) -> Result<usize, Refusal>
     ensures { Desks (kinds_of kinds.now count) port level out.old result out.new }
 {
     if refused(kinds, count, port, level, out.len()) {
-        return Answer::Refused {
-            number: 20,
+        return Err(Refusal {
+            row: Row::Processes,
             line: 0,
-        };
+        });
     }
-    let length = put_text(out, kinds, count, port, level);
-    Answer::Written { length }
+    Ok(put_text(out, kinds, count, port, level))
 }
