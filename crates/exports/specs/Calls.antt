@@ -75,7 +75,7 @@ pub record Handed (handin run : List ℕ) (n : ℕ) (run' : List ℕ) : Type 0 w
 
 -- THE MARK of a hand-in to a text, with the work area, the run table and the table of those who stood by after it
 pub record Marked (text handin work run stood : List ℕ) (n : ℕ) (work' run' stood' : List ℕ) : Type 0 where
-  pub mark : Mark
+  pub mark : Result Mark Refusal
   pub marks : Marks text handin work run stood mark work' run' stood'
   pub number : n ≡ codes.marked mark
 

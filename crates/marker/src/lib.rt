@@ -14,6 +14,7 @@ use handin::Handin;
 use limits::RUN;
 use marker_worth::Mark;
 use model::Model;
+use rows::Refusal;
 
 // Is the work area too short, or one of the two tables?
 fn short(bytes: usize, places: usize, standing: usize) -> bool
@@ -31,7 +32,7 @@ fn mark_yes(
     work: &mut [u8],
     run: &mut [u32],
     stood: &mut [u32],
-) -> Mark
+) -> Result<Mark, Refusal>
     requires { WellFormed m × (limit.work ≤ length work.old) × (limit.run ≤ length run.old) × (limit.run ≤ length stood.old) × ((ps : List Place) × (reading handin.now ≡ says-yes first ps) × (places ≡ length ps)) }
     ensures { Worth (program_of m) (question_of m) (reading handin.now) result × Leaves (program_of m) (question_of m) (reading handin.now) work.old run.old stood.old work.new run.new stood.new }
 {
@@ -40,7 +41,13 @@ fn mark_yes(
 }
 
 // The mark over a model, by what the hand-in says.
-fn mark_model(m: Model, handin: &[u8], work: &mut [u8], run: &mut [u32], stood: &mut [u32]) -> Mark
+fn mark_model(
+    m: Model,
+    handin: &[u8],
+    work: &mut [u8],
+    run: &mut [u32],
+    stood: &mut [u32],
+) -> Result<Mark, Refusal>
     requires { WellFormed m × (limit.work ≤ length work.old) × (limit.run ≤ length run.old) × (limit.run ≤ length stood.old) }
     ensures { Worth (program_of m) (question_of m) (reading handin.now) result × Leaves (program_of m) (question_of m) (reading handin.now) work.old run.old stood.old work.new run.new stood.new }
 {
@@ -48,20 +55,21 @@ fn mark_model(m: Model, handin: &[u8], work: &mut [u8], run: &mut [u32], stood: 
     match said {
         Handin::Yes { first, places } => mark_yes(m, handin, first, places, work, run, stood),
         Handin::No => marker_worth::mark_no(m, work),
-        Handin::Unreadable { line } => Mark::Unreadable { line },
+        Handin::Unreadable { line } => Ok(Mark::Unreadable { line }),
     }
 }
 
 // Reads a text, and marks a hand-in to it; a refusal other than 15 and an unreadable hand-in leave the buffers as they are.
-pub fn mark(text: &[u8], handin: &[u8], work: &mut [u8], run: &mut [u32], stood: &mut [u32]) -> Mark
+pub fn mark(
+    text: &[u8],
+    handin: &[u8],
+    work: &mut [u8],
+    run: &mut [u32],
+    stood: &mut [u32],
+) -> Result<Mark, Refusal>
     ensures { Marks text.now handin.now work.old run.old stood.old result work.new run.new stood.new }
 {
     let short = short(work.len(), run.len(), stood.len());
-    match text::accept(text, short, false) {
-        Ok(m) => mark_model(m, handin, work, run, stood),
-        Err(refusal) => Mark::Refused {
-            number: refusal.row.number(),
-            line: refusal.line,
-        },
-    }
+    let m = text::accept(text, short, false)?;
+    mark_model(m, handin, work, run, stood)
 }

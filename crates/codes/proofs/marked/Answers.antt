@@ -12,9 +12,6 @@ overflow_add-result-in-Breaks c = record { fits = omega (arith, rw c.in-Breaks.i
 pub overflow_add-result-in-Breaks-2 : goal.overflow_add-result-in-Breaks-2
 overflow_add-result-in-Breaks-2 c = record { fits = omega (arith, rw c.in-Breaks.is at c.requires) }
 
-pub returns-in-Refused : goal.returns-in-Refused
-returns-in-Refused c = rw c.in-Refused.is refl
-
 pub returns-in-Unreadable : goal.returns-in-Unreadable
 returns-in-Unreadable c = rw c.in-Unreadable.is refl
 
