@@ -49,6 +49,7 @@ pub fn refuse(r: Refusal) -> Analysis
 }
 
 // The verdict that a search gives; the run of a reached question is written.
+// `WellFormed m` stays a clause: the reader fills the record line by line, so that no invariant of its type can say it; the length of `run` stays one too, since C lends a row that may be longer.
 fn conclude(m: Model, facts: &[u8], run: &mut [u32], found: Found) -> Answer
     requires { WellFormed m × Searched m facts.now found × (limit.run ≤ length run.old) }
     ensures { Answered (program_of m) (question_of m) run.old run.new result }

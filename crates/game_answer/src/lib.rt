@@ -43,6 +43,7 @@ fn arranged(s: States, listing: Listing, ranks: [Option<u32>; LISTED]) -> [u32; 
 }
 
 // The game over the explored states.
+// `WellFormed m` stays a clause: the reader fills the record line by line, so that no invariant of its type can say it; the two lists stay beside the model, since C lends them apart.
 fn tell(m: Model, attacker: &[u32], guardian: &[u32], facts: &[u8], found: Explored) -> Game
     requires { WellFormed m × OneVariable m × Surveyed m facts.now found }
     ensures { Telling (program_of m) (question_of m) attacker.now guardian.now result }

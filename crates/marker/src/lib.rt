@@ -24,6 +24,7 @@ fn short(bytes: usize, places: usize, standing: usize) -> bool
 }
 
 // The mark of a yes: its run is written into the table, and replayed.
+// The hand-in and the three buffers stay apart, since C lends them so.
 fn mark_yes(
     m: Model,
     handin: &[u8],

@@ -20,6 +20,7 @@ use replay_session::Answer;
 use rows::Refusal;
 
 // The hand-in is unreadable at a line; it is right; the verdict is the other one; its run breaks at a place, which stands on a line of the hand-in.
+// It stays an enum: an unreadable hand-in is a mark and no failure of the call.
 #[derive(Clone, Copy)]
 pub enum Mark {
     Unreadable { line: u32 },
@@ -29,6 +30,7 @@ pub enum Mark {
 }
 
 // The mark by the verdict of a well-formed model, or the refusal where too many states are reachable for one; the search has a table of its own, and the work bytes are left zero.
+// `WellFormed m` stays a clause: the reader fills the record line by line, so that no invariant of its type can say it; the length of `work` stays one too, since C lends an area that may be longer.
 fn judge(m: Model, reached: Mark, unreached: Mark, work: &mut [u8]) -> Result<Mark, Refusal>
     requires { WellFormed m × (limit.work ≤ length work.old) }
     ensures { Judged (program_of m) (question_of m) reached unreached result × (work.new ≡ wiped work.old) }

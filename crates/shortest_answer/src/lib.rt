@@ -52,6 +52,7 @@ fn between(
 }
 
 // A shortest way from one found state to another one; from the empty state there is none.
+// The two states stay beside the model and the row, since C gives them apart.
 fn onward(
     m: Model,
     s: States,

@@ -4,7 +4,7 @@ use native.Mathlib.Omega.{arith}
 use Rattle.exports_cure.proofs.coded.Goals as goal
 
 pub overflow_add-result : goal.overflow_add-result
-overflow_add-result c = record { fits = omega (arith, rw c.in-Some.is at c.requires) }
+overflow_add-result c = record { fits = omega (arith, rw c.in-Ok-Some.is at c.requires) }
 
-pub returns-in-Some : goal.returns-in-Some
-returns-in-Some c = rw c.in-Some.is refl
+pub returns-in-Ok-Some : goal.returns-in-Ok-Some
+returns-in-Ok-Some c = rw c.in-Ok-Some.is refl
