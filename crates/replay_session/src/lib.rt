@@ -12,7 +12,6 @@ use limits::{CARRIED, NONE, OBJECTS, RUN};
 use model::{Model, Relations};
 
 // The replay's answer to a run: kept, or broken at a place.
-// It stays an enum: a broken run is an answer and no failure, and a Result in the Result of the call would be no plainer.
 #[derive(Clone, Copy)]
 pub enum Answer {
     Kept,
@@ -20,7 +19,6 @@ pub enum Answer {
 }
 
 // The answer to one place: kept with the number of those who stood by, or broken at the count of places kept.
-// It stays an enum: a broken place is an answer and no failure, and a Result in the Result of the call would be no plainer.
 #[derive(Clone, Copy)]
 pub enum PlaceAnswer {
     Kept { stood: u32 },
@@ -28,7 +26,6 @@ pub enum PlaceAnswer {
 }
 
 // The replay's state: the database, the stages met, the carried objects in the order of their variables (255 for none) and the count of places kept.
-// The count stays beside the array: memory is fixed, and the states behind it are not read.
 #[derive(Clone, Copy)]
 pub struct Session {
     pub states: [u32; OBJECTS],
@@ -39,7 +36,6 @@ pub struct Session {
 }
 
 // The replay's state but for the states of the objects.
-// The count stays without the array: the states are lent apart, as a row that grows in place.
 #[derive(Clone, Copy)]
 pub struct Position {
     pub objects: usize,
