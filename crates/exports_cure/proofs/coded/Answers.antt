@@ -4,10 +4,7 @@ use native.Mathlib.Omega.{arith}
 use Rattle.exports_cure.proofs.coded.Goals as goal
 
 pub overflow_add-result : goal.overflow_add-result
-overflow_add-result c = record { fits = omega (arith, rw c.in-Strike.is at c.requires) }
+overflow_add-result c = record { fits = omega (arith, rw c.in-Ok-Some.is at c.requires) }
 
-pub returns-in-Strike : goal.returns-in-Strike
-returns-in-Strike c = rw c.in-Strike.is refl
-
-pub returns-in-Refused : goal.returns-in-Refused
-returns-in-Refused c = rw c.in-Refused.is refl
+pub returns-in-Ok-Some : goal.returns-in-Ok-Some
+returns-in-Ok-Some c = rw c.in-Ok-Some.is refl

@@ -1,5 +1,5 @@
 use mathlib.Core.Path.{refl}
 use Rattle.reason_codes.proofs.explained.Goals as goal
 
-pub returns-in-Broken : goal.returns-in-Broken
-returns-in-Broken c = rw (c.in-Broken.is, ← c.reasoned.ensures.0) refl
+pub returns-in-Ok-Broken : goal.returns-in-Ok-Broken
+returns-in-Ok-Broken c = rw (c.in-Ok-Broken.is, ← c.reasoned.ensures.0) refl
