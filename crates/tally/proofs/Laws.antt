@@ -106,4 +106,4 @@ module _ (L work work' : List ℕ) where
 
   pub refuses : (o : Outcome) (x : Refusal) → strike.Leaves o L work (Err x) work' → Leaves o L work (Err x) work'
   refuses (refused n l) x h = h
-  refuses (accepted D P Q) x h = (inl h.0, h.1)
+  refuses (accepted D P Q) x h = (inl (h.0.0, (h.0.1, h.0.2)), h.1)
