@@ -78,6 +78,7 @@ fn tell(m: Model, ending: Ending, run: &[u32], work: &mut [u8]) -> Explanation
 }
 
 // Replays a run over a model and explains the answer, and notes who stood by.
+// The run and the two buffers stay apart, since C lends them so.
 fn explain_run(m: Model, run: &[u32], work: &mut [u8], stood: &mut [u32]) -> Explanation
     requires { WellFormed m × (length run.now ≤ limit.run) × (room ≤ length work.old) × (limit.run ≤ length stood.old) }
     ensures { Told (program_of m) (question_of m) run.now result × Notes (program_of m) (question_of m) (start []) run.now stood.old stood.new × (length work.new ≡ length work.old) }
