@@ -22,6 +22,7 @@ use search::Found;
 pub enum Answer {
     Reached { places: usize, last: Place },
     Unreached,
+    // The number stays beside the line: document 01 writes this answer so.
     Refused { number: u32, line: u32 },
 }
 
