@@ -13,9 +13,9 @@ ghost use Rattle.search_levels.specs.Levels.{levels_bytes};
 ghost use Rattle.search_reachable.specs.Reachable.{Reaches};
 ghost use Rattle.search.specs.Search.{Moving, Surveyed, Explores, Entered, Judged, Finds, FindsFrom};
 
+use facts_bits::BYTES;
 use limits::LISTED;
 use model::Model;
-use facts_bits::BYTES;
 use search_levels::Levels;
 use search_states::{Listing, States};
 use search_ways::{MATRIX, TABLE};
@@ -90,8 +90,10 @@ fn entered(rows: &[u8], k: usize) -> bool
     let at = LISTED * k;
     for f in 0..LISTED {
         let row = facts_bits::row(rows, at + f);
-        if facts_bits::next(row, 0) < LISTED {
-            return true;
+        if let Some(e) = facts_bits::first(&row, 0) {
+            if e < LISTED {
+                return true;
+            }
         }
     }
     false

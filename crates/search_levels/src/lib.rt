@@ -199,7 +199,7 @@ fn union(table: &[u8], at: usize, picked: [u8; BYTES]) -> [u8; BYTES]
     for u in facts_bits::slots(picked) {
         if u < LISTED {
             let row = facts_bits::row(table, at + u);
-            facts_bits::join(&mut out, 0, row);
+            facts_bits::widen(&mut out, 0, row);
         }
     }
     out
@@ -340,7 +340,7 @@ fn pass(
     let able = hopeful(work, slots, n, literals, t, ways, rows, k);
     for f in 0..LISTED {
         let row = next_row(work, slots, n, literals, t, ways, rows, k, able, f);
-        facts_bits::join(rows, LISTED * (k + 1) + f, row);
+        facts_bits::widen(rows, LISTED * (k + 1) + f, row);
     }
 }
 

@@ -36,7 +36,7 @@ fn copy(work: &[u8], c: Clause, i: usize, table: &mut [u8])
 {
     if let Action::Next { .. } = c.action {
         let row = facts_bits::row(work, facts_heads::guard_row(i));
-        facts_bits::join(table, i, row);
+        facts_bits::widen(table, i, row);
     }
 }
 
@@ -115,7 +115,7 @@ fn pass(ways: &mut [u8], n: usize, k: usize)
     let row = facts_bits::keep(facts_bits::full(), ways, k);
     for e in 0..n {
         if facts_bits::get(ways, e * WIDTH + k) {
-            facts_bits::join(ways, e, row);
+            facts_bits::widen(ways, e, row);
         }
     }
 }
@@ -138,7 +138,7 @@ fn spread(links: &[u8], n: usize, layers: &mut [u8], j: usize)
     for u in 0..n {
         if facts_bits::get(layers, j * WIDTH + u) {
             let row = facts_bits::keep(facts_bits::full(), links, u);
-            facts_bits::join(layers, j + 1, row);
+            facts_bits::widen(layers, j + 1, row);
         }
     }
 }

@@ -43,9 +43,9 @@ pub loop-f-preserved : goal.loop-f-preserved
 loop-f-preserved c =
     let a = c.args in
     let l = c.loop-f in
-    let j = c.join in
+    let j = c.widen in
     let at : limit.listed * (a.k + 1) + l.f ≡ limit.listed * suc a.k + l.f = omega arith in
-    let joined = subst (λ (i : ℕ). Joined l.rows i c.next_row-row.result j.new.work) at j.ensures in (
+    let joined = subst (λ (i : ℕ). Joined l.rows i c.next_row-row.result j.new.work) at j.ensures.1 in (
       written-more (limit.listed * suc a.k) l.f a.rows.now l.rows l.invariant.0 c.next_row-row.result j.new.work joined j.auto.work,
       λ S R n. rows_more (limit.listed * suc a.k) l.f a.rows.now l.rows l.invariant.0 c.next_row-row.result j.new.work joined
           (Paired S a.work.now a.literals.now a.ways.now a.t a.rows.now a.k)
