@@ -17,7 +17,14 @@ use search_states::States;
 use search_ways::{MATRIX, TABLE};
 
 // Marks where a `next` clause leads from each slot of its row of the table; a state without a slot is the empty one, whose slot is the one behind the last.
-fn lead(states: &[u32], plus: u32, minus: u32, table: &[u8; TABLE], i: usize, moves: &mut [u8; MATRIX])
+fn lead(
+    states: &[u32],
+    plus: u32,
+    minus: u32,
+    table: &[u8; TABLE],
+    i: usize,
+    moves: &mut [u8; MATRIX],
+)
     requires { (length states.now ≤ limit.atomic) × (i < limit.clauses) }
     ensures { Marks moves.new (With moves.old (Goes table.now i states.now (action.Next plus minus))) }
 {

@@ -25,7 +25,13 @@ fn sooner(rank: Option<u32>, round: u32) -> bool
 // Has some slot of row e a number below the round's?
 // The facts on n and e stay: they are two numbers of one turn, and e is another one for each slot.
 // The parameters stay: a turn lends the moves of one side and the numbers of the other, which change places from turn to turn.
-fn some_sooner(moves: &[u8; MATRIX], e: usize, n: usize, ranks: &[Option<u32>; LISTED], round: u32) -> bool
+fn some_sooner(
+    moves: &[u8; MATRIX],
+    e: usize,
+    n: usize,
+    ranks: &[Option<u32>; LISTED],
+    round: u32,
+) -> bool
     requires { (n ≤ limit.atomic) × (e ≤ n) }
     ensures { result ≡ any (sooner ranks.now round) (slots moves.now e (suc n)) }
 {
@@ -33,7 +39,13 @@ fn some_sooner(moves: &[u8; MATRIX], e: usize, n: usize, ranks: &[Option<u32>; L
 }
 
 // Has each slot of row e a number below the round's?
-fn all_sooner(moves: &[u8; MATRIX], e: usize, n: usize, ranks: &[Option<u32>; LISTED], round: u32) -> bool
+fn all_sooner(
+    moves: &[u8; MATRIX],
+    e: usize,
+    n: usize,
+    ranks: &[Option<u32>; LISTED],
+    round: u32,
+) -> bool
     requires { (n ≤ limit.atomic) × (e ≤ n) }
     ensures { result ≡ every (sooner ranks.now round) (slots moves.now e (suc n)) }
 {

@@ -58,7 +58,7 @@ module _ (xs ys : List ℕ) (distinct : Distinct xs) (p : IsPermutation xs ys) (
         (λ (z : k ≡ i). subst (λ (y : ℕ). elem y rest ≡ true) (sym same ∙ ap (λ (m : ℕ). get_or ys m 0) (sym z) ∙ q.1) (late j l h))
         (λ (z : k ≢ i). ⊎_elim
         (λ (b : ltb k i ≡ true). let c = ltb-true k i b in
-            elem-left x (take i ys) (drop (suc i) ys) (subst (λ (y : ℕ). elem y (take i ys) ≡ true) (get_or-take i ys k 0 c ∙ q.1) (elem-get_or (take i ys) k (omega (arith, c, length-take-le i ys (omega arith))))))
+        elem-left x (take i ys) (drop (suc i) ys) (subst (λ (y : ℕ). elem y (take i ys) ≡ true) (get_or-take i ys k 0 c ∙ q.1) (elem-get_or (take i ys) k (omega (arith, c, length-take-le i ys (omega arith))))))
         (λ (b : ltb k i ≡ false). subst (λ (y : ℕ). elem y rest ≡ true) q.1 (late k (omega (arith, z, ltb-false k i b)) q.0))
         (either (ltb k i)))
         (same? k i)
