@@ -21,7 +21,7 @@ use Rattle.model.specs.declared.Model.{Model}
 use Rattle.model.specs.Records.{clause_line, program_of, question_of, clause_at, stage_at}
 use Rattle.model.specs.WellFormed.{WellFormed}
 use Rattle.model.proofs.Lines.{every-line}
-use Rattle.facts_bits.specs.Bits.{Copied, Next as Following}
+use Rattle.facts_bits.specs.Bits.{bit_at, Copied, FirstFrom}
 use Rattle.facts_table.specs.Table.{table_of}
 use Rattle.search_states.specs.declared.States.{States}
 use Rattle.search_states.specs.States.{row, Known, by, from}
@@ -43,13 +43,13 @@ module _ (rows : List ℕ) (k : ℕ) where
   abbrev pub NoneBelow : ℕ → Type 0
   NoneBelow f = (e g : ℕ) → e < limit.listed → g < f → pair_at rows k e g ≡ false
 
-  module _ (f : ℕ) (row : List ℕ) (copied : Copied rows (limit.listed * k + f) row) (first : ℕ) (next : Following row 0 first) where
-    pub pair-here : f < limit.listed → first < limit.listed → Entered rows k
-    pair-here l q = (first, f, q, l, sym (copied.bits first (omega arith)) ∙ next.set (omega arith))
+  module _ (f : ℕ) (row : List ℕ) (copied : Copied rows (limit.listed * k + f) row) where
+    pub pair-here : (first : ℕ) → FirstFrom row 0 first → f < limit.listed → first < limit.listed → Entered rows k
+    pair-here first n l q = (first, f, q, l, sym (copied.bits first (omega arith)) ∙ n.set)
 
-    pub none_more : limit.listed ≤ first → NoneBelow f → NoneBelow (f + 1)
-    none_more q h e g l i = ⊎_elim
-        (λ (z : g ≡ f). subst (λ (n : ℕ). pair_at rows k e n ≡ false) (sym z) (sym (copied.bits e (omega arith)) ∙ next.clear e (omega arith) (omega arith)))
+    pub none_more : ((e : ℕ) → e < limit.listed → bit_at row e ≡ false) → NoneBelow f → NoneBelow (f + 1)
+    none_more none h e g l i = ⊎_elim
+        (λ (z : g ≡ f). subst (λ (n : ℕ). pair_at rows k e n ≡ false) (sym z) (sym (copied.bits e (omega arith)) ∙ none e l))
         (λ (z : g ≢ f). h e g l (omega (arith, i, z)))
         (same? g f)
 
@@ -124,7 +124,7 @@ module _ (m : Model) (wf : WellFormed m) (w : List ℕ) (e : Explored) (surveyed
   searched-from one s among asks aims = record {
     explored = surveyed-found;
     verdict = λ ps t lead o there same. let law = levels.verdict-from m wf w r.explored.states (surveyed-exactly m w r.explored surveyed-found) r.explored.moves.ways surveyed-found.moves.ways p r.levels filled surveyed-found.whole surveyed-found.found s among asks
-            (aims-points m wf r.explored.states surveyed-found.proper r.explored.moves.ways surveyed-found.moves.ways s among aimed) one ps t lead o there same in
+        (aims-points m wf r.explored.states surveyed-found.proper r.explored.moves.ways surveyed-found.moves.ways s among aimed) one ps t lead o there same in
         ((λ q. law.0 (judged.entered.0 q)), λ q. judged.entered.1 (law.1 q));
     entered = judged.entered.0;
     asked = among;

@@ -13,14 +13,15 @@ ghost use Rattle.search_levels.specs.Levels.{levels_bytes};
 ghost use Rattle.search_reachable.specs.Reachable.{Reaches};
 ghost use Rattle.search.specs.Search.{Moving, Surveyed, Explores, Entered, Judged, Finds, FindsFrom};
 
+use facts_bits::BYTES;
 use limits::LISTED;
 use model::Model;
-use facts_bits::BYTES;
 use search_levels::Levels;
 use search_states::{Listing, States};
 use search_ways::{MATRIX, TABLE};
 
 // From which slots each clause can be taken, to which slots one step at most leads from each slot, and to which any number of steps.
+// The matrices stay two arrays: each is lent by itself, as a matrix of its own.
 #[derive(Clone, Copy)]
 pub struct Moves {
     pub table: [u8; TABLE],
@@ -46,6 +47,7 @@ pub struct Found {
 }
 
 // The moves over the found states.
+// That the model is well-formed stays in clauses: a model is a value of any numbers, which acceptance alone makes well-formed.
 fn tables(work: &[u8], m: Model, s: States) -> Moves
     requires { WellFormed m × (room ≤ length work.now) × Exactly m work.now s × Whole (program_of m) (row s) }
     ensures { Moving m s result }
@@ -74,6 +76,7 @@ fn surveyed(work: &[u8], m: Model, states: States) -> Explored
 }
 
 // Explores a well-formed model; it always ends, with all the reachable states and their moves, or with none of them where there are too many states. `work` is a table for the facts that the caller has of its own: it is larger than the work area that an analysis is lent.
+// The room for facts stays a clause: the table is lent as a slice, which the search of states clears and fills.
 pub fn explore(work: &mut [u8], m: Model) -> Option<Explored>
     requires { WellFormed m × (room ≤ length work.old) }
     ensures { Explores m work.new result × (length work.new ≡ length work.old) }
@@ -90,8 +93,10 @@ fn entered(rows: &[u8], k: usize) -> bool
     let at = LISTED * k;
     for f in 0..LISTED {
         let row = facts_bits::row(rows, at + f);
-        if facts_bits::next(row, 0) < LISTED {
-            return true;
+        if let Some(e) = facts_bits::first(&row, 0) {
+            if e < LISTED {
+                return true;
+            }
         }
     }
     false

@@ -10,7 +10,7 @@ ghost use Rattle.facts_bits.specs.Bits.{bit_at, in_row};
 ghost use Rattle.facts_candidates.specs.Choices.{chosen};
 ghost use Rattle.search_states.specs.States.{row, Proper};
 ghost use Rattle.search_ways.specs.Moves.{matrix_bytes, Exactly};
-ghost use Rattle.search_levels.specs.Levels.{Aims, levels_bytes, pair_at, Filled};
+ghost use Rattle.search_levels.specs.Levels.{Aims, pair_at, Filled};
 ghost use Rattle.search_levels.specs.Passing.{Has, Picked, Onward, Led, besides, Aimed, Holding, Met, Hopeful, Over, Asked, Ready, walker_of, meeting_of, Clear, Written};
 
 use facts_bits::{BYTES, SLOTS, WIDTH};
@@ -32,6 +32,8 @@ pub struct Levels {
 }
 
 // A carried variable at a stage: its number in the stage, whether it stands there, and whether it stood in a stage before.
+// The flag `stands` stays beside the number: four functions ask for it alone, and the number is read in one.
+// The flag `chosen` stays: it is a fact about the stages before, and no field counts by it.
 #[derive(Clone, Copy)]
 struct Walker {
     seat: usize,
@@ -49,8 +51,8 @@ struct Meeting {
 }
 
 // What is asked where an object of the state stands for the first variable: a slot to which it can come. A state that is not in the row, such as the empty one, comes to none.
-pub fn aim(s: States, ways: &[u8], state: u32) -> [u8; BYTES]
-    requires { Proper s × (length ways.now ≡ matrix_bytes) }
+pub fn aim(s: States, ways: &[u8; MATRIX], state: u32) -> [u8; BYTES]
+    requires { Proper s }
     ensures { Aims s ways.now state result }
 {
     match search_states::seek(&s.states[..s.count], state) {
@@ -78,6 +80,7 @@ fn seated(c: Choice, a: Walker, e: usize) -> Choice
 }
 
 // Does the body hold for a choice with the fixed slots, and with a slot of the row for its first variable, which is free?
+// What is lent stays apart: the search lends the work area, the slots are made here, their count is that of the states, the literals are the model's, and the evaluator takes each by itself.
 fn somewhere(
     work: &[u8],
     slots: &[u8],
@@ -125,6 +128,7 @@ fn pointed(
 }
 
 // Does the stage hold with the pair e f?
+// That the stage can be asked and that f is a slot stays in clauses, and the stage and f stay apart: the stage is another one for each level, and f for each row.
 fn holds(
     work: &[u8],
     slots: &[u8],
@@ -199,15 +203,15 @@ fn union(table: &[u8], at: usize, picked: [u8; BYTES]) -> [u8; BYTES]
     for u in facts_bits::slots(picked) {
         if u < LISTED {
             let row = facts_bits::row(table, at + u);
-            facts_bits::join(&mut out, 0, row);
+            facts_bits::widen(&mut out, 0, row);
         }
     }
     out
 }
 
 // The slots from which one can come to slot f.
-fn column(ways: &[u8], f: usize) -> [u8; BYTES]
-    requires { (length ways.now ≡ matrix_bytes) × (f < limit.listed) }
+fn column(ways: &[u8; MATRIX], f: usize) -> [u8; BYTES]
+    requires { f < limit.listed }
     ensures { Has result (λ u. in_row ways.now u f ≡ true) }
 {
     let mut out = [0; BYTES];
@@ -220,8 +224,7 @@ fn column(ways: &[u8], f: usize) -> [u8; BYTES]
 }
 
 // The slots to which the first object goes from the slots of a row.
-fn onward(ways: &[u8], a: Walker, row: [u8; BYTES]) -> [u8; BYTES]
-    requires { length ways.now ≡ matrix_bytes }
+fn onward(ways: &[u8; MATRIX], a: Walker, row: [u8; BYTES]) -> [u8; BYTES]
     ensures { Has result (Onward ways.now a.stands a.chosen (λ u. bit_at row u ≡ true)) }
 {
     if !a.stands {
@@ -237,8 +240,9 @@ fn onward(ways: &[u8], a: Walker, row: [u8; BYTES]) -> [u8; BYTES]
 }
 
 // The slots that the first object has on level k with those from which the second one goes to slot f.
-fn gathered(ways: &[u8], b: Walker, rows: &[u8], k: usize, f: usize) -> [u8; BYTES]
-    requires { (length ways.now ≡ matrix_bytes) × (length rows.now ≡ levels_bytes) × (k ≤ limit.stages) × (f < limit.listed) }
+// The level and the row stay apart from the matrices, with their bounds in clauses: they are the numbers of two loops, while the matrices are lent.
+fn gathered(ways: &[u8; MATRIX], b: Walker, rows: &[u8; LEVELS], k: usize, f: usize) -> [u8; BYTES]
+    requires { (k ≤ limit.stages) × (f < limit.listed) }
     ensures { Has result (λ u. Onward ways.now b.stands b.chosen (λ v. pair_at rows.now k u v ≡ true) f) }
 {
     let at = LISTED * k;
@@ -252,8 +256,9 @@ fn gathered(ways: &[u8], b: Walker, rows: &[u8], k: usize, f: usize) -> [u8; BYT
 }
 
 // The slots that go with slot f when both objects are led on from level k.
-fn led(ways: &[u8], t: Meeting, rows: &[u8], k: usize, f: usize) -> [u8; BYTES]
-    requires { (length ways.now ≡ matrix_bytes) × (length rows.now ≡ levels_bytes) × (k ≤ limit.stages) × (f < limit.listed) }
+// The stage stays beside the level: a level is made of the one before it by the stage between them.
+fn led(ways: &[u8; MATRIX], t: Meeting, rows: &[u8; LEVELS], k: usize, f: usize) -> [u8; BYTES]
+    requires { (k ≤ limit.stages) × (f < limit.listed) }
     ensures { Has result (λ e. Led ways.now t (pair_at rows.now k) e f) }
 {
     let row = gathered(ways, t.second, rows, k, f);
@@ -261,17 +266,18 @@ fn led(ways: &[u8], t: Meeting, rows: &[u8], k: usize, f: usize) -> [u8; BYTES]
 }
 
 // The slots to which the first object goes from level k and with which the stage holds, whatever the second one does: one evaluation for each.
+// The matrices stay beside what the evaluator takes: the body is asked over the work area, and the moves are read in the matrices.
 fn hopeful(
     work: &[u8],
     slots: &[u8],
     n: usize,
     literals: &[u32],
     t: Meeting,
-    ways: &[u8],
-    rows: &[u8],
+    ways: &[u8; MATRIX],
+    rows: &[u8; LEVELS],
     k: usize,
 ) -> [u8; BYTES]
-    requires { Ready work.now slots.now n literals.now t × (length ways.now ≡ matrix_bytes) × (length rows.now ≡ levels_bytes) × (k ≤ limit.stages) }
+    requires { Ready work.now slots.now n literals.now t × (k ≤ limit.stages) }
     ensures { Over work.now n (λ S. Has result (Hopeful S work.now literals.now ways.now t (pair_at rows.now k))) }
 {
     let any = union(rows, LISTED * k, facts_bits::full());
@@ -300,13 +306,13 @@ fn next_row(
     n: usize,
     literals: &[u32],
     t: Meeting,
-    ways: &[u8],
-    rows: &[u8],
+    ways: &[u8; MATRIX],
+    rows: &[u8; LEVELS],
     k: usize,
     able: [u8; BYTES],
     f: usize,
 ) -> [u8; BYTES]
-    requires { Ready work.now slots.now n literals.now t × (length ways.now ≡ matrix_bytes) × (length rows.now ≡ levels_bytes) × (k ≤ limit.stages) × (f < limit.listed) × Over work.now n (λ S. Has able (Hopeful S work.now literals.now ways.now t (pair_at rows.now k))) }
+    requires { Ready work.now slots.now n literals.now t × (k ≤ limit.stages) × (f < limit.listed) × Over work.now n (λ S. Has able (Hopeful S work.now literals.now ways.now t (pair_at rows.now k))) }
     ensures { Over work.now n (λ S. Has result (λ e. Led ways.now t (pair_at rows.now k) e f × Met S work.now literals.now t e f)) }
 {
     let pairs = led(ways, t, rows, k, f);
@@ -330,17 +336,17 @@ fn pass(
     n: usize,
     literals: &[u32],
     t: Meeting,
-    ways: &[u8],
-    rows: &mut [u8],
+    ways: &[u8; MATRIX],
+    rows: &mut [u8; LEVELS],
     k: usize,
 )
-    requires { Ready work.now slots.now n literals.now t × (length ways.now ≡ matrix_bytes) × (length rows.old ≡ levels_bytes) × (k < limit.stages) × Clear (limit.listed * suc k) rows.old }
+    requires { Ready work.now slots.now n literals.now t × (k < limit.stages) × Clear (limit.listed * suc k) rows.old }
     ensures { Written (limit.listed * suc k) (limit.listed * suc (suc k)) rows.old rows.new × Over work.now n (λ S. (e f : ℕ) → e < limit.listed → f < limit.listed → (pair_at rows.new (suc k) e f ≡ true) ↔ (Led ways.now t (pair_at rows.old k) e f × Met S work.now literals.now t e f)) }
 {
     let able = hopeful(work, slots, n, literals, t, ways, rows, k);
     for f in 0..LISTED {
         let row = next_row(work, slots, n, literals, t, ways, rows, k, able, f);
-        facts_bits::join(rows, LISTED * (k + 1) + f, row);
+        facts_bits::widen(rows, LISTED * (k + 1) + f, row);
     }
 }
 
@@ -390,8 +396,8 @@ fn after(w: Walker) -> bool
 }
 
 // The levels of a question over the found states, where `ways` has who can come from which slot to which, and p is a row in which stage 1 asks besides for the slot of its first variable, or nothing.
-pub fn fill(work: &[u8], m: Model, s: States, ways: &[u8], p: Option<[u8; BYTES]>) -> Levels
-    requires { WellFormed m × Exactly m work.now s × (length ways.now ≡ matrix_bytes) × IfSome p (λ among. 0 < (stage_at m 0).variables) }
+pub fn fill(work: &[u8], m: Model, s: States, ways: &[u8; MATRIX], p: Option<[u8; BYTES]>) -> Levels
+    requires { WellFormed m × Exactly m work.now s × IfSome p (λ among. 0 < (stage_at m 0).variables) }
     ensures { Filled m (row s) work.now ways.now p result }
 {
     let slots = facts_candidates::slots();

@@ -1,11 +1,10 @@
 // The row of atomic states that a search has found, in order of discovery, each with how it came, and whether the empty one is among them.
 #![tactic(auto)]
 
-ghost use Rattle.std.specs.Prelude.{◌≡◌, ◌≤◌, ◌<◌, ℕ, true, MatchOption};
+ghost use Rattle.std.specs.Prelude.{◌≡◌, ◌<◌};
 ghost use Rattle.limits.specs.Limits as limit;
-ghost use Rattle.semantics.specs.Models.{elem};
-ghost use Rattle.search_states.specs.States.{nothing, appended, added, Sought, Proper};
-ghost use Rattle.search_states.specs.Rising.{Least, Lists};
+ghost use Rattle.search_states.specs.States.{nothing, added, Sought, Proper};
+ghost use Rattle.search_states.specs.Rising.{Lists};
 
 use limits::{ATOMIC, LISTED};
 
@@ -50,20 +49,6 @@ pub fn seek(row: &[u32], x: u32) -> Option<usize>
     row.iter().position(|y| x == *y)
 }
 
-// The row with the state behind.
-// It stays: a state is three numbers in three arrays, a name one number in one.
-fn append(mut s: States, state: u32, line: u32, origin: u32) -> States
-    requires { s.count < limit.atomic }
-    ensures { result ≡ appended s state line origin }
-{
-    let n = s.count;
-    s.states[n] = state;
-    s.lines[n] = line;
-    s.origins[n] = origin;
-    s.count = n + 1;
-    s
-}
-
 // The row with the state behind, unless it is listed already; of the empty state it is noted that it is found. Nothing where there is no room for the state.
 pub fn add(mut s: States, state: u32, line: u32, origin: u32) -> Option<States>
     requires { Proper s × (state < limit.sets) }
@@ -76,17 +61,15 @@ pub fn add(mut s: States, state: u32, line: u32, origin: u32) -> Option<States>
     if s.states[..s.count].contains(&state) {
         return Some(s);
     }
-    if s.count < ATOMIC {
-        return Some(append(s, state, line, origin));
+    let n = s.count;
+    if n == ATOMIC {
+        return None;
     }
-    None
-}
-
-// The least number of the row that is at least t.
-fn least(row: &[u32], t: u32) -> Option<u32>
-    ensures { MatchOption result ((x : ℕ) → elem x row.now ≡ true → x < t) (Least row.now t) }
-{
-    row.iter().copied().filter(|x| t <= *x).min()
+    s.states[n] = state;
+    s.lines[n] = line;
+    s.origins[n] = origin;
+    s.count = n + 1;
+    Some(s)
 }
 
 // The found states by rising number.
@@ -96,13 +79,9 @@ pub fn rising(s: States) -> Listing
 {
     let mut states = [0u32; LISTED];
     // The empty state is number 0, which stands in the first place already.
-    let mut count = usize::from(s.empty);
-    let mut next = least(&s.states[..s.count], 1);
-    // The loop stays: it goes on as long as there is a next state, and makes the next one out of the last.
-    while let Some(t) = next {
-        states[count] = t;
-        count += 1;
-        next = least(&s.states[..s.count], t + 1);
-    }
+    let first = usize::from(s.empty);
+    let count = first + s.count;
+    states[first..count].copy_from_slice(&s.states[..s.count]);
+    states[first..count].sort_unstable();
     Listing { states, count }
 }

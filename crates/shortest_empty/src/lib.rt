@@ -15,6 +15,7 @@ use model::Model;
 use search_states::States;
 
 // The line of the first clause that takes an object of the state of slot u to the empty state.
+// The model, the states and the table stay apart: the table is a part of the moves, which are lent by what was explored.
 fn emptier(m: Model, s: States, table: &[u8], u: usize) -> Option<u32>
     requires { WellFormed m × Proper s × (length table.now ≡ table_bytes) × Marks table.now (CanTake m s) × (u < s.count) }
     ensures { Emptier (program_of m) (row s) u result }
@@ -29,6 +30,7 @@ fn emptier(m: Model, s: States, table: &[u8], u: usize) -> Option<u32>
 }
 
 // The fewest steps from one slot to another from where a line empties the object, if there is such a way.
+// What is lent stays apart, with what maps it in a clause: the tables lie in what was explored, and the slots are numbers of a loop.
 fn approach(
     m: Model,
     s: States,

@@ -26,6 +26,7 @@ pub const REACHED: u8 = 1;
 pub const UNREACHED: u8 = 2;
 
 // What is said of each choice by its number, and how many choices there are.
+// The number stays beside the array: memory is fixed, and the places behind it are not read.
 #[derive(Clone, Copy)]
 pub struct Table {
     pub said: [u8; CHOICES],
@@ -40,6 +41,7 @@ fn settles(n: u32, v: u8, k: u32) -> bool
 }
 
 // Says v of all choices that it settles.
+// The table, its number of choices and the choice stay apart: the table alone is written, and the choice is another one for each call.
 fn mark(said: &mut [u8; CHOICES], total: usize, n: u32, v: u8)
     requires { (total ≤ 1024) × (length said.old ≡ 1024) }
     ensures { Marked n v total said.old said.new }
@@ -59,6 +61,7 @@ fn code(reached: bool) -> u8
 }
 
 // Whether the question is reached with the lines of a choice struck, by a search.
+// The model, the lines, the choice and the room for facts stay apart: the room is written by each search, and the choice is another one for each.
 fn reached(m: Model, l: Lines, n: u32, facts: &mut [u8]) -> bool
     requires { WellFormed m × (MoreThan limit.atomic (program_of m) → ⊥) × (l.count ≤ most) × (room ≤ length facts.old) }
     ensures { Verdict (strike (program_of m) (numbered (listed l) n)) (question_of m) result × (length facts.new ≡ length facts.old) }
@@ -73,6 +76,7 @@ fn reached(m: Model, l: Lines, n: u32, facts: &mut [u8]) -> bool
 }
 
 // Decides a choice, unless a decided one has settled it, and says what it settles.
+// What a choice is decided with stays apart, and that all is ready and the choice is there stays in clauses: the table and the room change in each call, and the model and the lines in none.
 fn decide(said: &mut [u8; CHOICES], total: usize, m: Model, l: Lines, n: u32, facts: &mut [u8])
     requires { Ready m l total said.old facts.old × (n < total) }
     ensures { Decides (program_of m) (question_of m) (listed l) total n said.old said.new × (length facts.new ≡ length facts.old) }

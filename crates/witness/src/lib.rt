@@ -20,12 +20,13 @@ pub fn goal(rows: &[u8], k: usize) -> Pair
 {
     for f in 0..LISTED {
         let row = facts_bits::row(rows, LISTED * k + f);
-        let e = facts_bits::next(row, 0);
-        if e < LISTED {
-            return Pair {
-                first: e,
-                second: f,
-            };
+        if let Some(e) = facts_bits::first(&row, 0) {
+            if e < LISTED {
+                return Pair {
+                    first: e,
+                    second: f,
+                };
+            }
         }
     }
     Pair {

@@ -52,6 +52,7 @@ fn cast(carried: bool, existing: u32, n: usize, object: u32) -> Cast
 }
 
 // Writes how the first carried variable's object comes to the slot before stage 1 is met, if it is not there from the start, the last step first, from index `at` on. Returns the index behind it.
+// What is lent stays apart: the run is written, the rest is lent by the search as it lies in what it found, and the object is the call's own.
 fn approach(
     run: &mut [u32],
     m: Model,

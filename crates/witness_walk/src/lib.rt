@@ -38,6 +38,8 @@ pub struct Stand {
 }
 
 // Does the carried variable of cell v stand in stage k, counted from 0?
+// That the model is well-formed and the cell and the stage are in range stays in clauses: a model is a value of any numbers, which acceptance alone makes well-formed.
+// The model, the cell and the stage stay apart: the walk asks for both cells of each stage.
 fn holds(m: Model, v: usize, k: usize) -> bool
     requires { WellFormed m × (v < limit.carried) × (k < m.stagecount) }
     ensures { result ≡ holder m v k }
@@ -73,6 +75,7 @@ fn tell(run: &mut [u32], lines: &[u32], object: u32, k: usize) -> usize
 }
 
 // Writes a shortest way of the object from one slot to another, the last step first, from index `at` on. Returns the index behind it.
+// The run, the model, the states and the tables stay apart: the run alone is written, and the others are lent by the search as they lie in what it found.
 pub fn lead(
     run: &mut [u32],
     m: Model,
@@ -119,6 +122,7 @@ pub fn errand(
 }
 
 // Can an object go from slot u to slot e before a stage is met?
+// The length of the matrix stays a clause: it is lent as a slice, as the search lends it.
 fn moves(ways: &[u8], stands: bool, began: bool, u: usize, e: usize) -> bool
     requires { (length ways.now ≡ matrix_bytes) × (u < limit.listed) × (e < limit.listed) }
     ensures { Says result (Moved ways.now stands began u e) }

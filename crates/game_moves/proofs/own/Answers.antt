@@ -35,5 +35,5 @@ pub returns : goal.returns
 returns c =
     let a = c.args in
     let l = c.loop-i in
-    own-all a.m c.requires.0 a.s c.requires.1 c.requires.2 a.table.now c.requires.4 a.list.now l.moves
+    own-all a.m c.requires.0 a.s c.requires.1 c.requires.2 a.table.now c.requires.3 a.list.now l.moves
     (subst (λ (k : ℕ). Marks l.moves (OwnBelow a.m a.table.now (row a.s) a.list.now k)) (omega arith) l.invariant)

@@ -10,15 +10,15 @@ pub row-requires : goal.row-requires
 row-requires c =
     let a = c.args in
     let q = c.in-Some.ensures in
-    omega (arith, q.1, (seat-ok a.state (row a.s) q.0).0, length-row a.s c.requires.0, c.requires.0.count, c.requires.1)
+    omega (arith, q.1, (seat-ok a.state (row a.s) q.0).0, length-row a.s c.requires, c.requires.count)
 
 pub returns-in-Some : goal.returns-in-Some
 returns-in-Some c =
     let a = c.args in
     let q = c.in-Some.ensures in
-    aims-row a.s a.ways.now a.state c.row.result (omega (arith, (seat-ok a.state (row a.s) q.0).0, length-row a.s c.requires.0)) (rw q.1 at c.row.ensures)
+    aims-row a.s a.ways.now a.state c.row.result (omega (arith, (seat-ok a.state (row a.s) q.0).0, length-row a.s c.requires)) (rw q.1 at c.row.ensures)
 
 pub returns-in-None : goal.returns-in-None
 returns-in-None c =
     let a = c.args in
-    aims-none a.s a.ways.now a.state (omega (arith, seat-absent a.state (row a.s) c.in-None.ensures, length-row a.s c.requires.0))
+    aims-none a.s a.ways.now a.state (omega (arith, seat-absent a.state (row a.s) c.in-None.ensures, length-row a.s c.requires))

@@ -28,8 +28,8 @@ loop-u-preserved-then-u-lt-LISTED c =
     let n = rw l.invariant.0 at g.2 in
     let z : List ℕ = replicate width.bytes 0 in (
       rw g.0 l.invariant.0,
-      c.join.auto.work ∙ l.invariant.1,
-      rw g.1 (picked_more a.table.now a.at a.picked z c.in-Some.u l.out c.row-row.result c.join.new.work c.if-u-lt-LISTED.true n.set c.row-row.ensures c.join.ensures
+      c.widen.auto.work ∙ l.invariant.1,
+      rw g.1 (picked_more a.table.now a.at a.picked z c.in-Some.u l.out c.row-row.result c.widen.new.work c.if-u-lt-LISTED.true n.set c.row-row.ensures c.widen.ensures.1
           (picked-on a.table.now a.at a.picked l.u-iterator.at c.in-Some.u n.after n.clear z l.out l.invariant.2)),
     )
 

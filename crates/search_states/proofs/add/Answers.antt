@@ -1,7 +1,5 @@
-use mathlib.Core.Path.{◌≡◌, sym, ap, ◌∙◌}
-use mathlib.Core.Bool.{Bool}
+use mathlib.Core.Path.{◌≡◌, sym, ◌∙◌}
 use native.Mathlib.Omega.{arith}
-use Rattle.std.specs.Prelude.{Some}
 use Rattle.semantics.specs.Models.{elem}
 use Rattle.search_states.specs.States.{row}
 use Rattle.search_states.proofs.Laws.{added-empty, added-same, added-fresh, added-over}
@@ -21,12 +19,12 @@ returns-then-contains c =
     let a = c.args in
     added-same a.s a.state a.line a.origin c.if-state-eq0.false (among (goal.at.returns-then-contains c).After-contains ∙ c.if-contains.true)
 
-pub returns-then-s-lt-ATOMIC : goal.returns-then-s-lt-ATOMIC
-returns-then-s-lt-ATOMIC c =
+pub returns-then-n-eq-ATOMIC : goal.returns-then-n-eq-ATOMIC
+returns-then-n-eq-ATOMIC c =
     let a = c.args in
-    ap Some c.append.ensures ∙ added-fresh a.s a.state a.line a.origin c.if-state-eq0.false (among (goal.at.returns-then-s-lt-ATOMIC c).After-contains ∙ c.if-contains.false) c.if-s-lt-ATOMIC.true
+    added-over a.s a.state a.line a.origin c.if-state-eq0.false (among (goal.at.returns-then-n-eq-ATOMIC c).After-contains ∙ c.if-contains.false) (omega (arith, c.if-n-eq-ATOMIC.true))
 
 pub returns : goal.returns
 returns c =
     let a = c.args in
-    added-over a.s a.state a.line a.origin c.if-state-eq0.false (among (goal.at.returns c).After-contains ∙ c.if-contains.false) (omega arith)
+    added-fresh a.s a.state a.line a.origin c.if-state-eq0.false (among (goal.at.returns c).After-contains ∙ c.if-contains.false) (omega (arith, c.if-n-eq-ATOMIC.false, c.requires.0.count))

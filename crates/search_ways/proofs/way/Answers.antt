@@ -13,13 +13,12 @@ use Rattle.search_ways.specs.Moves.{matrix_bytes}
 use Rattle.search_ways.specs.Shortest.{Near, NotBefore}
 use Rattle.search_ways.proofs.Marking.{marks-none}
 use Rattle.search_ways.proofs.Nearest.{some_near, least-way, not-before, slice-more}
-use borrow.Author.Rules.{rules}
 use Rattle.search_ways.proofs.way.Goals as goal
 
 pub reach-k-requires : goal.reach-k-requires
 reach-k-requires c =
     let a = c.args in
-    (omega (arith, c.requires.1.count), c.requires.7, c.requires.8, c.requires.5, search rules, marks-none matrix_bytes, some_near a.m c.requires.0 a.s c.requires.1 c.requires.2 a.links.now c.requires.6 a.from a.to c.requires.7 c.requires.8 c.requires.9)
+    (omega (arith, c.requires.1.count), c.requires.7, c.requires.8, c.requires.5, marks-none matrix_bytes, some_near a.m c.requires.0 a.s c.requires.1 c.requires.2 a.links.now c.requires.6 a.from a.to c.requires.7 c.requires.8 c.requires.9)
 
 pub before-u-requires : goal.before-u-requires
 before-u-requires c =
@@ -32,7 +31,6 @@ before-u-requires c =
       omega (arith, c.requires.1.count, r.few),
       l.invariant.0,
       c.requires.5,
-      search rules,
       (q.0, q.1, ((r.rows.bits (l.j - 1) q.0 (omega (arith, c.requires.1.count, q.1))).1 (omega (arith, l.invariant.0), q.2), q.3)),
     )
 
