@@ -15,6 +15,7 @@ use strike_list::{Lines, MOST};
 use strike_table::{REACHED, Table};
 
 // How many lines the choice strikes; a reached one counts as eleven, more than any strikes.
+// Eleven stays for a reached choice: sizes are compared, and an Option would need a case more for that.
 fn size(l: Lines, v: u8, n: u32) -> usize
     requires { l.count ≤ most }
     ensures { result ≡ size_of (listed l) v n }
