@@ -44,7 +44,7 @@ worth-fits P Q h (Err x) f w = tt
 worth-fits P Q h (Ok (Unreadable l)) f w = tt
 worth-fits P Q h (Ok Right) f w = tt
 worth-fits P Q h (Ok (Other reached)) f w = tt
-worth-fits P Q (unreadable at) (Ok (Breaks place line)) f w = rw w tt
+worth-fits P Q (unreadable at) (Ok (Breaks place line)) f w = absurd (let z : ◌≡◌ {A = ℕ} 0 1 = cc in omega arith)
 worth-fits P Q says-no (Ok (Breaks place line)) f w = absurd w
 worth-fits P Q (says-yes first ps) (Ok (Breaks place line)) f w = omega (arith, f first ps refl, w.1.0)
 
