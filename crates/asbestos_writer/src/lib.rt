@@ -28,6 +28,7 @@ pub enum Answer {
 }
 
 // A kind, by its three cells.
+// The mark stays a flag: a kind has it or not, whatever its levels are.
 #[derive(Clone, Copy)]
 struct Kind {
     send: u32,
