@@ -13,19 +13,13 @@ ghost use Rattle.asbestos_writer.specs.Writing.{kind_at, kinds_of, all_proper, r
 use asbestos::{LEVELS, resulting};
 use limits::TEXT;
 use listing_bytes::{put_byte, put_bytes};
+use rows::{Refusal, Row};
 
 // At most so many kinds, each of three cells: its send level, its receive level, and its mark, 0 if it has none.
 // 0 stays for no mark: C lends these cells.
 const KINDS: usize = 18;
 
 pub const CELLS: usize = 3 * KINDS;
-
-// The text's length, or a refusal with its number and line.
-#[derive(Clone, Copy)]
-pub enum Answer {
-    Written { length: usize },
-    Refused { number: u32, line: u32 },
-}
 
 // A kind, by its three cells.
 // The mark stays a flag: a kind has it or not, whatever its levels are.
@@ -258,15 +252,14 @@ pub fn write_text(
     count: usize,
     port: u32,
     level: u32,
-) -> Answer
+) -> Result<usize, Refusal>
     ensures { Desks (kinds_of kinds.now count) port level out.old result out.new }
 {
     if refused(kinds, count, port, level, out.len()) {
-        return Answer::Refused {
-            number: 20,
+        return Err(Refusal {
+            row: Row::Processes,
             line: 0,
-        };
+        });
     }
-    let length = put_text(out, kinds, count, port, level);
-    Answer::Written { length }
+    Ok(put_text(out, kinds, count, port, level))
 }

@@ -16,6 +16,7 @@ use std::io::{ErrorKind, Print, Read, Write};
 const INPUT: usize = TEXT + 1;
 
 // Reads until the buffer is full or the input ends, and says how many bytes were read.
+// The loop stays: a reader may give fewer bytes than are asked for, until it gives none.
 fn read_input<R: Read>(source: &mut R, text: &mut [u8]) -> io::Result<usize>
     ensures { IfOk result (λ count. count ≤ length text.new) }
 {

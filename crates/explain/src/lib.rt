@@ -29,6 +29,7 @@ use replay_session::{Answer, Session};
 use rows::Refusal;
 
 // What is said of a run: that it is kept, or that it is broken at a place, and why.
+// It stays an enum: a broken run is what is said and no failure of the call.
 #[derive(Clone, Copy)]
 pub enum Explanation {
     Kept,
@@ -36,6 +37,7 @@ pub enum Explanation {
 }
 
 // Why a place is not allowed in a state that fits.
+// `WellFormed m` stays a clause: the reader fills the record line by line, so that no invariant of its type can say it; the lengths of `work` and `run` stay clauses too, since they are slices of the replay.
 fn why(m: Model, s: Session, n: u32, work: &mut [u8]) -> Reason
     requires { WellFormed m × Fits m s × (s.kept < limit.run) × (room ≤ length work.old) }
     ensures { ((p : runs.Place) → place_of n ≡ some p → Explains m s p result) × (length work.new ≡ length work.old) }
@@ -49,6 +51,7 @@ fn why(m: Model, s: Session, n: u32, work: &mut [u8]) -> Reason
 }
 
 // Why a run breaks at a place, in the state to which the places before it lead.
+// The model, the run and the buffers stay apart, since C lends them so.
 fn why_broken(m: Model, s: Session, place: usize, run: &[u32], work: &mut [u8]) -> Reason
     requires { WellFormed m × (length run.now ≤ limit.run) × (room ≤ length work.old) × Replays (program_of m) (question_of m) (start []) run.now 0 (BrokenAt place) × Stopped m run.now place s }
     ensures { Reasoned (program_of m) (question_of m) run.now place result × (length work.new ≡ length work.old) }
@@ -75,6 +78,7 @@ fn tell(m: Model, ending: Ending, run: &[u32], work: &mut [u8]) -> Explanation
 }
 
 // Replays a run over a model and explains the answer, and notes who stood by.
+// The run and the two buffers stay apart, since C lends them so.
 fn explain_run(m: Model, run: &[u32], work: &mut [u8], stood: &mut [u32]) -> Explanation
     requires { WellFormed m × (length run.now ≤ limit.run) × (room ≤ length work.old) × (limit.run ≤ length stood.old) }
     ensures { Told (program_of m) (question_of m) run.now result × Notes (program_of m) (question_of m) (start []) run.now stood.old stood.new × (length work.new ≡ length work.old) }

@@ -24,7 +24,6 @@ use Rattle.display.specs.Shown.{relation_at, ShowsRelation}
 use Rattle.explain.specs.declared.Explanation.{Explanation}
 use Rattle.explain.specs.Explains.{Explained}
 use Rattle.asbestos.specs.Messages.{Process}
-use Rattle.asbestos_writer.specs.declared.Answer as desk
 use Rattle.asbestos_writer.specs.Writing.{Desks}
 use Rattle.asbestos_desk.specs.Promise.{Keeps}
 use Rattle.asbestos_desk.specs.Codes.{code}
@@ -76,7 +75,7 @@ pub record Handed (handin run : List ℕ) (n : ℕ) (run' : List ℕ) : Type 0 w
 
 -- THE MARK of a hand-in to a text, with the work area, the run table and the table of those who stood by after it
 pub record Marked (text handin work run stood : List ℕ) (n : ℕ) (work' run' stood' : List ℕ) : Type 0 where
-  pub mark : Mark
+  pub mark : Result Mark Refusal
   pub marks : Marks text handin work run stood mark work' run' stood'
   pub number : n ≡ codes.marked mark
 
@@ -100,7 +99,7 @@ pub record Spanned (line : List ℕ) (part : Option (List ℕ)) (n : ℕ) : Type
 
 -- THE TEXT THAT A DESK for Asbestos labels writes, with the output after it
 pub record Desked (kinds : List Process) (port level : ℕ) (out : List ℕ) (n : ℕ) (out' : List ℕ) : Type 0 where
-  pub answer : desk.Answer
+  pub answer : Result ℕ Refusal
   pub desks : Desks kinds port level out answer out'
   pub keeps : Keeps kinds port level answer out'
   pub number : n ≡ code answer

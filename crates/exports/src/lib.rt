@@ -40,6 +40,7 @@ const KEPT: usize = OBJECTS + 4;
 const SESSION: usize = OBJECTS + 5;
 
 // Copies the numbers into the cells from place `at` on.
+// The name stays: the library's copy is what it asks, and it adds the place.
 fn copy(cells: &mut [u32], at: usize, numbers: &[u32])
     requires { at + length numbers.now ≤ length cells.old }
     ensures { cells.new ≡ paste cells.old at numbers.now (length numbers.now) }
@@ -84,6 +85,7 @@ fn put(answer: Result<PlaceAnswer, Refusal>) -> u64
 }
 
 // The number of the shown run's last place, 0 where there is no run.
+// 0 stays for no run: this is the cell that C is lent.
 fn last_number(answer: analyzer_verdict::Answer, run: &[u32]) -> u32
     requires { Shown (length run.now) answer }
     ensures { result ≡ last_number answer run.now }

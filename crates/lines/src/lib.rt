@@ -37,6 +37,7 @@ fn clause(m: &Model, i: usize) -> u64
 }
 
 // Clause i of an accepted text, from 0: its line and what stands on it; 0 where there is none.
+// 0 stays for no clause: this is the word that C is told.
 pub fn line(text: &[u8], i: usize) -> u64
     ensures { result ≡ line_at (outcome text.now) i }
 {

@@ -6,6 +6,8 @@ use mathlib.Core.List.{List, [], ◌∷◌}
 use Prim.Native.Nat.{ℕ, suc, ◌+◌, ◌≤◌}
 use native.Mathlib.Omega.{arith}
 use lib.ListN.{length, replicate, length-replicate}
+use Rattle.std.specs.Prelude.{Result, Ok, Err}
+use Rattle.rows.specs.declared.Refusal.{Refusal}
 use Rattle.limits.specs.Limits as limit
 use Rattle.semantics.specs.Models.{Program, Question}
 use Rattle.semantics.specs.Runs.{Place, Session, start, after, Plays}
@@ -48,14 +50,16 @@ module _ (P : Program) (Q : Question) where
   within s ns j h = ((broken P Q s ns 0 j).0 (subst (λ (k : ℕ). Replays P Q s ns 0 (Broken k)) (omega arith) h)).0
 
   -- A NO
-  pub no-worth : (r : Mark) → Judged P Q (Other true) Right r → Worth P Q says-no r
-  no-worth r (inl (many, e)) = subst (Worth P Q says-no) (sym e) (many, refl, refl)
+  pub no-worth : (r : Result Mark Refusal) → Judged P Q (Other true) Right r → Worth P Q says-no r
+  no-worth (Ok a) (inl (many, e)) = absurd e
+  no-worth (Err x) (inl (many, e)) = (many, e.0, e.1)
   no-worth r (inr (few, inl (reached, e))) = subst (Worth P Q says-no) (sym e) (refl, reached, few)
   no-worth r (inr (few, inr (unreached, e))) = subst (Worth P Q says-no) (sym e) (unreached, few)
 
   -- A YES whose run breaks
-  pub broken-worth : (first place : ℕ) (ps : List Place) (r : Mark) → BreaksAt P Q (start []) ps place → Judged P Q (Breaks place (first + place)) (Other false) r → Worth P Q (says-yes first ps) r
-  broken-worth first place ps r b (inl (many, e)) = subst (Worth P Q (says-yes first ps)) (sym e) ((place, b), many, refl, refl)
+  pub broken-worth : (first place : ℕ) (ps : List Place) (r : Result Mark Refusal) → BreaksAt P Q (start []) ps place → Judged P Q (Breaks place (first + place)) (Other false) r → Worth P Q (says-yes first ps) r
+  broken-worth first place ps (Ok a) b (inl (many, e)) = absurd e
+  broken-worth first place ps (Err x) b (inl (many, e)) = ((place, b), many, e.0, e.1)
   broken-worth first place ps r b (inr (few, inl (reached, e))) = subst (Worth P Q (says-yes first ps)) (sym e) (reached, b, refl, few)
   broken-worth first place ps r b (inr (few, inr (unreached, e))) = subst (Worth P Q (says-yes first ps)) (sym e) (refl, unreached, few)
 

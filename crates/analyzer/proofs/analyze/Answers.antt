@@ -1,12 +1,10 @@
-use mathlib.Core.Path.{refl, sym, ap, ◌∙◌}
-use Prim.Native.Nat.{ℕ}
+use mathlib.Core.Path.{refl, sym, ◌∙◌}
 use lib.Dec.{ltb}
 use lib.ListN.{length}
 use borrow.Author.Tests.{ltb-false}
 use Rattle.limits.specs.Limits as limit
 use Rattle.semantics.proofs.Tools.{or-false}
 use Rattle.text.proofs.Laws.{not-short, called-well-formed}
-use Rattle.analyzer_verdict.specs.Judging.{refusal}
 use Rattle.analyzer.proofs.analyze.Goals as goal
 
 pub decide-requires : goal.decide-requires
@@ -20,4 +18,4 @@ pub returns-in-Ok : goal.returns-in-Ok
 returns-in-Ok c = rw (← c.short.ensures, c.in-Ok.ensures.says) c.decide.ensures
 
 pub returns-in-Err : goal.returns-in-Err
-returns-in-Err c = rw (← c.short.ensures, c.in-Err.ensures) (c.refuse.ensures ∙ ap (λ (n : ℕ). refusal n _) c.number.ensures, refl, refl)
+returns-in-Err c = rw (← c.short.ensures, c.in-Err.ensures) (c.refuse.ensures, refl, refl)

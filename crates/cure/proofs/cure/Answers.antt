@@ -1,27 +1,20 @@
-use mathlib.Core.Path.{refl, sym, ap, ◌∙◌}
-use Prim.Native.Nat.{ℕ}
-use Rattle.strike_calls.proofs.Laws.{asked-room, asked-refused, asked-model, asked-faulty, asked-taken}
-use Rattle.cure.specs.Curing.{refusal}
+use Rattle.std.proofs.lemmas.Result.{err_from_is_err_and}
+use Rattle.strike_calls.specs.Calls.{asked}
+use Rattle.cure.proofs.Laws.{choice-sizes, tells, refuses}
 use Rattle.cure.proofs.cure.Goals as goal
 
-pub faulty-requires : goal.faulty-requires
-faulty-requires c = let a = c.args in asked-model a.text.now a.list.now a.work.now _ c.in-Ok.ensures
-
-pub returns-then-faulty : goal.returns-then-faulty
-returns-then-faulty c =
+pub returns-in_err-choices : goal.returns-in_err-choices
+returns-in_err-choices c =
     let a = c.args in
-    rw (asked-faulty a.text.now a.list.now a.work.now _ c.in-Ok.ensures (sym c.faulty.ensures ∙ c.if-faulty.true)) (c.refuse.ensures, refl)
+    let p = err_from_is_err_and c.from_residual.result c.from_residual.ensures.1 in
+    rw (p.1, p.2) (refuses a.list.now a.work.now _ (asked a.text.now a.list.now a.work.now) _ c.in_err-choices.ensures)
 
-pub judge-requires : goal.judge-requires
-judge-requires c =
+pub conclude-requires : goal.conclude-requires
+conclude-requires c =
     let a = c.args in
-    let r = c.in-Ok.ensures in
-    (asked-model a.text.now a.list.now a.work.now _ r, sym c.faulty.ensures ∙ c.if-faulty.false, asked-room a.text.now a.list.now a.work.now _ r)
+    choice-sizes a.list.now a.work.now _ (asked a.text.now a.list.now a.work.now) _ c.in_ok-choices.ensures
 
-pub returns-else-faulty : goal.returns-else-faulty
-returns-else-faulty c =
+pub returns : goal.returns
+returns c =
     let a = c.args in
-    rw (asked-taken a.text.now a.list.now a.work.now _ c.in-Ok.ensures (sym c.faulty.ensures ∙ c.if-faulty.false)) c.judge.ensures
-
-pub returns-in-Err : goal.returns-in-Err
-returns-in-Err c = let a = c.args in rw (asked-refused a.text.now a.list.now a.work.now c.in-Err.ensures) (c.refuse-in-Err.ensures ∙ ap (λ (n : ℕ). refusal n _) c.number.ensures, refl)
+    tells a.list.now a.work.now _ (asked a.text.now a.list.now a.work.now) _ c.conclude.result c.in_ok-choices.ensures c.conclude.ensures

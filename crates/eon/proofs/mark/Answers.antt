@@ -42,4 +42,4 @@ returns-in-Err c =
     let w = c.put_refusal in
     let fits = w.ensures.room in
     let room : w.result ≤ length w.new.out = omega (arith, fits) in
-    ((k.result, k.ensures, rw c.in-Err.ensures (w.ensures.front ∙ ap (λ (n : ℕ). refused_line n _) c.number.ensures)), (room, sym (length-take-le w.result w.new.out room)))
+    ((k.result, k.ensures, rw c.in-Err.ensures (w.ensures.front ∙ ap (λ (n : ℕ). refused_line n c.in-Err.refusal.line) c.number.ensures)), (room, sym (length-take-le w.result w.new.out room)))

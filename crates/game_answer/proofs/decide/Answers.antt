@@ -18,8 +18,7 @@ good c =
 pub returns-then-faulty : goal.returns-then-faulty
 returns-then-faulty c =
     let a = c.args in
-    let found = faulty (program_of a.m) in
-    rw c.refuse.ensures (
+    let found = faulty (program_of a.m) in (
       inl (
         refl,
         elim (c.then-faulty.branch) [
@@ -29,13 +28,12 @@ returns-then-faulty c =
         refl,
       ),
       refl,
-      c.refuse.ensures,
     )
 
 pub returns-then-not-single : goal.returns-then-not-single
 returns-then-not-single c =
     let k = c.single in
-    rw c.refuse-then-not-single.ensures (inr (inl (refl, good (goal.at.returns-then-not-single c).Else-faulty-2, (λ f. clash (k.ensures.1 (of-form c.args.m c.requires.0 f.0 f.1 f.2)) c.if-not-single.true), refl)), refl, c.refuse-then-not-single.ensures)
+    (inr (inl (refl, good (goal.at.returns-then-not-single c).Else-faulty-2, (λ f. clash (k.ensures.1 (of-form c.args.m c.requires.0 f.0 f.1 f.2)) c.if-not-single.true), refl)), refl)
 
 pub explored-requires : goal.explored-requires
 explored-requires c =

@@ -38,4 +38,4 @@ returns c =
     let t = c.own-theirs in
     let k = c.meeting-met in
     let v = c.solve-ranks in
-    (refl, telling a.m c.requires.0 c.requires.1 a.facts.now a.found c.requires.2 a.attacker.now a.guardian.now o.result t.result k.result o.ensures t.ensures k.ensures v.result (board (goal.at.returns c).After-meeting-met) v.ensures _ c.arranged-moves.ensures refl refl)
+    telling a.m c.requires.0 c.requires.1 a.facts.now a.found c.requires.2 a.attacker.now a.guardian.now o.result t.result k.result o.ensures t.ensures k.ensures v.result (board (goal.at.returns c).After-meeting-met) v.ensures _ c.arranged-moves.ensures refl refl

@@ -1,19 +1,18 @@
-use mathlib.Core.Path.{refl, sym, ap, ◌∙◌}
-use Prim.Native.Nat.{ℕ}
+use mathlib.Core.Path.{refl, sym, ◌∙◌}
 use lib.Dec.{ltb}
 use lib.ListN.{length}
 use borrow.Author.Tests.{ltb-false}
+use Rattle.std.proofs.lemmas.Result.{err_from_is_err_and}
 use Rattle.limits.specs.Limits as limit
 use Rattle.semantics.proofs.Tools.{or-false}
 use Rattle.text.proofs.Laws.{not-short, called-well-formed}
 use Rattle.calls.specs.Calls.{short}
-use Rattle.marker_worth.specs.declared.Mark.TheVariants.{Refused}
 use Rattle.marker.proofs.mark.Goals as goal
 
 pub mark_model-requires : goal.mark_model-requires
 mark_model-requires c =
     let a = c.args in
-    let r = c.in-Ok.ensures in
+    let r = c.in_ok-m.ensures in
     let l = or-false (short (length a.work.now) (length a.run.now)) (ltb (length a.stood.now) limit.run) (sym c.short-short.ensures ∙ not-short a.text.now _ _ _ r) in
     let k = or-false (ltb (length a.work.now) limit.work) (ltb (length a.run.now) limit.run) l.0 in (
       called-well-formed a.text.now _ _ _ r,
@@ -22,8 +21,10 @@ mark_model-requires c =
       ltb-false (length a.stood.now) limit.run l.1,
     )
 
-pub returns-in-Ok : goal.returns-in-Ok
-returns-in-Ok c = rw (← c.short-short.ensures, c.in-Ok.ensures.says) c.mark_model.ensures
+pub returns : goal.returns
+returns c = rw (← c.short-short.ensures, c.in_ok-m.ensures.says) c.mark_model.ensures
 
-pub returns-in-Err : goal.returns-in-Err
-returns-in-Err c = rw (← c.short-short.ensures, c.in-Err.ensures) (ap (λ (n : ℕ). Refused n _) c.number.ensures, refl, refl, refl)
+pub returns-in_err-m : goal.returns-in_err-m
+returns-in_err-m c =
+    let p = err_from_is_err_and c.from_residual.result c.from_residual.ensures.1 in
+    rw (p.1, p.2, ← c.short-short.ensures, c.in_err-m.ensures) ((refl, refl), refl, refl, refl)

@@ -13,7 +13,7 @@ pub search-requires : goal.search-requires
 search-requires c = (search rules, omega (arith, length-replicate {A = ℕ} room 0))
 
 pub returns-in_default : goal.returns-in_default
-returns-in_default c = (inl (c.in_default.ensures.0, refl), c.wipe.ensures)
+returns-in_default c = (inl (c.in_default.ensures.0, (refl, refl)), c.wipe.ensures)
 
 pub returns-then-found : goal.returns-then-found
 returns-then-found c =

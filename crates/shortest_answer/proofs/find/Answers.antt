@@ -4,7 +4,7 @@ use native.Mathlib.Omega.{arith}
 use Rattle.semantics.proofs.Tools.{clash}
 use Rattle.search_states.specs.States.{Known}
 use Rattle.search.specs.Search.{Surveyed}
-use Rattle.shortest_answer.specs.declared.Answer.TheVariants.{Way}
+use Rattle.std.specs.Prelude.{Some}
 use Rattle.shortest_answer.proofs.Laws.{staying, mapped, answered, unknown}
 use Rattle.shortest_answer.proofs.find.Goals as goal
 use Rattle.shortest_answer.proofs.find.Goals.{In-Some, Else-not-known, Else-not-known-2}
@@ -43,7 +43,7 @@ returns-then-not-known-2 c =
 pub returns-then-from-to : goal.returns-then-from-to
 returns-then-from-to c =
     let a = c.args in
-    answered a.m c.requires.0 c.requires.1.0 c.in-Some.found (surveyed (goal.at.returns-then-from-to c).In-Some) a.from a.to (first (goal.at.returns-then-from-to c).Else-not-known) (second (goal.at.returns-then-from-to c).Else-not-known-2) a.run.now a.run.now (Way 0)
+    answered a.m c.requires.0 c.requires.1.0 c.in-Some.found (surveyed (goal.at.returns-then-from-to c).In-Some) a.from a.to (first (goal.at.returns-then-from-to c).Else-not-known) (second (goal.at.returns-then-from-to c).Else-not-known-2) a.run.now a.run.now (Some 0)
     (staying a.m c.in-Some.found.states a.from a.to a.run.now c.if-from-to.true)
 
 pub slice_bounds-onward-end : goal.slice_bounds-onward-end

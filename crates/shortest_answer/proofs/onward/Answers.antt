@@ -31,15 +31,15 @@ returns-then-from-eq0 c =
 pub unwrap-e-requires : goal.unwrap-e-requires
 unwrap-e-requires c = sought-known c.args.from (row c.args.s) c.seek.result c.seek.ensures (listed c.args.s c.args.from c.if-from-eq0.false c.requires.1)
 
-pub emptied-requires : goal.emptied-requires
-emptied-requires c =
+pub way-requires : goal.way-requires
+way-requires c =
     (c.requires.0, (seated c.args.s c.requires.0.proper c.args.from c.unwrap-e.result c.if-from-eq0.false c.requires.1 (rw c.unwrap-e.ensures at c.seek.ensures).1).0, c.requires.4)
 
 pub returns-then-to-eq0 : goal.returns-then-to-eq0
 returns-then-to-eq0 c =
     let a = c.args in
-    let r = c.emptied in
-    rw c.if-to-eq0.true (subst (λ (x : ℕ). Ended (program_of a.m) (row a.s) x 0 a.run.now r.new.run r.result) (seated c.args.s c.requires.0.proper c.args.from c.unwrap-e.result c.if-from-eq0.false c.requires.1 (rw c.unwrap-e.ensures at c.seek.ensures).1).1 r.ensures)
+    let r = c.way in
+    rw c.if-to-eq0.true (subst (λ (x : ℕ). Ended (program_of a.m) (row a.s) x 0 a.run.now r.new.out r.result) (seated c.args.s c.requires.0.proper c.args.from c.unwrap-e.result c.if-from-eq0.false c.requires.1 (rw c.unwrap-e.ensures at c.seek.ensures).1).1 r.ensures)
 
 pub unwrap-u-requires : goal.unwrap-u-requires
 unwrap-u-requires c = sought-known c.args.to (row c.args.s) c.seek-2.result c.seek-2.ensures (listed c.args.s c.args.to c.if-to-eq0.false c.requires.2)

@@ -4,4 +4,4 @@ use Rattle.words.specs.Words.{refusal}
 use Rattle.words.proofs.refused.Goals as goal
 
 pub returns : goal.returns
-returns c = c.refusal.ensures ∙ ap (λ (n : ℕ). refusal n _) c.number.ensures
+returns c = c.refusal.ensures ∙ ap (λ (n : ℕ). refusal n c.args.r.line) c.number.ensures
