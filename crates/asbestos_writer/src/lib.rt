@@ -22,6 +22,7 @@ const KINDS: usize = 18;
 pub const CELLS: usize = 3 * KINDS;
 
 // A kind, by its three cells.
+// The mark stays a flag: a kind has it or not, whatever its levels are.
 #[derive(Clone, Copy)]
 struct Kind {
     send: u32,

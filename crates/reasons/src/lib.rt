@@ -107,6 +107,7 @@ fn why_next(
 }
 
 // Why a step of a line and an object is not allowed.
+// What is lent stays apart: the numbers and the literals come from the model, the slots from the view, and the table from the stock of facts.
 fn why_step(
     numbers: &[u32; NUMBERS],
     literals: &[u32],

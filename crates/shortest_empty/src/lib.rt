@@ -15,6 +15,7 @@ use model::Model;
 use search_states::States;
 
 // The line of the first clause that takes an object of the state of slot u to the empty state.
+// It stays beside line_to of search_ways: there some line leads to a slot, here none need lead to the empty state, which has no slot.
 // The model, the states and the table stay apart: the table is a part of the moves, which are lent by what was explored.
 fn emptier(m: Model, s: States, table: &[u8], u: usize) -> Option<u32>
     requires { WellFormed m × Proper s × (length table.now ≡ table_bytes) × Marks table.now (CanTake m s) × (u < s.count) }
