@@ -12,24 +12,15 @@ use Rattle.semantics.specs.Runs.{start, Allowed, after}
 use Rattle.model.specs.declared.Model.{Model}
 use Rattle.model.specs.Records.{program_of, question_of}
 use Rattle.model.specs.Places.{place_of}
-use Rattle.grammar.specs.Texts.{outcome}
-use Rattle.calls.specs.Wiping.{wiped}
-use Rattle.text.specs.declared.Acceptance.TheVariants.{Accepted}
-use Rattle.text.specs.declared.Reading.{Reading}
-use Rattle.text.specs.Reading.{Reads}
-use Rattle.text.proofs.Laws.{is-accepted, read-represents}
 use Rattle.replay_session.specs.declared.Answer.TheVariants.{Broken}
 use Rattle.replay_session.specs.declared.Session.{Session}
 use Rattle.replay_session.specs.Records.{session_of}
 use Rattle.replay_session.specs.Replays.{Replays}
-use Rattle.replay_session.specs.Notes.{Notes}
 use Rattle.replay_runs.specs.Endings.{Leads, Stopped}
-use Rattle.replay.proofs.Laws.{replayed}
 use Rattle.reasons.specs.declared.Reason.{Reason}
 use Rattle.reasons.specs.declared.Reason.TheVariants.{Ends}
 use Rattle.reasons.specs.Reasons.{Explains}
-use Rattle.explain.specs.declared.Explanation.{Explanation}
-use Rattle.explain.specs.Explains.{Reasoned, Told, Explained}
+use Rattle.explain.specs.Explains.{Reasoned}
 
 module _ (P : Program) (Q : Question) where
   broken-late : (s : runs.Session) (ns : List ℕ) (i j : ℕ) → Replays P Q s ns i (Broken j) → i ≤ j
