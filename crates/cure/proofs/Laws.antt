@@ -15,7 +15,7 @@ use Rattle.semantics.specs.Models.{Program, Question}
 use Rattle.semantics.specs.Questions.{Reached, Verdict}
 use Rattle.semantics.proofs.Tools.{either}
 use Rattle.grammar.specs.Texts.{Outcome, accepted, refused}
-use Rattle.striking.specs.Striking.{strike, most, Cured, Cure, rising}
+use Rattle.striking.specs.Striking.{strike, most, Cured, rising}
 use Rattle.striking.specs.Numbers.{numbered}
 use Rattle.striking.proofs.Numbers.{Sooner, cure-by, no-cure-by}
 use Rattle.strike_list.specs.declared.Lines.{Lines}

@@ -16,7 +16,7 @@ use Rattle.model.specs.Records.{program_of, question_of}
 use Rattle.model.specs.declared.Model.{Model}
 use Rattle.grammar.specs.Bytes.{bytes, Word, letter, alphanumeric, every, same, is_name, lines}
 use Rattle.grammar.specs.Declarations.{Declared}
-use Rattle.grammar.specs.Texts.{Outcome, accepted, refused, outcome}
+use Rattle.grammar.specs.Texts.{accepted, outcome}
 use Rattle.grammar.proofs.Tests.{either, and_left, and_right}
 use Rattle.acceptance.specs.Represents.{Represents}
 use Rattle.acceptance.specs.Sound.{name_at}

@@ -1,5 +1,4 @@
 -- How many lines are to be struck fits the number.
-use mathlib.Core.Path.{◌≡◌}
 use mathlib.Core.Logic.{⊎_elim}
 use mathlib.Core.List.{List}
 use mathlib.Core.Option.{none, some}

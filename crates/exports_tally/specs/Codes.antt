@@ -1,5 +1,5 @@
 -- THE NUMBER OF AN ANSWER: kind × 2^32 + value; and the cells beside it.
-use Rattle.std.specs.Prelude.{List, [], ◌∷◌, ℕ, ◌+◌, ◌*◌, replicate, Result, Ok, Err}
+use Rattle.std.specs.Prelude.{List, [], ◌∷◌, ℕ, ◌*◌, replicate, Result, Ok, Err}
 use Rattle.rows.specs.Rows.{number_of}
 use Rattle.rows.specs.declared.Refusal.{Refusal}
 use Rattle.words.specs.Words.{refusal}

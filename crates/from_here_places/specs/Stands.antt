@@ -1,5 +1,5 @@
 -- WHERE PLACES LEAD from the empty database, wherever they end.
-use Rattle.std.specs.Prelude.{Bool, true, false, Option, Some, None, List, [], ℕ, eqb, length}
+use Rattle.std.specs.Prelude.{Bool, true, Option, Some, None, List, [], ℕ, eqb, length}
 use Rattle.semantics.specs.Runs as runs
 use Rattle.semantics.specs.Runs.{start}
 use Rattle.model.specs.declared.Model.{Model}

@@ -1,4 +1,3 @@
-use mathlib.Core.Path.{refl}
 use native.Mathlib.Omega.{arith}
 use Rattle.display.proofs.Laws.{no-relation, few-relations, declared-relation}
 use Rattle.display.proofs.relation_in.Goals as goal

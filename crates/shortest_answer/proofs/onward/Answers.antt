@@ -1,6 +1,5 @@
 use mathlib.Core.Path.{◌≡◌, refl, ap, ◌∙◌, subst}
 use Prim.Native.Nat.{ℕ, ◌<◌}
-use native.Mathlib.Omega.{arith}
 use mathlib.Core.Bool.{true}
 use Rattle.semantics.specs.Models.{elem}
 use Rattle.semantics.specs.Facts.{state}
