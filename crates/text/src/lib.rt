@@ -34,16 +34,15 @@ fn read_question(
     ensures { Reads (onwards text.now at line d m) text.now result }
 {
     let f = text_opening::fit(m, d, line);
-    let Some(r) = text_ask::read_ask(&text[..e], d, at + 5, f) else {
-        return refusal(Row::Shape, line);
-    };
-    if let Some(row) = r.row {
-        return refusal(row, line);
+    match text_ask::read_ask(&text[..e], d, at + 5, f) {
+        Err(row) => refusal(row, line),
+        Ok(model) => {
+            if e + 1 < text.len() {
+                return refusal(Row::End, line + 1);
+            }
+            Ok(model)
+        }
     }
-    if e + 1 < text.len() {
-        return refusal(Row::End, line + 1);
-    }
-    Ok(r.model)
 }
 
 // Line by line, up to the first refusal or the `ask` line.
@@ -55,20 +54,19 @@ fn read_lines(text: &[u8]) -> Result<Model, Refusal>
     let mut m = text_opening::blank();
     let mut at = 0;
     let mut line: u32 = 1;
+    // The loop stays a `while`: a step is a whole line, whose end it finds.
     while at < text.len() {
-        let e = text_scan::line_end(text, at);
-        if e == text.len() {
+        let Some(e) = text_scan::line_end(text, at) else {
             return refusal(Row::Byte, line);
-        }
+        };
         if text_scan::at_bytes(&text[..e], at, b"(ask ") {
             return read_question(text, at, e, d, m, line);
         }
-        let Some(s) = text_lines::read_line(&text[..e], at, d, m, line) else {
-            return refusal(Row::Shape, line);
+        let step = text_lines::read_line(&text[..e], at, d, m, line);
+        let s = match step {
+            Ok(s) => s,
+            Err(row) => return refusal(row, line),
         };
-        if let Some(row) = s.row {
-            return refusal(row, line);
-        }
         let declared = s.declared;
         let model = s.model;
         d = declared;
