@@ -55,6 +55,7 @@ fn read_lines(text: &[u8]) -> Result<Model, Refusal>
     let mut m = text_opening::blank();
     let mut at = 0;
     let mut line: u32 = 1;
+    // The loop stays: each turn goes on behind the end of the line that it finds.
     while at < text.len() {
         let e = text_scan::line_end(text, at);
         if e == text.len() {
