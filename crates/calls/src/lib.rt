@@ -10,10 +10,7 @@ ghost use Rattle.rows.specs.Rows.{number_of};
 use limits::{RUN, TEXT, WORK};
 use rows::{Refusal, Row};
 
-// The number of the refusal where more than 127 non-empty states are reachable.
-pub const TOO_MANY: u32 = 15;
-
-// The refusal where there are so many.
+// The refusal where more than 127 non-empty states are reachable.
 pub const CROWDED: Refusal = Refusal {
     row: Row::States,
     line: 0,

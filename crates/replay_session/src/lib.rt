@@ -12,6 +12,7 @@ use limits::{CARRIED, NONE, OBJECTS, RUN};
 use model::{Model, Relations};
 
 // The replay's answer to a run: kept, or broken at a place.
+// It stays an enum: a broken run is an answer and no failure, and a Result in the Result of the call would be no plainer.
 #[derive(Clone, Copy)]
 pub enum Answer {
     Kept,
@@ -19,6 +20,7 @@ pub enum Answer {
 }
 
 // The answer to one place: kept with the number of those who stood by, or broken at the count of places kept.
+// It stays an enum: a broken place is an answer and no failure, and a Result in the Result of the call would be no plainer.
 #[derive(Clone, Copy)]
 pub enum PlaceAnswer {
     Kept { stood: u32 },
@@ -37,7 +39,7 @@ pub struct Session {
 }
 
 // The replay's state but for the states of the objects.
-// The count stays without an array: the states are lent beside a position.
+// The count stays beside another array: the states are lent apart from a position.
 #[derive(Clone, Copy)]
 pub struct Position {
     pub objects: usize,

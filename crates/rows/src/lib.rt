@@ -41,6 +41,7 @@ impl Row {
 }
 
 // A row that refuses a text or a call, and the line that it stands on; 0 where no line is to blame.
+// Line 0 stays for no line: the table has it so, and C is told it.
 #[derive(Clone, Copy, PartialEq, Eq)]
 pub struct Refusal {
     pub row: Row,
