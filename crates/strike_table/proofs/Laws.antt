@@ -17,7 +17,7 @@ use Rattle.semantics.specs.Labels.{has}
 use Rattle.semantics.specs.Models.{Program, Question}
 use Rattle.semantics.specs.Steps.{MoreThan}
 use Rattle.semantics.specs.Questions.{Verdict}
-use Rattle.semantics.proofs.Tools.{either, same?, clash}
+use Rattle.semantics.proofs.Tools.{either, same?}
 use Rattle.semantics.proofs.Sets.{has-and, has-beyond}
 use Rattle.model.specs.declared.Model.{Model}
 use Rattle.model.specs.Records.{program_of, question_of}
