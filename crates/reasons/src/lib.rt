@@ -37,7 +37,7 @@ pub enum Reason {
 }
 
 // Why a step of a clause, a `new` line, is not allowed.
-// The model, the view and the states stay in the clauses alone, and what is lent stays apart: the code has the parts that it reads, which come from the model, the view and the stock of facts.
+// The model, the view and the states stay in the clauses alone: the code reads some parts of them. What is lent stays apart: it is handed on to `blame`, which takes it apart, and a struct would be made for one place and be taken apart again.
 fn why_new(
     literals: &[u32],
     slots: &[u8],
@@ -107,7 +107,7 @@ fn why_next(
 }
 
 // Why a step of a line and an object is not allowed.
-// What is lent stays apart: the numbers and the literals come from the model, the slots from the view, and the table from the stock of facts.
+// What is lent stays apart: this and `why_meeting` read the numbers too, `why_new` and `why_next` do not, and a struct would be made for one place.
 fn why_step(
     numbers: &[u32; NUMBERS],
     literals: &[u32],
@@ -143,6 +143,7 @@ fn beyond(c: Choice, n: usize, objects: usize) -> bool
 }
 
 // Does a choice have another object than the carried one for the stage's variable of a number?
+// NONE stays for none: the carried object is a word of the state that C lends.
 fn swapped(g: Stage, number: u32, carried: u32, c: Choice) -> bool
     requires { g.variables ≤ limit.variables }
     ensures { Says (Swapped g number carried c) result }
