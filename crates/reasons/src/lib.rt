@@ -134,12 +134,7 @@ fn why_step(
 fn beyond(c: Choice, n: usize, objects: usize) -> bool
     ensures { Says (Beyond c n objects) result }
 {
-    for x in 0..n {
-        if facts_candidates::element(c, x) >= objects {
-            return true;
-        }
-    }
-    false
+    (0..n).any(|x| facts_candidates::element(c, x) >= objects)
 }
 
 // Does a choice have another object than the carried one for the stage's variable of a number?
