@@ -134,7 +134,12 @@ fn why_step(
 fn beyond(c: Choice, n: usize, objects: usize) -> bool
     ensures { Says (Beyond c n objects) result }
 {
-    (0..n).any(|x| facts_candidates::element(c, x) >= objects)
+    for x in 0..n {
+        if facts_candidates::element(c, x) >= objects {
+            return true;
+        }
+    }
+    false
 }
 
 // Does a choice have another object than the carried one for the stage's variable of a number?
