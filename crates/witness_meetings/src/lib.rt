@@ -134,10 +134,11 @@ fn choose(
 {
     let free = facts_holds::free();
     let fixed = name_both(m, k, first, second, free);
-    match seek_stage(work, slots, m, s, k, fixed) {
-        Some(c) => c,
-        None => fixed,
-    }
+    let Some(c) = seek_stage(work, slots, m, s, k, fixed) else {
+        // A level's pair has a choice that meets the stage.
+        unreachable!()
+    };
+    c
 }
 
 // The objects of the states chosen for n variables: they stand behind `base` others.
@@ -244,7 +245,7 @@ pub fn opening(
             }
         }
     }
-    facts_holds::free()
+    unreachable!()
 }
 
 // Writes the meeting of stage 1 for a choice of found states at index `at`, with the object for its first variable. Returns the index behind it.

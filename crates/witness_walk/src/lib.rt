@@ -163,7 +163,7 @@ fn previous(rows: &[u8], ways: &[u8], m: Model, k: usize, first: usize, second: 
             }
         }
     }
-    Pair { first, second }
+    unreachable!()
 }
 
 // Writes the places by which the carried objects came to a pair of level k + 1 from level k, and goes back to their pair there.
