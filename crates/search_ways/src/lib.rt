@@ -98,7 +98,7 @@ fn lead_clause(states: &[u32], c: Clause, table: &[u8; TABLE], i: usize, ways: &
 }
 
 // The matrix of single steps: row e has slot e and the slots to which some line takes an object of its state.
-// The model, the states and the table stay apart, with what they must be in clauses: the table is made before the other moves, by the work area of a search.
+// The model, the states and the table stay apart, with what they must be in clauses: a struct of references would be made anew for each call, since the search holds the states and the table in two structs, and the model in none.
 pub fn steps(m: Model, s: States, table: &[u8; TABLE], ways: &mut [u8; MATRIX])
     requires { WellFormed m × Proper s × Marks table.now (CanTake m s) }
     ensures { Marks ways.new (Between s.count (OneStep (program_of m) (row s))) }

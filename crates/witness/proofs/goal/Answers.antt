@@ -27,6 +27,6 @@ loop-f-preserved c =
 
 pub unreachable-requires : goal.unreachable-requires
 unreachable-requires c =
-    let q = c.requires.2 in
-    let s = c.requires.2.2 in
+    let q = c.requires.1 in
+    let s = c.requires.1.2 in
     c.loop-f.invariant q.1 (omega (arith, s.1)) (q.0, s.0, s.2)

@@ -17,7 +17,7 @@ loop-v-preserved c = below_more _ _ c.loop-v.invariant (elim (c.if-moves.branch)
 pub unreachable-requires : goal.unreachable-requires
 unreachable-requires c =
     let a = c.args in
-    let q = c.requires.6 in
-    let r = c.requires.6.2 in
+    let q = c.requires.4 in
+    let r = c.requires.4.2 in
     let h = pair_found a.m a.rows.now a.ways.now a.k a.first a.second _ _ _ _ c.holds-one.ensures c.holds-two.ensures c.carries-begun.ensures c.carries-began.ensures q.0 q.1 r in
     c.loop-v.invariant q.1 (omega (arith, r.0.1)) (q.0, r.0.0, h.0, h.1)
