@@ -76,7 +76,14 @@ fn lead_at(states: &[u32], plus: u32, minus: u32, e: usize, ways: &mut [u8; MATR
 }
 
 // Marks where a `next` clause leads from each slot of its row of the table.
-fn lead_next(states: &[u32], plus: u32, minus: u32, table: &[u8; TABLE], i: usize, ways: &mut [u8; MATRIX])
+fn lead_next(
+    states: &[u32],
+    plus: u32,
+    minus: u32,
+    table: &[u8; TABLE],
+    i: usize,
+    ways: &mut [u8; MATRIX],
+)
     requires { Distinct states.now × (length states.now ≤ limit.listed) × (i < 64) }
     ensures { Marks ways.new (With ways.old (Between (length states.now) (Led table.now i states.now (action.Next plus minus)))) }
 {

@@ -139,7 +139,14 @@ fn moves(ways: &[u8; MATRIX], stands: bool, began: bool, u: usize, e: usize) -> 
 }
 
 // The first slot of row j from which an object can go to slot e, if there is one.
-fn source(rows: &[u8; LEVELS], ways: &[u8; MATRIX], j: usize, stands: bool, began: bool, e: usize) -> Option<usize>
+fn source(
+    rows: &[u8; LEVELS],
+    ways: &[u8; MATRIX],
+    j: usize,
+    stands: bool,
+    began: bool,
+    e: usize,
+) -> Option<usize>
     requires { (j * width.bytes + width.bytes ≤ levels_bytes) × (e < limit.listed) }
     ensures { MatchOption result ((u : ℕ) → u < limit.listed → Source rows.now ways.now j stands began e u → ⊥) (λ u. (u < limit.listed) × Source rows.now ways.now j stands began e u) }
 {
@@ -147,7 +154,14 @@ fn source(rows: &[u8; LEVELS], ways: &[u8; MATRIX], j: usize, stands: bool, bega
 }
 
 // A pair of level k that leads to a pair of the next level.
-fn previous(rows: &[u8; LEVELS], ways: &[u8; MATRIX], m: Model, k: usize, first: usize, second: usize) -> Pair
+fn previous(
+    rows: &[u8; LEVELS],
+    ways: &[u8; MATRIX],
+    m: Model,
+    k: usize,
+    first: usize,
+    second: usize,
+) -> Pair
     requires { WellFormed m × (k < m.stagecount) × (first < limit.listed) × (second < limit.listed) × ((u v : ℕ) × LeadsTo m rows.now ways.now k first second u v) }
     ensures { LeadsTo m rows.now ways.now k first second result.first result.second }
 {
