@@ -52,12 +52,8 @@ pub fn clause_on(numbers: &[u32; NUMBERS], line: u32) -> Option<Clause>
     requires { get_or numbers.now 0 0 ≤ limit.clauses }
     ensures { OnLine numbers.now line result }
 {
-    for i in 0..numbers[0] as usize {
-        if numbers[40 + i * 8 + 3] == line {
-            return Some(clause_at(numbers, i));
-        }
-    }
-    None
+    let i = (0..numbers[0] as usize).find(|i| numbers[40 + *i * 8 + 3] == line)?;
+    Some(clause_at(numbers, i))
 }
 
 // Stage i.
