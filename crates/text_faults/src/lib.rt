@@ -66,6 +66,7 @@ pub fn head_code(code: Option<u32>, n: usize) -> Result<u32, Row>
 }
 
 // The code of a literal with n variables.
+// The flag stays beside the code: it is the text's `not`, which stands apart from the relation's name.
 pub fn literal_code(negated: bool, code: Option<u32>, n: usize) -> Result<u32, Row>
     ensures { Coded (sign_fault negated (found code) n) code result }
 {
