@@ -17,12 +17,7 @@ pub fn both<A: Copy, B: Copy>(a: Result<A, Row>, b: Result<B, Row>) -> Result<(A
         (Ok(x), Ok(y)) => Ok((x, y)),
         (Ok(_), Err(y)) => Err(y),
         (Err(x), Ok(_)) => Err(x),
-        (Err(x), Err(y)) => {
-            if x.number() < y.number() {
-                return Err(x);
-            }
-            Err(y)
-        }
+        (Err(x), Err(y)) => Err(x.min(y)),
     }
 }
 
