@@ -35,13 +35,10 @@ pub fn arity(code: u32) -> u32
 pub fn state_code(code: Option<u32>) -> Result<u32, Row>
     ensures { Coded (name_fault (found code)) code result }
 {
-    let Some(c) = code else {
-        return Err(Row::Kind);
-    };
-    if c < 32 {
-        return Ok(c);
+    match code {
+        Some(c) if c < 32 => Ok(c),
+        _ => Err(Row::Kind),
     }
-    Err(Row::Kind)
 }
 
 // The code of a rule's head with n variables.
