@@ -11,7 +11,9 @@
 3a  a loop that counts an index by hand                     6b  arrays of one length in a struct
 3b  any other loop that is no `for`                         6c  a slice and how much of it counts
 
-A place is found by its text alone; what a finding means is read on the page.
+A place is found by its text alone; what a finding means is read on the page. A place is kept where the comment directly above it, or above its
+function, says with the word `stays` or `stay` why; for 5a and 5b above the first function that has the fact or the parameters. The counts are
+those of all places, and in brackets of the kept ones.
 """
 
 import glob
@@ -21,7 +23,7 @@ import sys
 
 NONE = re.compile(
     r"// .*(\b0 if|\bor 0\b|\bor 3\b|\bor n\b|or NONE|or SLOTS|or SETS|or LISTED|or 255|0 where|0 and 0|3 if|255 (where|in)"
-    r"|if there is none|if it is not there|n where|tands for no\b|where it (has|is) no|0 standing|or the number of|or the text's length|nothing elsewhere|no number elsewhere)"
+    r"|if there is none|if it is not there|n where|tands for no\b|where it (has|is) no|255 for none|0 standing|or the number of|or the text's length|nothing elsewhere|no number elsewhere)"
 )
 
 
@@ -87,6 +89,19 @@ def shape(body):
     return " ".join(out)
 
 
+STAYS = re.compile(r"^\s*// .*\b[Ss]tays?\b")
+
+
+def reasons_above(lines, line):
+    """The sentences of the comment directly above a line that say why something stays."""
+    i, out = line - 2, []
+    while i >= 0 and re.match(r"\s*(//|#\[)", lines[i]):
+        if STAYS.match(lines[i]):
+            out.insert(0, lines[i].strip()[3:])
+        i -= 1
+    return out
+
+
 def parameters(signature):
     inside = re.search(r"\((.*)\)", signature, re.S)
     return re.findall(r"(?:mut )?(\w+): ([^,()]+(?:\[[^\]]*\])?)", inside.group(1)) if inside else []
@@ -102,8 +117,11 @@ def main():
         crate = path.split(os.sep)[-3]
         text = open(path, encoding="utf-8").read()
 
-        def add(point, line, what):
-            found.append((point, crate, line, what))
+        lines = text.split("\n")
+
+        def add(point, line, what, other=None):
+            why = reasons_above(lines, line) + (reasons_above(lines, other) if other else [])
+            found.append((point, crate, line, what, " ".join(why)))
 
         def line_of(at):
             return text.count("\n", 0, at) + 1
@@ -134,10 +152,10 @@ def main():
             if counts and arrays:
                 add("6a", line_of(m.start()), f"struct {m.group(1)}: {', '.join(counts)} beside an array")
         for m in re.finditer(r"^ *(// [^\n]*)$", text, re.M):
-            if NONE.search(m.group(1)) and "stays" not in m.group(1):
-                rest = text[m.end():].lstrip("\n")
-                name = re.search(r"(?:fn|struct|enum|const) (\w+)", rest)
-                add("1c", line_of(m.start()), (name.group(1) if name else "?") + ": " + m.group(1)[3:140])
+            if NONE.search(m.group(1)) and not STAYS.match(m.group(1)):
+                name = re.search(r"^ *(?:pub )?(?:const )?(?:fn|struct|enum|const) (\w+)", text[m.end():], re.M)
+                at = line_of(m.end() + name.start(1)) if name else line_of(m.start())
+                add("1c", at, (name.group(1) if name else "?") + ": " + m.group(1)[3:140])
         for m in re.finditer(r"Refused \{ number: u32, line: u32 \}|Refused \{\n\s+number: u32,", text):
             add("1d", line_of(m.start()), "Refused { number, line }")
         for line, name, signature, clauses, body in functions(text):
@@ -155,19 +173,19 @@ def main():
                 counted = [v for v in re.findall(r"\b(\w+) [+-]= 1;", inner) if re.search(r"\b%s\b" % v, m.group(2) or "")]
                 at = line + signature.count("\n") + clauses.count("\n") + body.count("\n", 0, m.start())
                 if counted:
-                    add("3a", at, f"{where}: while {m.group(2).strip()}")
+                    add("3a", at, f"{where}: while {m.group(2).strip()}", line)
                 else:
-                    add("3b", at, f"{where}: {(m.group(2) or 'loop').strip()}")
+                    add("3b", at, f"{where}: {(m.group(2) or 'loop').strip()}", line)
             text_ = shape(body)
             if body.count("\n") >= 5:
-                bodies.setdefault(text_, []).append((crate, line, name))
+                bodies.setdefault(text_, []).append((crate, line, name, reasons_above(lines, line)))
             for c in conjuncts(clauses):
-                wants.setdefault((crate, c), []).append(name)
+                wants.setdefault((crate, c), []).append((name, line, reasons_above(lines, line)))
             names = [f"{n}: {t.strip()}" for n, t in parameters(signature)]
             for i in range(len(names)):
                 for j in range(i + 1, len(names)):
                     for k in range(j + 1, len(names)):
-                        lists.setdefault((crate, names[i], names[j], names[k]), []).append(name)
+                        lists.setdefault((crate, names[i], names[j], names[k]), []).append((name, line, reasons_above(lines, line)))
             pairs = parameters(signature)
             for (n, t), (k, u) in zip(pairs, pairs[1:]):
                 if t.strip().startswith("&") and "[" in t and u.strip() == "usize" and re.search(r"\b%s ≤ length %s\.|GoodLiterals %s\.\w+ %s|GoodBody \(?%s" % (k, n, n, k, n), clauses):
@@ -177,25 +195,28 @@ def main():
                 add("4", line, f"{where}")
     for text_, all_ in bodies.items():
         if len(all_) > 1:
-            for crate, line, name in all_:
-                found.append(("2", crate, line, f"{name}: one body as " + ", ".join(f"{c}::{n}" for c, _, n in all_ if (c, n) != (crate, name))))
-    for (crate, c), names in wants.items():
-        if len(set(names)) >= 3 and c:
-            found.append(("5a", crate, 0, f"{' '.join(c.split())[:90]}: {len(set(names))} functions"))
+            for crate, line, name, why in all_:
+                others = ", ".join(f"{c}::{n}" for c, _, n, _ in all_ if (c, n) != (crate, name))
+                found.append(("2", crate, line, f"{name}: one body as " + others, " ".join(why)))
+    for (crate, c), uses in wants.items():
+        names = sorted({n for n, _, _ in uses})
+        if len(names) >= 3 and c:
+            found.append(("5a", crate, uses[0][1], f"{' '.join(c.split())[:90]}: {len(names)} functions", " ".join(uses[0][2])))
     best = {}
-    for (crate, *three), names in lists.items():
-        if len(set(names)) >= 3:
-            key = (crate, tuple(sorted(set(names))))
-            best.setdefault(key, set()).update(three)
-    for (crate, names), params in best.items():
-        found.append(("5b", crate, 0, f"{', '.join(sorted(params))}: {len(names)} functions"))
-    counts = {}
-    for point, crate, line, what in sorted(found):
+    for (crate, *three), uses in lists.items():
+        names = tuple(sorted({n for n, _, _ in uses}))
+        if len(names) >= 3:
+            best.setdefault((crate, names), (uses[0], set()))[1].update(three)
+    for (crate, names), (first, params) in best.items():
+        found.append(("5b", crate, first[1], f"{', '.join(sorted(params))}: {len(names)} functions", " ".join(first[2])))
+    counts, kept = {}, {}
+    for point, crate, line, what, why in sorted(found):
         if points and point not in points and point[0] not in points:
             continue
         counts[point] = counts.get(point, 0) + 1
-        print(f"{point} | {crate} | {line} | {what}")
-    print(", ".join(f"{p}: {n}" for p, n in sorted(counts.items())))
+        kept[point] = kept.get(point, 0) + (why != "")
+        print(f"{point} | {crate} | {line} | {what}" + (f" | {why}" if why else ""))
+    print(", ".join(f"{p}: {n} ({kept[p]})" for p, n in sorted(counts.items())))
 
 
 if __name__ == "__main__":

@@ -13,7 +13,7 @@ use Rattle.model.specs.Records.{program_of, question_of}
 use Rattle.model.specs.WellFormed.{WellFormed}
 use Rattle.model.specs.Places.{number_of, placed, stands_for, place_of}
 use Rattle.model.proofs.Accepted.{stages}
-use Rattle.search_levels.specs.Levels.{nothing}
+use Rattle.std.specs.Prelude.{None}
 use Rattle.search.specs.declared.Found.{Found}
 use Rattle.search.specs.Search.{Searched}
 use Rattle.witness_table.specs.Runs.{numbers}
@@ -40,25 +40,26 @@ beside P Q run run' states n few l (Refused number line) h = absurd (few h.0)
 module _ (m : Model) (wf : WellFormed m) where
   module _ (w : List ℕ) (r : Found) (h : Searched m w r) where
     -- what the search recorded
-    pub recorded : Recorded m w r.states r.levels.rows r.moves.table r.moves.steps r.moves.ways
+    pub recorded : Recorded m w r.explored.states r.levels.rows r.explored.moves.table r.explored.moves.steps r.explored.moves.ways
     recorded =
+        let e = h.explored in
         record {
-          known = record { model = wf; proper = h.proper; found = h.found; agree = h.agree; exact = h.exact };
-          mapped = record { whole = h.whole; tabled = h.moves.tabled; moves = h.moves.table; stepped = h.moves.stepped; single = h.moves.steps };
-          long = h.moves.closed;
-          comes = h.moves.ways;
-          asked = nothing;
+          known = record { model = wf; proper = e.proper; found = e.found; agree = e.agree; exact = e.exact };
+          mapped = record { whole = e.whole; moves = e.moves.table; single = e.moves.steps };
+          comes = e.moves.ways;
+          asked = None;
           levels = h.levels;
         }
 
     -- the states by rising number
-    pub listed : Listed (program_of m) r.listing.states r.listing.count
+    pub listed : Listed (program_of m) r.explored.listing.states r.explored.listing.count
     listed =
+        let f = h.explored in
         record {
-          count = h.listing.count;
-          rising = h.listing.rising;
-          reachable = λ t. ((λ e. (h.listing.same t).1 ((h.reachable t).0 e)), λ e. (h.reachable t).1 ((h.listing.same t).0 e));
-          rest = h.listing.rest;
+          count = f.listing.count;
+          rising = f.listing.rising;
+          reachable = λ t. ((λ e. (f.listing.same t).1 ((f.reachable t).0 e)), λ e. (f.reachable t).1 ((f.listing.same t).0 e));
+          rest = f.listing.rest;
         }
 
   -- the run written, and its last place

@@ -5,25 +5,29 @@ ghost use Rattle.std.specs.Prelude.{◌≡◌, ◌≤◌, length};
 ghost use Rattle.limits.specs.Limits as limit;
 ghost use Rattle.model.specs.Records.{program_of, question_of};
 ghost use Rattle.model.specs.WellFormed.{WellFormed};
+ghost use Rattle.rows.specs.Rows.{number_of};
 ghost use Rattle.search.specs.Search.{Searched, Finds};
-ghost use Rattle.calls.specs.Crowding.{Crowded};
 ghost use Rattle.analyzer_verdict.specs.Judging.{Answered, Beside, refusal, Judges};
 
-use calls::TOO_MANY;
+use calls::CROWDED;
 use facts_heads::ROOM;
 use limits::LISTED;
 use model::{Model, Place};
+use rows::Refusal;
 use search::Found;
 
 // Reached with the number of places of the shown run and its last place, unreached, or a refusal with its number and line.
+// The three cases stay an enum with the refusal's number: document 01 writes it so.
 #[derive(Clone, Copy)]
 pub enum Answer {
     Reached { places: usize, last: Place },
     Unreached,
+    // The number stays beside the line: document 01 writes this answer so.
     Refused { number: u32, line: u32 },
 }
 
 // An answer, and beside a verdict the reachable atomic states by rising number, the empty one first, and how many they are.
+// The count stays beside the array: memory is fixed, and C lends cells for the whole row.
 #[derive(Clone, Copy)]
 pub struct Analysis {
     pub answer: Answer,
@@ -32,31 +36,36 @@ pub struct Analysis {
 }
 
 // A refusal, with no states beside it.
-pub fn refuse(number: u32, line: u32) -> Analysis
-    ensures { result ≡ refusal number line }
+pub fn refuse(r: Refusal) -> Analysis
+    ensures { result ≡ refusal (number_of r.row) r.line }
 {
     Analysis {
-        answer: Answer::Refused { number, line },
+        answer: Answer::Refused {
+            number: r.row.number(),
+            line: r.line,
+        },
         states: [0u32; LISTED],
         count: 0,
     }
 }
 
 // The verdict that a search gives; the run of a reached question is written.
+// `WellFormed m` stays a clause: it speaks by recursion over the model's lists, which a ghost field cannot hold, and behind an `impl Model` other crates would read a model only through a method that gives it out whole; the length of `run` stays one too, since C lends a row that may be longer.
 fn conclude(m: Model, facts: &[u8], run: &mut [u32], found: Found) -> Answer
-    requires { WellFormed m × Searched m facts.now found × (limit.run ≤ length run.old) × (Crowded (program_of m) → ⊥) }
+    requires { WellFormed m × Searched m facts.now found × (limit.run ≤ length run.old) }
     ensures { Answered (program_of m) (question_of m) run.old run.new result }
 {
     if !found.reached {
         return Answer::Unreached;
     }
+    let explored = found.explored;
     let rows = &found.levels.rows;
-    let moves = &found.moves;
+    let moves = &explored.moves;
     let places = witness::witness(
         run,
         facts,
         m,
-        found.states,
+        explored.states,
         rows,
         &moves.table,
         &moves.steps,
@@ -67,15 +76,16 @@ fn conclude(m: Model, facts: &[u8], run: &mut [u32], found: Found) -> Answer
 }
 
 // The analysis that a search gives: too many states, or the verdict with the states beside it.
-fn judge(m: Model, facts: &[u8], run: &mut [u32], found: Found) -> Analysis
-    requires { WellFormed m × Finds m facts.now found × (limit.run ≤ length run.old) }
+fn judge(m: Model, facts: &[u8], run: &mut [u32], searched: Option<Found>) -> Analysis
+    requires { WellFormed m × Finds m facts.now searched × (limit.run ≤ length run.old) }
     ensures { Answered (program_of m) (question_of m) run.old run.new result.answer × Beside (program_of m) result.states result.count result.answer }
 {
-    if found.crowded {
-        return refuse(TOO_MANY, 0);
-    }
+    let Some(found) = searched else {
+        return refuse(CROWDED);
+    };
     let answer = conclude(m, facts, run, found);
-    let listing = found.listing;
+    let explored = found.explored;
+    let listing = explored.listing;
     let states = listing.states;
     Analysis {
         answer,
@@ -90,8 +100,8 @@ pub fn decide(m: Model, work: &mut [u8], run: &mut [u32]) -> Analysis
     ensures { Judges (program_of m) (question_of m) work.old run.old result work.new run.new }
 {
     let mut facts = [0u8; ROOM];
-    let found = search::search(&mut facts, m);
-    let analysis = judge(m, &facts, run, found);
+    let searched = search::search(&mut facts, m);
+    let analysis = judge(m, &facts, run, searched);
     calls::wipe(work);
     analysis
 }

@@ -25,8 +25,8 @@ use Rattle.asbestos.proofs.Sizes.{never-many}
 use Rattle.asbestos_forms.specs.Forms.{declared, text}
 use Rattle.asbestos_forms.proofs.Sizes.{text-long, text-short}
 use Rattle.asbestos_forms.proofs.Accepted.{text-accepted}
-use Rattle.asbestos_writer.specs.declared.Answer as desk
-use Rattle.asbestos_writer.specs.declared.Answer.TheVariants.{Written}
+use Rattle.std.specs.Prelude.{Result, Ok, Err}
+use Rattle.rows.specs.declared.Refusal.{Refusal}
 use Rattle.asbestos_writer.specs.Writing.{refuses, Leaves, Desks}
 use Rattle.asbestos_writer.proofs.Checks.{Fit, fit}
 use Rattle.asbestos_desk.specs.Promise.{Tells, Promised, Keeps}
@@ -39,9 +39,9 @@ tells P Q few same run run' Unreached h = λ x. h.1 (same.1 x)
 tells P Q few same run run' (Refused n l) h = few h.0
 
 -- A TEXT WAS WRITTEN, and so many bytes of the output are it
-module _ (kinds : List Process) (port level : ℕ) (out : List ℕ) (n : ℕ) (out' : List ℕ) (desk : Desks kinds port level out (Written n) out') where
-  written : (t : Bool) → Leaves t (text kinds port level) out (Written n) out' → (t ≡ false) × (n ≡ length (text kinds port level)) × (out' ≡ text kinds port level ++ drop (length (text kinds port level)) out)
-  written true d = absurd (let z : ◌≡◌ {A = ℕ} 0 1 = cc d.0 in omega arith)
+module _ (kinds : List Process) (port level : ℕ) (out : List ℕ) (n : ℕ) (out' : List ℕ) (desk : Desks kinds port level out (Ok n) out') where
+  written : (t : Bool) → Leaves t (text kinds port level) out (Ok n) out' → (t ≡ false) × (n ≡ length (text kinds port level)) × (out' ≡ text kinds port level ++ drop (length (text kinds port level)) out)
+  written true d = absurd d.0
   written false d = (refl, (let z = d.0 in cc), d.1)
 
   fits : Fit kinds port level (length out)
@@ -70,11 +70,11 @@ module _ (kinds : List Process) (port level : ℕ) (out : List ℕ) (n : ℕ) (o
   no_longer = omega (arith, (written (refuses kinds port level (length out)) desk).1, text-short kinds port level fits.proper fits.few fits.low fits.asked)
 
 -- THE DESK KEEPS ITS PROMISE
-pub keeps : (kinds : List Process) (port level : ℕ) (out : List ℕ) (a : desk.Answer) (out' : List ℕ) → Desks kinds port level out a out' → Keeps kinds port level a out'
-keeps kinds port level out (Written n) out' d = promised kinds port level out n out' d
-keeps kinds port level out (desk.TheVariants.Refused n l) out' d = tt
+pub keeps : (kinds : List Process) (port level : ℕ) (out : List ℕ) (a : Result ℕ Refusal) (out' : List ℕ) → Desks kinds port level out a out' → Keeps kinds port level a out'
+keeps kinds port level out (Ok n) out' d = promised kinds port level out n out' d
+keeps kinds port level out (Err x) out' d = tt
 
 -- and its text is no longer than a text may be
-pub short-text : (kinds : List Process) (port level : ℕ) (out : List ℕ) (a : desk.Answer) (out' : List ℕ) → Desks kinds port level out a out' → ShortText a
-short-text kinds port level out (Written n) out' d = no_longer kinds port level out n out' d
-short-text kinds port level out (desk.TheVariants.Refused n l) out' d = tt
+pub short-text : (kinds : List Process) (port level : ℕ) (out : List ℕ) (a : Result ℕ Refusal) (out' : List ℕ) → Desks kinds port level out a out' → ShortText a
+short-text kinds port level out (Ok n) out' d = no_longer kinds port level out n out' d
+short-text kinds port level out (Err x) out' d = tt

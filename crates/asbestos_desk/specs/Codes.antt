@@ -1,15 +1,16 @@
 -- THE NUMBER OF AN ANSWER: kind × 2^32 + value.
-use Rattle.std.specs.Prelude.{ℕ, ◌+◌, ◌*◌, ◌≤◌}
+use Rattle.std.specs.Prelude.{ℕ, ◌+◌, ◌*◌, ◌≤◌, Result, Ok, Err}
+use Rattle.rows.specs.Rows.{number_of}
+use Rattle.rows.specs.declared.Refusal.{Refusal}
+use Rattle.words.specs.Words.{refusal}
 use Rattle.limits.specs.Limits as limit
-use Rattle.asbestos_writer.specs.declared.Answer.{Answer}
-use Rattle.asbestos_writer.specs.declared.Answer.TheVariants.{Refused, Written}
 
 -- kind 2 is refused, with number × 65,536 + line; kind 14 written, with the text's length
-abbrev pub code : Answer → ℕ
-code (Refused n l) = 2 * 4294967296 + (n * 65536 + l)
-code (Written n) = 14 * 4294967296 + n
+abbrev pub code : Result ℕ Refusal → ℕ
+code (Err x) = refusal (number_of x.row) x.line
+code (Ok n) = 14 * 4294967296 + n
 
 -- the text is no longer than a text may be
-abbrev pub ShortText : Answer → Type 0
-ShortText (Refused n l) = Unit {0}
-ShortText (Written n) = n ≤ limit.text
+abbrev pub ShortText : Result ℕ Refusal → Type 0
+ShortText (Err x) = Unit {0}
+ShortText (Ok n) = n ≤ limit.text

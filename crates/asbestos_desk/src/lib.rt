@@ -6,24 +6,29 @@ ghost use Rattle.asbestos_writer.specs.Writing.{kinds_of, Desks};
 ghost use Rattle.asbestos_desk.specs.Codes.{code, ShortText};
 ghost use Rattle.asbestos_desk.specs.Promise.{Keeps};
 
-use asbestos_writer::{Answer, CELLS};
+use asbestos_writer::CELLS;
+use rows::Refusal;
 
 // Writes the text for the first kinds, so many, the port level and the asked receive level, whose verdict is the one over messages; or refuses with 20.
-pub fn write(out: &mut [u8], kinds: &[u32; CELLS], count: usize, port: u32, level: u32) -> Answer
+pub fn write(
+    out: &mut [u8],
+    kinds: &[u32; CELLS],
+    count: usize,
+    port: u32,
+    level: u32,
+) -> Result<usize, Refusal>
     ensures { Desks (kinds_of kinds.now count) port level out.old result out.new × Keeps (kinds_of kinds.now count) port level result out.new }
 {
     asbestos_writer::write_text(out, kinds, count, port, level)
 }
 
 // The number of an answer.
-pub fn coded(answer: Answer) -> u64
+pub fn coded(answer: Result<usize, Refusal>) -> u64
     requires { ShortText answer }
     ensures { result ≡ code answer }
 {
     match answer {
-        Answer::Written { length } => 14 * 4_294_967_296 + length as u64,
-        Answer::Refused { number, line } => {
-            2 * 4_294_967_296 + (number as u64 * 65_536 + line as u64)
-        }
+        Ok(length) => 14 * 4_294_967_296 + length as u64,
+        Err(r) => words::refused(r),
     }
 }

@@ -12,7 +12,8 @@ use Rattle.asbestos.specs.Messages.{Process}
 use Rattle.asbestos_forms.specs.Forms.{names, born_form, table_forms, asked_form, clause_forms, printed, text}
 use Rattle.asbestos_forms.proofs.Printed.{printed-append}
 use Rattle.asbestos_forms.proofs.Examples.{states}
-use Rattle.asbestos_writer.specs.declared.Answer.TheVariants.{Refused, Written}
+use Rattle.std.specs.Prelude.{Ok, Err}
+use Rattle.rows.specs.declared.Row.TheVariants.{Processes}
 use Rattle.asbestos_writer.specs.Writing.{Leaves}
 
 abbrev pub state-lines : List ℕ
@@ -28,10 +29,10 @@ text-parts kinds port level =
     four a b c d = rw (append_assoc (a ++ b) c d, append_assoc a b (c ++ d), append_assoc b c d)
 
 -- WHAT THE CALL LEAVES
-pub leaves-refused : (t : Bool) → t ≡ true → (s out : List ℕ) → Leaves t s out (Refused 20 0) out
-leaves-refused true e s out = (refl, refl)
+pub leaves-refused : (t : Bool) → t ≡ true → (s out : List ℕ) → Leaves t s out (Err (record { row = Processes; line = 0 })) out
+leaves-refused true e s out = ((refl, refl), refl)
 leaves-refused false e s out = absurd (false≢true e)
 
-pub leaves-written : (t : Bool) → t ≡ false → {s out : List ℕ} {n : ℕ} {out' : List ℕ} → Writes out 0 s n out' → Leaves t s out (Written n) out'
+pub leaves-written : (t : Bool) → t ≡ false → {s out : List ℕ} {n : ℕ} {out' : List ℕ} → Writes out 0 s n out' → Leaves t s out (Ok n) out'
 leaves-written true e w = absurd (true≢false e)
-leaves-written false e {s} {out} {n} w = (ap (λ (k : ℕ). Written k) (w.next ∙ zero-add (length s)), w.bytes ∙ ap (λ (k : ℕ). s ++ drop k out) (zero-add (length s)))
+leaves-written false e {s} {out} {n} w = (ap (λ (k : ℕ). Ok k) (w.next ∙ zero-add (length s)), w.bytes ∙ ap (λ (k : ℕ). s ++ drop k out) (zero-add (length s)))

@@ -1,7 +1,15 @@
 -- PARTS OF A LINE, for the functions that write them. Nothing of what the call promises rests on them.
-use Rattle.std.specs.Prelude.{Bool, true, false, cond, List, [], ◌∷◌, ◌++◌, ℕ, ◌+◌, eqb}
+use Rattle.std.specs.Prelude.{◌≡◌, Bool, true, false, cond, List, [], ◌∷◌, ◌++◌, ℕ, ◌+◌, eqb}
 use Rattle.grammar.specs.Bytes.{bytes}
+use Rattle.asbestos.specs.Messages.{Process}
 use Rattle.asbestos.specs.Desk.{each}
+use Rattle.asbestos_writer.specs.declared.Kind.{Kind}
+
+-- a kind as it is read of its cells
+pub record Is (k : Kind) (p : Process) : Type 0 where
+  pub send : k.send ≡ p.send
+  pub receive : k.receive ≡ p.receive
+  pub mark : k.mark ≡ p.mark
 
 -- the bytes, and the digit of a level behind them
 abbrev pub levelled : List ℕ → ℕ → List ℕ

@@ -1,11 +1,11 @@
 -- WHAT THE DESK ANSWERS, and what the output then has, for all inputs.
-use Rattle.std.specs.Prelude.{◌≡◌, Bool, true, false, not, ◌&&◌, ◌||◌, List, [], ◌∷◌, ◌++◌, ℕ, ◌+◌, ◌*◌, eqb, ltb, length, drop, get_or}
+use Rattle.std.specs.Prelude.{◌≡◌, Bool, true, false, not, ◌&&◌, ◌||◌, List, [], ◌∷◌, ◌++◌, ℕ, ◌+◌, ◌*◌, eqb, ltb, length, drop, get_or, Result, Ok}
+use Rattle.rows.specs.Rows.{Refuses}
+use Rattle.rows.specs.declared.Refusal.{Refusal}
 use Rattle.limits.specs.Limits as limit
 use Rattle.asbestos.specs.Messages.{levels, Process, most}
 use Rattle.asbestos.specs.Desk.{each}
 use Rattle.asbestos_forms.specs.Forms.{text}
-use Rattle.asbestos_writer.specs.declared.Answer.{Answer}
-use Rattle.asbestos_writer.specs.declared.Answer.TheVariants.{Refused, Written}
 
 -- THE KINDS, as they are given: a kind has three cells, its send level, its receive level, and its mark, 0 if it has none
 abbrev pub kind_at : List ℕ → ℕ → Process
@@ -34,10 +34,10 @@ refuses kinds port level room =
     || ltb room limit.text
 
 -- WHAT THE CALL LEAVES of the output: "which is then untouched"; or the text and its length, and "Output bytes after the text stay"
-abbrev pub Leaves : Bool → List ℕ → List ℕ → Answer → List ℕ → Type 0
-Leaves true written out a out' = (a ≡ Refused 20 0) × (out' ≡ out)
-Leaves false written out a out' = (a ≡ Written (length written)) × (out' ≡ written ++ drop (length written) out)
+abbrev pub Leaves : Bool → List ℕ → List ℕ → Result ℕ Refusal → List ℕ → Type 0
+Leaves true written out a out' = Refuses 20 0 a × (out' ≡ out)
+Leaves false written out a out' = (a ≡ Ok (length written)) × (out' ≡ written ++ drop (length written) out)
 
 -- THE DESK for kinds, a port level and an asked receive level, with the output before and after it
-abbrev pub Desks : List Process → ℕ → ℕ → List ℕ → Answer → List ℕ → Type 0
+abbrev pub Desks : List Process → ℕ → ℕ → List ℕ → Result ℕ Refusal → List ℕ → Type 0
 Desks kinds port level out a out' = Leaves (refuses kinds port level (length out)) (text kinds port level) out a out'

@@ -1,32 +1,49 @@
 // A desk for Asbestos labels: writes the bracket text for process kinds, a port level and an asked receive level.
 #![tactic(auto)]
 
-ghost use Rattle.std.specs.Prelude.{◌≡◌, not, [], ◌∷◌, ◌++◌, map, suc, ◌+◌, ◌≤◌, ◌<◌, eqb, length};
+ghost use Rattle.std.specs.Prelude.{◌≡◌, [], ◌∷◌, ◌++◌, map, suc, ◌+◌, ◌≤◌, ◌<◌, length};
 ghost use Rattle.limits.specs.Limits as limit;
 ghost use Rattle.grammar.specs.Bytes.{bytes as quoted};
 ghost use Rattle.listing_bytes.specs.Writing.{Writes};
 ghost use Rattle.asbestos.specs.Messages.{levels, most, AllProper};
 ghost use Rattle.asbestos_forms.specs.Forms.{born_form, entry_forms, row_forms, table_forms, asked_form, printed, text};
-ghost use Rattle.asbestos_writer.specs.Parts.{levelled, receiving, marked, taken, passed, changed, exactly};
-ghost use Rattle.asbestos_writer.specs.Writing.{kinds_of, all_proper, refuses, Desks};
+ghost use Rattle.asbestos_writer.specs.Parts.{levelled, receiving, marked, taken, passed, changed, exactly, Is};
+ghost use Rattle.asbestos_writer.specs.Writing.{kind_at, kinds_of, all_proper, refuses, Desks};
 
 use asbestos::{LEVELS, resulting};
 use limits::TEXT;
 use listing_bytes::{put_byte, put_bytes};
+use rows::{Refusal, Row};
 
 // At most so many kinds, each of three cells: its send level, its receive level, and its mark, 0 if it has none.
+// 0 stays for no mark: C lends these cells.
 const KINDS: usize = 18;
 
 pub const CELLS: usize = 3 * KINDS;
 
-// The text's length, or a refusal with its number and line.
+// A kind, by its three cells.
+// The mark stays a flag: a kind has it or not, whatever its levels are.
 #[derive(Clone, Copy)]
-pub enum Answer {
-    Written { length: usize },
-    Refused { number: u32, line: u32 },
+struct Kind {
+    send: u32,
+    receive: u32,
+    mark: bool,
+}
+
+// Kind i of the cells.
+fn kind_of(kinds: &[u32; CELLS], i: usize) -> Kind
+    requires { i < most }
+    ensures { Is result (kind_at kinds.now i) }
+{
+    Kind {
+        send: kinds[3 * i],
+        receive: kinds[3 * i + 1],
+        mark: kinds[3 * i + 2] != 0,
+    }
 }
 
 // Writes the bytes, and the digit of a level behind them.
+// A level stays a number and the place a parameter: levels are counted up, looked up in a table and given by C, and each call writes behind the one before.
 fn put_level(out: &mut [u8], at: usize, bytes: &[u8], level: u32) -> usize
     requires { (level < levels) × (at + length bytes.now + 1 ≤ length out.old) }
     ensures { Writes out.old at (levelled bytes.now level) result out.new }
@@ -36,6 +53,7 @@ fn put_level(out: &mut [u8], at: usize, bytes: &[u8], level: u32) -> usize
 }
 
 // Writes the second list of a `next` line, up to its end.
+// The levels stay numbers and the place a parameter, as at `put_level`.
 fn put_taken(out: &mut [u8], at: usize, a: u32, c: u32) -> usize
     requires { (a < levels) × (at + 5 ≤ length out.old) }
     ensures { Writes out.old at (taken a c) result out.new }
@@ -48,6 +66,7 @@ fn put_taken(out: &mut [u8], at: usize, a: u32, c: u32) -> usize
 }
 
 // Writes who receives and who sends in a `next` line, from the end of its second list on.
+// The levels stay numbers and the place a parameter, as at `put_level`.
 fn put_passed(out: &mut [u8], at: usize, a: u32, b: u32) -> usize
     requires { (a < levels) × (b < levels) × (at + 19 ≤ length out.old) }
     ensures { Writes out.old at (passed a b) result out.new }
@@ -82,6 +101,7 @@ fn put_entry(out: &mut [u8], at: usize, a: u32, b: u32) -> usize
 }
 
 // Writes the lines of a row of the table, its columns up to the port level.
+// The port level stays a number: C gives it so, and it bounds the columns.
 fn put_row(out: &mut [u8], at: usize, port: u32, a: u32) -> usize
     requires { (port < levels) × (a < levels) × (at + 500 ≤ length out.old) }
     ensures { Writes out.old at (printed (row_forms port a)) result out.new }
@@ -118,35 +138,36 @@ fn put_receiving(out: &mut [u8], at: usize, receive: u32) -> usize
 }
 
 // Writes the end of a kind's line, after its levels.
-fn put_marked(out: &mut [u8], at: usize, mark: u32) -> usize
+fn put_marked(out: &mut [u8], at: usize, mark: bool) -> usize
     requires { at + 5 ≤ length out.old }
-    ensures { Writes out.old at (marked (not (eqb mark 0))) result out.new }
+    ensures { Writes out.old at (marked mark) result out.new }
 {
-    if mark == 0 {
-        put_bytes(out, at, b"))\n")
-    } else {
+    if mark {
         put_bytes(out, at, b" M))\n")
+    } else {
+        put_bytes(out, at, b"))\n")
     }
 }
 
 // Writes the line of a kind.
-fn put_kind(out: &mut [u8], at: usize, send: u32, receive: u32, mark: u32) -> usize
-    requires { (send < levels) × (receive < levels) × (at + 28 ≤ length out.old) }
-    ensures { Writes out.old at (levelled (quoted "(new (S") send ++ receiving (suc receive) ++ marked (not (eqb mark 0))) result out.new }
+fn put_kind(out: &mut [u8], at: usize, k: Kind) -> usize
+    requires { (k.send < levels) × (k.receive < levels) × (at + 28 ≤ length out.old) }
+    ensures { Writes out.old at (levelled (quoted "(new (S") k.send ++ receiving (suc k.receive) ++ marked k.mark) result out.new }
 {
-    let sends = put_level(out, at, b"(new (S", send);
-    let receives = put_receiving(out, sends, receive);
-    put_marked(out, receives, mark)
+    let sends = put_level(out, at, b"(new (S", k.send);
+    let receives = put_receiving(out, sends, k.receive);
+    put_marked(out, receives, k.mark)
 }
 
 // Writes the lines of the first kinds, so many.
+// The cells and their count stay two parameters: the entry has them so from C, and a struct of both would be made there only to be taken apart here.
 fn put_kinds(out: &mut [u8], at: usize, kinds: &[u32; CELLS], count: usize) -> usize
     requires { (count ≤ most) × AllProper (kinds_of kinds.now count) × (at + 504 ≤ length out.old) }
     ensures { Writes out.old at (printed (map born_form (kinds_of kinds.now count))) result out.new }
 {
     let mut next = at;
     for i in 0..count {
-        next = put_kind(out, next, kinds[3 * i], kinds[3 * i + 1], kinds[3 * i + 2]);
+        next = put_kind(out, next, kind_of(kinds, i));
     }
     next
 }
@@ -178,7 +199,8 @@ fn all_proper(kinds: &[u32; CELLS], count: usize) -> bool
     ensures { result ≡ all_proper (kinds_of kinds.now count) }
 {
     for i in 0..count {
-        if kinds[3 * i] >= LEVELS || kinds[3 * i + 1] >= LEVELS {
+        let k = kind_of(kinds, i);
+        if k.send >= LEVELS || k.receive >= LEVELS {
             return false;
         }
     }
@@ -186,6 +208,7 @@ fn all_proper(kinds: &[u32; CELLS], count: usize) -> bool
 }
 
 // The call is refused, with so many bytes of output.
+// The cells, their count and the two levels stay parameters: these are what C gives, checked here.
 fn refused(kinds: &[u32; CELLS], count: usize, port: u32, level: u32, room: usize) -> bool
     ensures { result ≡ refuses (kinds_of kinds.now count) port level room }
 {
@@ -229,15 +252,14 @@ pub fn write_text(
     count: usize,
     port: u32,
     level: u32,
-) -> Answer
+) -> Result<usize, Refusal>
     ensures { Desks (kinds_of kinds.now count) port level out.old result out.new }
 {
     if refused(kinds, count, port, level, out.len()) {
-        return Answer::Refused {
-            number: 20,
+        return Err(Refusal {
+            row: Row::Processes,
             line: 0,
-        };
+        });
     }
-    let length = put_text(out, kinds, count, port, level);
-    Answer::Written { length }
+    Ok(put_text(out, kinds, count, port, level))
 }

@@ -1,6 +1,7 @@
 -- CALLS OVER A TEXT: what the table answers to a call, with the buffers that are lent to it.
-use Rattle.std.specs.Prelude.{Bool, cond, ◌||◌, List, ℕ, eqb, ltb, length}
+use Rattle.std.specs.Prelude.{Bool, cond, ◌||◌, List, ℕ, eqb, ltb, length, Result, MatchResult}
 use Rattle.limits.specs.Limits as limit
+use Rattle.rows.specs.declared.Refusal.{Refusal}
 use Rattle.grammar.specs.Texts.{Outcome, refused, outcome}
 
 -- the row that is given before the lines, or 0: 1, "no bytes, or over 16,384"; 12, where a lent buffer is too short; 14, where a run is too long
@@ -14,3 +15,7 @@ short bytes places = ltb bytes limit.work || ltb places limit.run
 -- THE ANSWER TO A CALL. "Order: 1, 12, 14, then line by line"; "line 0 for 1, 12 .. and 14"
 unfoldable pub called : List ℕ → Bool → Bool → Outcome
 called text short long = cond (eqb (early (length text) short long) 0) (outcome text) (refused (early (length text) short long) 0)
+
+-- an answer that refuses nothing, and of which P holds
+abbrev pub Gives : {A : Type 0} → (A → Type 0) → Result A Refusal → Type 0
+Gives P r = MatchResult r P (λ _. ⊥)

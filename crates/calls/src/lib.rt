@@ -1,33 +1,35 @@
 // What every call over a text does: the refusals that come before the text's lines are read, and the work bytes left zero.
 #![tactic(auto)]
 
-ghost use Rattle.std.specs.Prelude.{◌≡◌, ◌≤◌, length};
+ghost use Rattle.std.specs.Prelude.{◌≡◌, ◌≤◌, length, MatchResult};
 ghost use Rattle.limits.specs.Limits as limit;
 ghost use Rattle.calls.specs.Calls.{early as early_row, short as too_short};
 ghost use Rattle.calls.specs.Wiping.{wiped};
+ghost use Rattle.rows.specs.Rows.{number_of};
 
 use limits::{RUN, TEXT, WORK};
+use rows::{Refusal, Row};
 
-// The number of the refusal where more than 127 non-empty states are reachable.
-pub const TOO_MANY: u32 = 15;
+// The refusal where more than 127 non-empty states are reachable.
+pub const CROWDED: Refusal = Refusal {
+    row: Row::States,
+    line: 0,
+};
 
-// The row that refuses a call before its lines are read, or 0: the text's bytes, a lent buffer that is too short, a run that is too long.
-pub fn early(bytes: usize, short: bool, long: bool) -> u32
-    ensures { result ≡ early_row bytes short long }
+// Is a call refused before its lines are read? By the text's bytes, a lent buffer that is too short, a run that is too long.
+pub fn early(bytes: usize, short: bool, long: bool) -> Result<(), Refusal>
+    ensures { MatchResult result (λ _. early_row bytes short long ≡ 0) (λ r. (number_of r.row ≡ early_row bytes short long) × (r.line ≡ 0)) }
 {
-    if bytes == 0 {
-        return 1;
-    }
-    if bytes > TEXT {
-        return 1;
+    if bytes == 0 || bytes > TEXT {
+        return Err(Row::Size.refusal());
     }
     if short {
-        return 12;
+        return Err(Row::Lent.refusal());
     }
     if long {
-        return 14;
+        return Err(Row::Length.refusal());
     }
-    0
+    Ok(())
 }
 
 // Is the work area too short, or a table of places lent for writing?

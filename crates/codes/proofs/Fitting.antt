@@ -9,6 +9,8 @@ use native.Mathlib.Omega.{arith}
 use lib.Dec.{eqb, ltb}
 use lib.ListN.{length}
 use borrow.Author.Tests.{ltb-false}
+use Rattle.std.specs.Prelude.{Result, Ok, Err}
+use Rattle.rows.specs.declared.Refusal.{Refusal}
 use Rattle.limits.specs.Limits as limit
 use Rattle.semantics.specs.Models.{Program, Question}
 use Rattle.semantics.specs.Runs.{Place}
@@ -20,7 +22,7 @@ use Rattle.grammar.proofs.Tests.{either}
 use Rattle.handin.specs.Handins.{Handin, says-no, says-yes, unreadable, reading}
 use Rattle.handin.specs.Answers.{told}
 use Rattle.marker_worth.specs.declared.Mark.{Mark}
-use Rattle.marker_worth.specs.declared.Mark.TheVariants.{Refused, Unreadable, Right, Other, Breaks}
+use Rattle.marker_worth.specs.declared.Mark.TheVariants.{Unreadable, Right, Other, Breaks}
 use Rattle.marker_worth.specs.Worth.{Worth}
 use Rattle.marker.specs.Marking.{Marked}
 use Rattle.handin.proofs.Runs.{run-writable}
@@ -37,22 +39,19 @@ said_fits handin (says-yes first ps) e = (run-writable handin first ps e).0
 said_fits handin (unreadable at) e = tt
 
 -- THE MARK
-worth-fits : (P : Program) (Q : Question) (h : Handin) (m : Mark) → ((first : ℕ) (ps : List Place) → h ≡ says-yes first ps → length ps ≤ limit.run) → Worth P Q h m → LowPlace m
-worth-fits P Q (unreadable at) m f w = rw w tt
-worth-fits P Q says-no (Breaks place line) f w = absurd w
-worth-fits P Q (says-yes first ps) (Breaks place line) f w = omega (arith, f first ps refl, w.1.0)
-worth-fits P Q says-no (Refused n l) f w = tt
-worth-fits P Q says-no (Unreadable l) f w = tt
-worth-fits P Q says-no Right f w = tt
-worth-fits P Q says-no (Other reached) f w = tt
-worth-fits P Q (says-yes first ps) (Refused n l) f w = tt
-worth-fits P Q (says-yes first ps) (Unreadable l) f w = tt
-worth-fits P Q (says-yes first ps) Right f w = tt
-worth-fits P Q (says-yes first ps) (Other reached) f w = tt
+worth-fits : (P : Program) (Q : Question) (h : Handin) (m : Result Mark Refusal) → ((first : ℕ) (ps : List Place) → h ≡ says-yes first ps → length ps ≤ limit.run) → Worth P Q h m → LowPlace m
+worth-fits P Q h (Err x) f w = tt
+worth-fits P Q h (Ok (Unreadable l)) f w = tt
+worth-fits P Q h (Ok Right) f w = tt
+worth-fits P Q h (Ok (Other reached)) f w = tt
+worth-fits P Q (unreadable at) (Ok (Breaks place line)) f w = absurd (let z : ◌≡◌ {A = ℕ} 0 1 = cc in omega arith)
+worth-fits P Q says-no (Ok (Breaks place line)) f w = absurd w
+worth-fits P Q (says-yes first ps) (Ok (Breaks place line)) f w = omega (arith, f first ps refl, w.1.0)
 
-pub mark-fits : (o : Outcome) (handin work run stood : List ℕ) (m : Mark) (work' run' stood' : List ℕ) → Marked o (reading handin) work run stood m work' run' stood' → LowPlace m
-mark-fits (refused n l) handin work run stood m work' run' stood' h = rw h.0 tt
-mark-fits (accepted D P Q) handin work run stood m work' run' stood' h = worth-fits P Q (reading handin) m (λ first ps e. (run-writable handin first ps e).0) h.0
+pub mark-fits : (o : Outcome) (handin work run stood : List ℕ) (m : Result Mark Refusal) (work' run' stood' : List ℕ) → Marked o (reading handin) work run stood m work' run' stood' → LowPlace m
+mark-fits o handin work run stood (Err x) work' run' stood' h = tt
+mark-fits (refused n l) handin work run stood (Ok m) work' run' stood' h = absurd h.0
+mark-fits (accepted D P Q) handin work run stood (Ok m) work' run' stood' h = worth-fits P Q (reading handin) (Ok m) (λ first ps e. (run-writable handin first ps e).0) h.0
 
 -- A DECLARED RELATION stands in an accepted text
 text-size : (text : List ℕ) (D : Declared) (P : Program) (Q : Question) → outcome text ≡ accepted D P Q → length text ≤ limit.text

@@ -1,9 +1,12 @@
 -- THE NUMBERS OF ANSWERS: kind × 2^32 + value; of what is shown: where it begins × 2^32, and what else there is to say of it.
-use Rattle.std.specs.Prelude.{cond, ℕ, ◌+◌, ◌*◌}
-use Rattle.handin.specs.declared.Handin.{Handin}
-use Rattle.handin.specs.declared.Handin.TheVariants as said
+use Rattle.std.specs.Prelude.{cond, Option, Some, None, Result, Ok, Err, ℕ, ◌+◌, ◌*◌}
+use Rattle.rows.specs.Rows.{number_of}
+use Rattle.rows.specs.declared.Refusal.{Refusal}
+use Rattle.words.specs.Words.{refusal}
+use Rattle.handin.specs.declared.Run.{Run}
+use Rattle.handin.specs.declared.Unreadable as handin
 use Rattle.marker_worth.specs.declared.Mark.{Mark}
-use Rattle.marker_worth.specs.declared.Mark.TheVariants.{Refused, Unreadable, Right, Other, Breaks}
+use Rattle.marker_worth.specs.declared.Mark.TheVariants.{Unreadable, Right, Other, Breaks}
 use Rattle.display_shapes.specs.declared.Span.{Span}
 use Rattle.display.specs.declared.Declaration.{Declaration}
 
@@ -11,18 +14,18 @@ abbrev pub code : ℕ → ℕ → ℕ
 code kind value = kind * 4294967296 + value
 
 -- WHAT A HAND-IN SAYS: kind 5 is unreadable, with the line; kind 9 no; kind 10 yes, with places × 65,536 + the line of the first
-abbrev pub handed : Handin → ℕ
-handed said.No = code 9 0
-handed (said.Yes first places) = code 10 (places * 65536 + first)
-handed (said.Unreadable line) = code 5 line
+abbrev pub handed : Result (Option Run) handin.Unreadable → ℕ
+handed (Ok None) = code 9 0
+handed (Ok (Some r)) = code 10 (r.places * 65536 + r.first)
+handed (Err u) = code 5 u.line
 
 -- THE MARK: kind 2 is refused, with number × 65,536 + line; kind 5 unreadable, with the line; kind 6 right; kind 7 the other verdict, with 1 where that is reached; kind 8 a run that breaks, with place × 65,536 + line
-abbrev pub marked : Mark → ℕ
-marked (Refused n l) = code 2 (n * 65536 + l)
-marked (Unreadable l) = code 5 l
-marked Right = code 6 0
-marked (Other reached) = code 7 (cond reached 1 0)
-marked (Breaks place l) = code 8 (place * 65536 + l)
+abbrev pub marked : Result Mark Refusal → ℕ
+marked (Err x) = refusal (number_of x.row) x.line
+marked (Ok (Unreadable l)) = code 5 l
+marked (Ok Right) = code 6 0
+marked (Ok (Other reached)) = code 7 (cond reached 1 0)
+marked (Ok (Breaks place l)) = code 8 (place * 65536 + l)
 
 -- A PART OF A LINE: where it begins, and where it ends
 abbrev pub spanned : Span → ℕ

@@ -8,22 +8,27 @@ use Prim.Native.Nat.{ℕ, suc, ◌^◌, ◌≤◌, ◌<◌}
 use native.Mathlib.Omega.{arith}
 use lib.Dec.{eqb}
 use lib.ListN.{length, get_or}
+use Rattle.std.specs.Prelude.{Option, Some, None, Ok, Err}
+use Rattle.rows.specs.declared.Refusal.{Refusal}
 use Rattle.semantics.specs.Labels.{has}
 use Rattle.semantics.specs.Models.{Program, Question}
 use Rattle.semantics.specs.Questions.{Reached, Verdict}
-use Rattle.semantics.proofs.Tools.{either, clash}
-use Rattle.striking.specs.Striking.{strike, most, Cured, Cure, rising}
+use Rattle.semantics.proofs.Tools.{either}
+use Rattle.grammar.specs.Texts.{Outcome, accepted, refused}
+use Rattle.striking.specs.Striking.{strike, most, Cured, rising}
 use Rattle.striking.specs.Numbers.{numbered}
 use Rattle.striking.proofs.Numbers.{Sooner, cure-by, no-cure-by}
 use Rattle.strike_list.specs.declared.Lines.{Lines}
 use Rattle.strike_list.specs.Lists.{shown, listed}
 use Rattle.strike_list.proofs.Records.{listed-shown}
 use Rattle.strike_table.specs.declared.Table.{Table}
-use Rattle.strike_table.specs.Tables.{Fills}
-use Rattle.cure.specs.declared.Answer.TheVariants.{Strike}
-use Rattle.cure.specs.declared.Advice.{Advice}
-use Rattle.cure.specs.Curing.{refusal, told, Answers}
-use Rattle.cure.specs.Soonest.{size_at, Soonest}
+use Rattle.strike_table.specs.Tables.{Filled}
+use Rattle.strike_table.proofs.Laws.{total-most}
+use Rattle.strike_calls.specs.Choices as strike
+use Rattle.strike_calls.specs.Choices.{Decided}
+use Rattle.strike_calls.specs.declared.Choices.{Choices}
+use Rattle.cure.specs.Curing.{Advises, Leaves}
+use Rattle.cure.specs.Soonest.{size_at, Least, Soonest}
 
 -- what a size says of a choice
 size-large : (xs said : List ℕ) (k : ℕ) → eqb (get_or said k 0) 1 ≡ true → size_at xs said k ≡ suc most
@@ -37,67 +42,64 @@ numbered-few : (ys : List ℕ) (k : ℕ) → length (numbered ys k) ≤ length y
 numbered-few [] k = omega arith
 numbered-few (y ∷ ys) k = ⊎_elim (λ (q : has k (length ys) ≡ true). rw q (omega (arith, numbered-few ys k))) (λ (q : has k (length ys) ≡ false). rw q (omega (arith, numbered-few ys k))) (either (has k (length ys)))
 
-module _ (P : Program) (Q : Question) (L : List ℕ) (t : Table) (n : ℕ) (few : length (rising L) ≤ most) (sparse : t.crowded ≡ false) (d : Fills P Q (rising L) t) (s : Soonest (size_at (rising L) t.said) t.total n) where
+module _ (P : Program) (Q : Question) (L : List ℕ) (t : Table) (few : length (rising L) ≤ most) (d : Filled P Q (rising L) t) where
   abbrev xs : List ℕ
   xs = rising L
 
   -- a choice whose size is its own is unreached, and one with a larger size is reached
   is-reached : (k : ℕ) → k < 2 ^ length xs → eqb (get_or t.said k 0) 1 ≡ true → Reached (strike P (numbered xs k)) Q
-  is-reached k l e = subst (λ (b : Bool). Verdict (strike P (numbered xs k)) Q b) e (d.verdict sparse k l)
+  is-reached k l e = subst (λ (b : Bool). Verdict (strike P (numbered xs k)) Q b) e (d.verdict k l)
 
   is-unreached : (k : ℕ) → k < 2 ^ length xs → eqb (get_or t.said k 0) 1 ≡ false → Reached (strike P (numbered xs k)) Q → ⊥
-  is-unreached k l e = subst (λ (b : Bool). Verdict (strike P (numbered xs k)) Q b) e (d.verdict sparse k l)
+  is-unreached k l e = subst (λ (b : Bool). Verdict (strike P (numbered xs k)) Q b) e (d.verdict k l)
 
-  pub none-cures : n ≡ t.total → Cured P Q L none
-  none-cures e = no-cure-by L P Q (λ k l. ⊎_elim (is-reached k l)
-      (λ (q : eqb (get_or t.said k 0) 1 ≡ false). absurd (⊎_elim
-      (λ (w : (n ≡ t.total) × ((j : ℕ) → j < t.total → most < size_at xs t.said j)). omega (arith, w.1 k (omega (arith, d.total, l)), size-own xs t.said k q, numbered-few xs k, few))
-      (λ (w : (n < t.total) × (size_at xs t.said n ≤ most)). omega (arith, w.0, e)) s.which))
+  none-cures : ((k : ℕ) → k < t.total → most < size_at xs t.said k) → Cured P Q L none
+  none-cures large = no-cure-by L P Q (λ k l. ⊎_elim (is-reached k l)
+      (λ (q : eqb (get_or t.said k 0) 1 ≡ false). absurd (omega (arith, large k (omega (arith, d.total, l)), size-own xs t.said k q, numbered-few xs k, few)))
       (either (eqb (get_or t.said k 0) 1)))
 
-  module _ (l : n < t.total) (m : size_at xs t.said n ≤ most) where
+  module _ (n : ℕ) (s : Least (size_at xs t.said) t.total n) where
     own : eqb (get_or t.said n 0) 1 ≡ false
-    own = ⊎_elim (λ (q : eqb (get_or t.said n 0) 1 ≡ true). absurd (omega (arith, m, size-large xs t.said n q))) (λ q. q) (either (eqb (get_or t.said n 0) 1))
+    own = ⊎_elim (λ (q : eqb (get_or t.said n 0) 1 ≡ true). absurd (omega (arith, s.small, size-large xs t.said n q))) (λ q. q) (either (eqb (get_or t.said n 0) 1))
 
     sooner : (k : ℕ) → k < 2 ^ length xs → Sooner L k n → Reached (strike P (numbered xs k)) Q
     sooner k h w = ⊎_elim (is-reached k h)
         (λ (q : eqb (get_or t.said k 0) 1 ≡ false). absurd (⊎_elim
-        (λ (a : length (numbered xs k) < length (numbered xs n)). omega (arith, a, s.least k (omega (arith, d.total, h)) l, size-own xs t.said k q, size-own xs t.said n own))
+        (λ (a : length (numbered xs k) < length (numbered xs n)). omega (arith, a, s.least k (omega (arith, d.total, h)), size-own xs t.said k q, size-own xs t.said n own))
         (λ (a : (length (numbered xs k) ≡ length (numbered xs n)) × (n < k)). omega (arith, a.0, s.highest k (omega (arith, d.total, h)) a.1, size-own xs t.said k q, size-own xs t.said n own)) w))
         (either (eqb (get_or t.said k 0) 1))
 
-    cures : Cure P Q L (numbered xs n)
-    cures = cure-by L P Q n (omega (arith, d.total)) (is-unreached n (omega (arith, d.total)) own) sooner
-
-  pub some-cures : (n ≡ t.total → ⊥) → Cured P Q L (some (numbered xs n))
-  some-cures ne = ⊎_elim
-      (λ (w : (n ≡ t.total) × ((k : ℕ) → k < t.total → most < size_at xs t.said k)). absurd (ne w.0))
-      (λ (w : (n < t.total) × (size_at xs t.said n ≤ most)). cures w.0 w.1) s.which
+    some-cures : Cured P Q L (some (numbered xs n))
+    some-cures = let l = s.within in cure-by L P Q n (omega (arith, d.total)) (is-unreached n (omega (arith, d.total)) own) sooner
 
 -- THE ANSWER of a table over the lines of a list
-module _ (P : Program) (Q : Question) (L : List ℕ) (l : Lines) (t : Table) (few : l.count ≤ most) (e : l ≡ shown (rising L)) (f : Fills P Q (rising L) t) where
-  lines : listed l ≡ rising L
-  lines = ap listed e ∙ listed-shown (rising L)
+module _ (P : Program) (Q : Question) (L : List ℕ) (c : Choices) (d : Decided P Q L c) where
+  lines : listed c.lines ≡ rising L
+  lines = ap listed d.lines ∙ listed-shown (rising L)
 
-  pub answers-crowded : t.crowded ≡ true → Answers P Q L (refusal 15 0)
-  answers-crowded c = inl (f.crowded.0 c, refl)
+  pub advises-none : Soonest (size_at (listed c.lines) c.table.said) c.table.total None → Advises P Q L None
+  advises-none s = (none, none-cures P Q L c.table d.few d.filled (subst (λ (ys : List ℕ). Soonest (size_at ys c.table.said) c.table.total None) lines s), refl, tt)
 
-  module _ (n : ℕ) (c : t.crowded ≡ false) (s : Soonest (size_at (listed l) t.said) t.total n) where
-    short : length (rising L) ≤ most
-    short = omega (arith, few, ap (λ (k : Lines). k.count) e)
+  pub advises-some : (n : ℕ) → Soonest (size_at (listed c.lines) c.table.said) c.table.total (Some n) → (k : Lines) → k ≡ shown (numbered (listed c.lines) n) → Advises P Q L (Some k)
+  advises-some n s k q = (
+    some (numbered (rising L) n),
+    some-cures P Q L c.table d.few d.filled n (subst (λ (ys : List ℕ). Soonest (size_at ys c.table.said) c.table.total (Some n)) lines s),
+    ap Some (q ∙ ap (λ (ys : List ℕ). shown (numbered ys n)) lines),
+    (let few = d.few in omega (arith, numbered-few (rising L) n)),
+  )
 
-    found : Soonest (size_at (rising L) t.said) t.total n
-    found = subst (λ (xs : List ℕ). Soonest (size_at xs t.said) t.total n) lines s
+-- THE CALL, by what is decided of the choices
+module _ (L work work' : List ℕ) where
+  pub choice-sizes : (o : Outcome) (c : Choices) → strike.Leaves o L work (Ok c) work' → (c.lines.count ≤ most) × (c.table.total ≤ 1024)
+  choice-sizes (refused n l) c h = absurd h.0
+  choice-sizes (accepted D P Q) c h =
+      let few = h.0.few in
+      (omega (arith, ap (λ (k : Lines). k.count) h.0.lines), total-most (length (rising L)) c.table.total few h.0.filled.total)
 
-    pub answers-none : n ≡ t.total → Answers P Q L (told none)
-    answers-none z = inr ((λ h. clash (f.crowded.1 h) c), (none, none-cures P Q L t n short c f found z, refl))
+  pub tells : (o : Outcome) (c : Choices) (r : Option Lines) → strike.Leaves o L work (Ok c) work' → ((P : Program) (Q : Question) (L : List ℕ) → Decided P Q L c → Advises P Q L r) → Leaves o L work (Ok r) work'
+  tells (refused n l) c r h f = absurd h.0
+  tells (accepted D P Q) c r h f = (inr (h.0.filled.few, f P Q L h.0), h.1)
 
-    pub answers-some : (n ≡ t.total → ⊥) → (k : Lines) → k ≡ shown (numbered (listed l) n) → Answers P Q L (record { answer = Strike k.count; lines = k.lines })
-    answers-some z k q = inr (
-      (λ h. clash (f.crowded.1 h) c),
-      (
-        some (numbered (rising L) n),
-        some-cures P Q L t n short c f found z,
-        ap {B = Advice} (λ (j : Lines). record { answer = Strike j.count; lines = j.lines }) (q ∙ ap (λ (xs : List ℕ). shown (numbered xs n)) lines),
-      ),
-    )
+  pub refuses : (o : Outcome) (x : Refusal) → strike.Leaves o L work (Err x) work' → Leaves o L work (Err x) work'
+  refuses (refused n l) x h = h
+  refuses (accepted D P Q) x h = (inl (h.0.0, (h.0.1, h.0.2)), h.1)

@@ -1,63 +1,78 @@
 -- THE SCAN for the smallest choice, from the highest number down.
 use mathlib.Core.Path.{◌≡◌, refl, sym, subst}
-use mathlib.Core.Logic.{◌⊎◌, inl, inr, ⊎_elim, ◌≢◌}
+use mathlib.Core.Logic.{⊎_elim, ◌≢◌}
 use Prim.Native.Nat.{ℕ, suc, ◌-◌, ◌≤◌, ◌<◌}
 use native.Mathlib.Omega.{arith}
+use Rattle.std.specs.Prelude.{Option, Some, None}
 use Rattle.semantics.proofs.Tools.{same?}
 use Rattle.striking.specs.Striking.{most}
 use Rattle.cure.specs.Soonest.{Soonest}
 
--- the numbers from i on are scanned, and best has the least size of them, or none has a size up to ten
-pub record Scanned (size : ℕ → ℕ) (total i best least : ℕ) : Type 0 where
-  pub here : i ≤ best
+-- b has the size s, the least of the numbers from i on, and the least of the higher ones by more
+pub record Smallest (size : ℕ → ℕ) (total i b s : ℕ) : Type 0 where
+  pub here : i ≤ b
+  pub within : b < total
+  pub own : s ≡ size b
+  pub small : s ≤ most
+  pub strict : (k : ℕ) → k < total → b < k → s < size k
+
+-- best is that number, or none has a size up to ten
+abbrev pub Which : (ℕ → ℕ) → ℕ → ℕ → Option ℕ → ℕ → Type 0
+Which size total i None least = least ≡ suc most
+Which size total i (Some b) least = Smallest size total i b least
+
+-- the numbers from i on are scanned
+pub record Scanned (size : ℕ → ℕ) (total i : ℕ) (best : Option ℕ) (least : ℕ) : Type 0 where
   pub bound : (k : ℕ) → i ≤ k → k < total → least ≤ size k
-  pub strict : (k : ℕ) → k < total → best < k → least < size k
-  pub which : ((best ≡ total) × (least ≡ suc most)) ⊎ ((best < total) × (least ≡ size best) × (least ≤ most))
+  pub which : Which size total i best least
 
 module _ (size : ℕ → ℕ) (total : ℕ) where
-  pub scan-start : Scanned size total total total (suc most)
-  scan-start = record { here = omega arith; bound = λ k l h. absurd (omega (arith, l, h)); strict = λ k h l. absurd (omega (arith, l, h)); which = inl (refl, refl) }
+  pub scan-start : Scanned size total total None (suc most)
+  scan-start = record { bound = λ k l h. absurd (omega (arith, l, h)); which = refl }
 
-  module _ (i best least : ℕ) (l : i < total) (h : Scanned size total (suc i) best least) where
-    better : size i < least → Scanned size total i i (size i)
+  least-most : (i least : ℕ) (best : Option ℕ) → Which size total i best least → least ≤ suc most
+  least-most i least None w = omega (arith, w)
+  least-most i least (Some b) w = let s = w.small in omega arith
+
+  kept : (i least : ℕ) (best : Option ℕ) → Which size total (suc i) best least → Which size total i best least
+  kept i least None w = w
+  kept i least (Some b) w = record { here = (let h = w.here in omega arith); within = w.within; own = w.own; small = w.small; strict = w.strict }
+
+  module _ (i least : ℕ) (best : Option ℕ) (l : i < total) (h : Scanned size total (suc i) best least) where
+    better : size i < least → Scanned size total i (Some i) (size i)
     better s = record {
-      here = omega arith;
       bound = λ k a b. ⊎_elim (λ (q : k ≡ i). subst (λ (z : ℕ). size i ≤ size z) (sym q) (omega arith)) (λ (q : k ≢ i). omega (arith, s, h.bound k (omega (arith, a, q)) b)) (same? k i);
-      strict = λ k b a. omega (arith, s, h.bound k a b);
-      which = inr (l, refl, ⊎_elim (λ (w : (best ≡ total) × (least ≡ suc most)). omega (arith, w.1)) (λ (w : (best < total) × (least ≡ size best) × (least ≤ most)). omega (arith, w.2)) h.which);
+      which = record { here = omega arith; within = l; own = refl; small = omega (arith, s, least-most (suc i) least best h.which); strict = λ k b a. omega (arith, s, h.bound k a b) };
     }
 
     other : least ≤ size i → Scanned size total i best least
     other s = record {
-      here = omega (arith, h.here);
       bound = λ k a b. ⊎_elim (λ (q : k ≡ i). subst (λ (z : ℕ). least ≤ size z) (sym q) s) (λ (q : k ≢ i). h.bound k (omega (arith, a, q)) b) (same? k i);
-      strict = h.strict;
-      which = h.which;
+      which = kept i least best h.which;
     }
 
   -- one number more
-  module _ (i best least s : ℕ) (p : 0 < i) (l : i ≤ total) (h : Scanned size total i best least) (e : s ≡ size (i - 1)) where
+  module _ (i least s : ℕ) (best : Option ℕ) (p : 0 < i) (l : i ≤ total) (h : Scanned size total i best least) (e : s ≡ size (i - 1)) where
     before : Scanned size total (suc (i - 1)) best least
     before = subst (λ (k : ℕ). Scanned size total k best least) (let q : i ≡ suc (i - 1) = omega arith in q) h
 
-    pub scan-less : s < least → Scanned size total (i - 1) (i - 1) s
-    scan-less a = subst (λ (k : ℕ). Scanned size total (i - 1) (i - 1) k) (sym e) (better (i - 1) best least (omega arith) before (omega (arith, a, e)))
+    pub scan-less : s < least → Scanned size total (i - 1) (Some (i - 1)) s
+    scan-less a = subst (λ (k : ℕ). Scanned size total (i - 1) (Some (i - 1)) k) (sym e) (better (i - 1) least best (omega arith) before (omega (arith, a, e)))
 
     pub scan-other : least ≤ s → Scanned size total (i - 1) best least
-    scan-other a = other (i - 1) best least (omega arith) before (omega (arith, a, e))
+    scan-other a = other (i - 1) least best (omega arith) before (omega (arith, a, e))
 
-  scanned-all : (best least : ℕ) → Scanned size total 0 best least → Soonest size total best
-  scanned-all best least h = record {
-    which = ⊎_elim
-        (λ (w : (best ≡ total) × (least ≡ suc most)). inl (w.0, λ k l. omega (arith, w.1, h.bound k (omega arith) l)))
-        (λ (w : (best < total) × (least ≡ size best) × (least ≤ most)). inr (w.0, omega (arith, w.1, w.2))) h.which;
-    least = λ k l m. ⊎_elim
-        (λ (w : (best ≡ total) × (least ≡ suc most)). absurd (omega (arith, w.0, m)))
-        (λ (w : (best < total) × (least ≡ size best) × (least ≤ most)). omega (arith, w.1, h.bound k (omega arith) l)) h.which;
-    highest = λ k l m. ⊎_elim
-        (λ (w : (best ≡ total) × (least ≡ suc most)). absurd (omega (arith, w.0, m, l)))
-        (λ (w : (best < total) × (least ≡ size best) × (least ≤ most)). omega (arith, w.1, h.strict k l m)) h.which;
-  }
+  scanned-all : (best : Option ℕ) (least : ℕ) → Scanned size total 0 best least → Soonest size total best
+  scanned-all None least h = λ k l. omega (arith, h.which, h.bound k (omega arith) l)
+  scanned-all (Some b) least h =
+      let w = h.which in
+      let e = w.own in
+      record {
+        within = w.within;
+        small = (let s = w.small in omega arith);
+        least = λ k l. omega (arith, e, h.bound k (omega arith) l);
+        highest = λ k l m. omega (arith, e, w.strict k l m);
+      }
 
-  pub scan-end : (i best least : ℕ) → i ≡ 0 → Scanned size total i best least → Soonest size total best
-  scan-end i best least e h = scanned-all best least (subst (λ (k : ℕ). Scanned size total k best least) e h)
+  pub scan-end : (i least : ℕ) (best : Option ℕ) → i ≡ 0 → Scanned size total i best least → Soonest size total best
+  scan-end i least best e h = scanned-all best least (subst (λ (k : ℕ). Scanned size total k best least) e h)

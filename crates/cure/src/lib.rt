@@ -1,54 +1,21 @@
 // Which lines to strike: the cheapest cure of a text.
 #![tactic(auto)]
 
-ghost use Rattle.std.specs.Prelude.{◌≡◌, false, List, ℕ, ◌≤◌, length};
-ghost use Rattle.limits.specs.Limits as limit;
+ghost use Rattle.std.specs.Prelude.{◌≡◌, List, ℕ, ◌≤◌};
 ghost use Rattle.semantics.specs.Models.{Program, Question};
-ghost use Rattle.model.specs.Records.{program_of, question_of};
-ghost use Rattle.model.specs.WellFormed.{WellFormed};
-ghost use Rattle.calls.specs.Wiping.{wiped};
-ghost use Rattle.striking.specs.Striking.{most, faulty, rising};
-ghost use Rattle.strike_list.specs.Lists.{shown, listed};
-ghost use Rattle.strike_table.specs.Tables.{Fills};
-ghost use Rattle.cure.specs.Curing.{refusal, Answers, Cures};
+ghost use Rattle.striking.specs.Striking.{most};
+ghost use Rattle.strike_list.specs.Lists.{listed};
+ghost use Rattle.strike_calls.specs.Choices.{Decided};
+ghost use Rattle.cure.specs.Curing.{Advises, Cures};
 ghost use Rattle.cure.specs.Soonest.{size_of, size_at, Soonest};
 
-use calls::TOO_MANY;
-use limits::WORK;
-use model::Model;
+use rows::Refusal;
+use strike_calls::Choices;
 use strike_list::{Lines, MOST};
 use strike_table::{REACHED, Table};
-use text::Acceptance;
 
-// The number of the refusal of the list.
-const LIST: u32 = 19;
-
-// How many lines to strike, that no choice does, or a refusal with its number and line.
-#[derive(Clone, Copy)]
-pub enum Answer {
-    Strike { count: usize },
-    NoChoice,
-    Refused { number: u32, line: u32 },
-}
-
-// An answer, and the lines to strike by rising number; the numbers behind them are zero, and all are beside any other answer.
-#[derive(Clone, Copy)]
-pub struct Advice {
-    pub answer: Answer,
-    pub lines: [u32; MOST],
-}
-
-// A refusal, with no lines beside it.
-fn refuse(number: u32, line: u32) -> Advice
-    ensures { result ≡ refusal number line }
-{
-    Advice {
-        answer: Answer::Refused { number, line },
-        lines: [0u32; MOST],
-    }
-}
-
-// How many lines the choice strikes, or eleven if it is reached.
+// How many lines the choice strikes; a reached one counts as eleven, more than any strikes.
+// Eleven stays for a reached choice: sizes are compared, and an Option would need a case more for that.
 fn size(l: Lines, v: u8, n: u32) -> usize
     requires { l.count ≤ most }
     ensures { result ≡ size_of (listed l) v n }
@@ -60,73 +27,36 @@ fn size(l: Lines, v: u8, n: u32) -> usize
     }
 }
 
-// The number of the smallest unreached choice, the highest of equally small ones; or how many choices there are, if each is reached.
-fn soonest(l: Lines, t: Table) -> usize
+// The number of the smallest unreached choice, the highest of equally small ones.
+fn soonest(l: Lines, t: Table) -> Option<usize>
     requires { (l.count ≤ most) × (t.total ≤ 1024) }
     ensures { Soonest (size_at (listed l) t.said) t.total result }
 {
-    let mut best = t.total;
+    let mut best = None;
     let mut least = MOST + 1;
     for i in (0..t.total).rev() {
         let s = size(l, t.said[i], i as u32);
         if s < least {
-            best = i;
+            best = Some(i);
             least = s;
         }
     }
     best
 }
 
-// The answer by the table of choices.
-fn conclude(l: Lines, t: Table) -> Advice
-    requires { (l.count ≤ most) × (t.total ≤ 1024) }
-    ensures { (P : Program) (Q : Question) (L : List ℕ) → l ≡ shown (rising L) → Fills P Q (rising L) t → Answers P Q L result }
+// The lines of the smallest unreached choice.
+fn conclude(c: Choices) -> Option<Lines>
+    requires { (c.lines.count ≤ most) × (c.table.total ≤ 1024) }
+    ensures { (P : Program) (Q : Question) (L : List ℕ) → Decided P Q L c → Advises P Q L result }
 {
-    if t.crowded {
-        return refuse(TOO_MANY, 0);
-    }
-    let n = soonest(l, t);
-    if n == t.total {
-        return Advice {
-            answer: Answer::NoChoice,
-            lines: [0u32; MOST],
-        };
-    }
-    let c = strike_list::choose(l, n as u32);
-    let lines = c.lines;
-    Advice {
-        answer: Answer::Strike { count: c.count },
-        lines,
-    }
+    let n = soonest(c.lines, c.table)?;
+    Some(strike_list::choose(c.lines, n as u32))
 }
 
-// Decides every choice of a good list, and leaves the work bytes zero.
-fn judge(m: Model, list: &[u32], work: &mut [u8]) -> Advice
-    requires { WellFormed m × (faulty (program_of m) list.now ≡ false) × (limit.work ≤ length work.old) }
-    ensures { Answers (program_of m) (question_of m) list.now result × (work.new ≡ wiped work.old) }
-{
-    let l = strike_list::rising(m, list);
-    let t = strike_table::fill(m, l);
-    calls::wipe(work);
-    conclude(l, t)
-}
-
-// Reads a text and a list of lines, and finds the fewest of them to strike; a refusal of the text or of the list leaves the work area as it is.
-pub fn cure(text: &[u8], list: &[u32], work: &mut [u8]) -> Advice
+// Reads a text and a list of lines, and finds the fewest of them to strike, if a choice of them does; a refusal of the text or of the list leaves the work area as it is.
+pub fn cure(text: &[u8], list: &[u32], work: &mut [u8]) -> Result<Option<Lines>, Refusal>
     ensures { Cures text.now list.now work.old result work.new }
 {
-    let row = calls::early(text.len(), work.len() < WORK, false);
-    if row != 0 {
-        return refuse(row, 0);
-    }
-    let reading = text::read(text);
-    let acceptance = reading.answer;
-    if let Acceptance::Refused { number, line } = acceptance {
-        return refuse(number, line);
-    }
-    let m = reading.model;
-    if strike_list::faulty(m, list) {
-        return refuse(LIST, 0);
-    }
-    judge(m, list, work)
+    let choices = strike_calls::decide(text, list, work)?;
+    Ok(conclude(choices))
 }

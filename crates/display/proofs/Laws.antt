@@ -7,6 +7,7 @@ use native.Mathlib.Omega.{arith}
 use lib.ListN.{length, drop, get_or, length-append, length-drop}
 use lib.Seq.{slice, get_or-take, take_at}
 use Rattle.limits.specs.Limits as limit
+use Rattle.model.specs.declared.Model.{Model}
 use Rattle.grammar.specs.Bytes.{Word}
 use Rattle.grammar.specs.Forms.{Literal, print_literal}
 use Rattle.grammar.specs.Shapes.{◌>>=◌, literal}
@@ -14,10 +15,8 @@ use Rattle.grammar.specs.Declarations.{Declared, extend, variables}
 use Rattle.grammar.specs.Texts.{outcome}
 use Rattle.acceptance.specs.Represents.{codes_of}
 use Rattle.text_scan.proofs.Laws.{slice-part}
-use Rattle.text.specs.declared.Acceptance.TheVariants.{Accepted, Refused}
-use Rattle.text.specs.declared.Reading.{Reading}
-use Rattle.text.specs.Reading.{Reads}
-use Rattle.text.proofs.Laws.{is-accepted, is-refused, read-represents, read_names, read-well-formed}
+use Rattle.text.specs.Reading.{Accepts}
+use Rattle.text.proofs.Laws.{read-well-formed}
 use Rattle.display_shapes.specs.Rows.{pick, Stands, Picked, Shown, Shows}
 use Rattle.display_shapes.proofs.Rows.{pick-in, pick_out}
 use Rattle.display_shapes.specs.declared.Span.{Span}
@@ -38,29 +37,26 @@ code_in [] i h = absurd (omega arith)
 code_in (d ∷ D) zero h = refl
 code_in (d ∷ D) (suc i) h = code_in D i (omega arith)
 
--- DECLARED RELATIONS
-module _ (text : List ℕ) (r : Reading) (h : Reads (outcome text) text r) (i : ℕ) where
-  pub no_text : (n l : ℕ) → r.answer ≡ Refused n l → FindsRelation text (relation_at (outcome text) i) None
-  no_text n l e = rw (is-refused text r (outcome text) n l h e) tt
+-- DECLARED RELATIONS of an accepted text, whose record is m
+module _ (text : List ℕ) (m : Model) (a : Accepts (outcome text) text m) (i : ℕ) where
+  pub no-relation : m.relations.count ≤ i → FindsRelation text (relation_at (outcome text) i) None
+  no-relation l =
+      let D = a.declared in
+      let r = a.represents in
+      rw (a.says, pick_out D i (let c = r.declared in omega arith)) tt
 
-  pub no-relation : r.answer ≡ Accepted → r.model.relations.count ≤ i → FindsRelation text (relation_at (outcome text) i) None
-  no-relation e l =
-      let (D, P, Q, o) = is-accepted text r (outcome text) h e in
-      let m = read-represents text D P Q r o h in
-      rw (o, pick_out D i (let c = m.declared in omega arith)) tt
+  pub few-relations : m.relations.count ≤ limit.declared
+  few-relations = (read-well-formed text m a).relations.count
 
-  pub few-relations : r.answer ≡ Accepted → r.model.relations.count ≤ limit.declared
-  few-relations e = let (D, P, Q, o) = is-accepted text r (outcome text) h e in (read-well-formed text D P Q r o h).relations.count
-
-  pub declared-relation : r.answer ≡ Accepted → i < r.model.relations.count → (d : Declaration) → d.from ≡ get_or r.model.names i 0 → d.size ≡ get_or r.model.lengths i 0 → d.code ≡ get_or r.model.relations.codes i 0
+  pub declared-relation : i < m.relations.count → (d : Declaration) → d.from ≡ get_or m.names i 0 → d.size ≡ get_or m.lengths i 0 → d.code ≡ get_or m.relations.codes i 0
       → FindsRelation text (relation_at (outcome text) i) (Some d)
-  declared-relation e l d a b c =
-      let (D, P, Q, o) = is-accepted text r (outcome text) h e in
-      let m = read-represents text D P Q r o h in
-      let names = read_names text D P Q r o h in
-      let k : i < length D = (let c = m.declared in omega arith) in
-      let code : get_or r.model.relations.codes i 0 ≡ (get_or D i ([], 0)).1 = sym (get_or-take r.model.relations.count r.model.relations.codes i 0 l) ∙ (ap (λ (cs : List ℕ). get_or cs i 0) m.relations ∙ code_in D i k) in
-      rw (o, pick-in D i ([], 0) k) (rw (a, b) (names.within i k), rw (a, b) (names.name i k), c ∙ code)
+  declared-relation l d f z c =
+      let D = a.declared in
+      let r = a.represents in
+      let names = a.names in
+      let k : i < length D = (let c = r.declared in omega arith) in
+      let code : get_or m.relations.codes i 0 ≡ (get_or D i ([], 0)).1 = sym (get_or-take m.relations.count m.relations.codes i 0 l) ∙ (ap (λ (cs : List ℕ). get_or cs i 0) r.relations ∙ code_in D i k) in
+      rw (a.says, pick-in D i ([], 0) k) (rw (f, z) (names.within i k), rw (f, z) (names.name i k), c ∙ code)
 
 -- LITERALS
 slice_of : (text : List ℕ) (a e : ℕ) (w : List ℕ) → a ≤ e → e ≤ length text → drop a text ≡ w ++ drop e text → slice a e text ≡ w

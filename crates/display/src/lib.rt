@@ -11,7 +11,6 @@ use display_parts::locate;
 use display_shapes::{Literal, Span, item_at};
 use display_variables::variable_of;
 use model::Model;
-use text::Acceptance;
 
 // A declared relation: its name begins at byte `from` of the text and has `size` bytes.
 #[derive(Clone, Copy)]
@@ -37,17 +36,20 @@ fn recorded(m: &Model, i: usize) -> Declaration
 fn relation_in(text: &[u8], i: usize) -> Option<Declaration>
     ensures { FindsRelation text.now (relation_at (outcome text.now) i) result }
 {
-    let reading = text::read(text);
-    if let Acceptance::Refused { .. } = reading.answer {
-        return None;
+    match text::read(text) {
+        Ok(m) => {
+            if i < m.relations.count {
+                Some(recorded(&m, i))
+            } else {
+                None
+            }
+        }
+        Err(_) => None,
     }
-    if i < reading.model.relations.count {
-        return Some(recorded(&reading.model, i));
-    }
-    None
 }
 
 // Declared relation i of an accepted text, from 0; all 0 where there is none.
+// All 0 stays for none: `codes` makes of these numbers the word that C reads, which is 0 for none.
 pub fn relation(text: &[u8], i: usize) -> Declaration
     ensures { ShowsRelation text.now (relation_at (outcome text.now) i) result }
 {
@@ -59,6 +61,7 @@ pub fn relation(text: &[u8], i: usize) -> Declaration
 }
 
 // What is shown of something found: its span, or 0 and 0.
+// 0 and 0 stay for none: `codes` makes of them the word that C reads, which is 0 for none.
 fn shown(found: Option<Span>) -> Span
     ensures { result ≡ span_of found }
 {
@@ -74,6 +77,7 @@ fn literal_in(line: &[u8], n: usize, k: usize) -> Option<Span>
 }
 
 // Literal k, from 0, of a line's clause, which is part 0, or of stage n of an `ask` line, from 1; 0 and 0 where there is none.
+// 0 and 0 stay for none: `codes` makes of them the word that C reads, which is 0 for none.
 pub fn literal(line: &[u8], n: usize, k: usize) -> Span
     ensures { Shows line.now (literal_at line.now n k) result }
 {
@@ -89,6 +93,7 @@ fn variable_in(line: &[u8], n: usize, j: usize) -> Option<Span>
 }
 
 // Variable j, from 0, of that part in order of first appearance, those of a clause's head first; 0 and 0 where there is none.
+// 0 and 0 stay for none: `codes` makes of them the word that C reads, which is 0 for none.
 pub fn variable(line: &[u8], n: usize, j: usize) -> Span
     ensures { Shows line.now (variable_at line.now n j) result }
 {

@@ -19,26 +19,17 @@ use Rattle.text_scan.specs.Found.{NameEnd}
 use Rattle.text_scan.proofs.Laws.{next}
 use Rattle.std.specs.Prelude as std
 use Rattle.std.specs.Prelude.{Some, None}
-use Rattle.display_shapes.specs.Ends.{EndsAt, Ends}
+use Rattle.display_shapes.specs.Ends.{after_space, EndsAt}
 use Rattle.display_shapes.proofs.Rows.{same_read, some-none}
 use Rattle.display_shapes.specs.Rows.{pick, Row, Stands}
 use Rattle.display_shapes.specs.declared.Span.{Span}
 use Rattle.display_parts.specs.Parts as parts
 use Rattle.display_parts.specs.Parts.{part_in, part_of}
 use Rattle.display_parts.specs.Closes.{Closes}
-use Rattle.display_parts.specs.Placed.{Placed, Gives, spaced_list}
+use Rattle.display_parts.specs.Placed.{Placed, Gives}
 use Rattle.display_parts.specs.declared.Part.{Part}
 use Rattle.display_parts.proofs.Inverse.{found, after-inverse}
 use Rattle.display_parts.proofs.Words.{words, words-between, atom-words, body-words, stage-words, rest-row, bracket-row}
-
--- A SPACE AND A LIST
-module _ (s : List ℕ) (at : ℕ) where
-  pub spaced-missing : after (bytes " ") (drop at s) ≡ none → spaced_list (drop at s) ≡ none
-  spaced-missing h = rw h
-
-  pub spaced-found : after (bytes " ") (drop at s) ≡ some (drop (at + 1) s) → (e : std.Option ℕ) → Ends list s (at + 1) e → Ends spaced_list s at e
-  spaced-found h None v = rw h v
-  spaced-found h (Some e) v = record { value = v.value; begins = omega (arith, v.begins); ends = v.ends; found = rw h v.found }
 
 -- WHAT IS GIVEN
 pub gives_none : (s : List ℕ) (o : Option parts.Part) → o ≡ none → Gives s o None
@@ -240,11 +231,11 @@ module _ (s : List ℕ) (l : 5 ≤ length s) (h : after (bytes "(new ") s ≡ so
         (clause-placed s b b (length s) 8 [] q v.ends v.ends (omega arith) r (rw (at_end s) (body-words 8 (drop b s) r)))
 
 -- `next` LINES
-spaced-list : (t : List ℕ) {A : Type 0} (f : List Word × List ℕ → Read A) → (after (bytes " ") t >>= λ u. list u >>= f) ≡ (spaced_list t >>= f)
+spaced-list : (t : List ℕ) {A : Type 0} (f : List Word × List ℕ → Read A) → (after (bytes " ") t >>= λ u. list u >>= f) ≡ (after_space list t >>= f)
 spaced-list t f = ⊎_elim (λ q. rw q) (λ (u, q). rw q) (found (after (bytes " ") t))
 
 abbrev next_tail : Word → List ℕ → Read Form
-next_tail x t = spaced_list t >>= λ p. spaced_list p.1 >>= λ m. body m.1 >>= λ q. some (next_form x p.0 m.0 q.0, q.1)
+next_tail x t = after_space list t >>= λ p. after_space list p.1 >>= λ m. body m.1 >>= λ q. some (next_form x p.0 m.0 q.0, q.1)
 
 next-tail : (x : Word) (t : List ℕ)
     → (after (bytes " ") t >>= λ u. list u >>= λ p. after (bytes " ") p.1 >>= λ z. list z >>= λ m. body m.1 >>= λ q. some (next_form x p.0 m.0 q.0, q.1)) ≡ next_tail x t
@@ -263,16 +254,16 @@ module _ (s : List ℕ) (l : 6 ≤ length s) (h : after (bytes "(next ") s ≡ s
     unfolding next_rest
     next-rest = rw v.read (next-tail (slice 6 x s) (drop x s))
 
-    pub next-listless : spaced_list (drop x s) ≡ none → part_of s 0 ≡ none
+    pub next-listless : after_space list (drop x s) ≡ none → part_of s 0 ≡ none
     unfolding part_of
     next-listless k = rw (next-form s h, next-rest, k)
 
-    module _ {i : ℕ} (pl : EndsAt spaced_list s x i) where
-      pub next-half : spaced_list (drop i s) ≡ none → part_of s 0 ≡ none
+    module _ {i : ℕ} (pl : EndsAt (after_space list) s x i) where
+      pub next-half : after_space list (drop i s) ≡ none → part_of s 0 ≡ none
       unfolding part_of
       next-half k = rw (next-form s h, next-rest, pl.found, k)
 
-      module _ {b : ℕ} (mi : EndsAt spaced_list s i b) where
+      module _ {b : ℕ} (mi : EndsAt (after_space list) s i b) where
         pub next-unended : Closes (rest literal 8) s b false → part_of s 0 ≡ none
         unfolding part_of body
         next-unended k = rw (next-form s h, next-rest, pl.found, mi.found, not-to-end (rest literal 8) s b k (next_form (slice 6 x s) pl.value mi.value))

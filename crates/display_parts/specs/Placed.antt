@@ -3,9 +3,9 @@ use Rattle.std.specs.Prelude as std
 use Rattle.std.specs.Prelude.{◌≡◌, Some, None, cond, List, [], ◌∷◌, ◌++◌, ℕ, zero, suc, ◌-◌, ◌≤◌, ◌<◌, eqb, length, drop}
 use Rattle.std.proofs.Math.Option.{Option, none, some}
 use Rattle.std.proofs.Math.Seq.{slice}
-use Rattle.grammar.specs.Bytes.{bytes, Word}
+use Rattle.grammar.specs.Bytes.{Word}
 use Rattle.grammar.specs.Forms.{Literal}
-use Rattle.grammar.specs.Shapes.{Read, ◌>>=◌, after, name, literal, list}
+use Rattle.grammar.specs.Shapes.{Read, name, literal}
 use Rattle.grammar.specs.Declarations.{variables}
 use Rattle.display_shapes.specs.Rows.{Row}
 use Rattle.display_parts.specs.Parts as parts
@@ -55,7 +55,3 @@ Gives line none None = Unit {0}
 Gives line none (Some p) = ⊥
 Gives line (some q) None = ⊥
 Gives line (some q) (Some p) = Placed line p q.0 q.1
-
--- a list after a space
-abbrev pub spaced_list : List ℕ → Read (List Word)
-spaced_list s = after (bytes " ") s >>= list

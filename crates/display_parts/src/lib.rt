@@ -5,14 +5,13 @@ ghost use Rattle.std.specs.Prelude.{◌≡◌, ◌≤◌, length, drop};
 ghost use Rattle.std.proofs.Math.Option.{some};
 ghost use Rattle.grammar.specs.Bytes.{bytes};
 ghost use Rattle.grammar.specs.Shapes.{after, rest};
-ghost use Rattle.display_shapes.specs.Ends.{Ends};
 ghost use Rattle.display_parts.specs.Parts.{part_of};
 ghost use Rattle.display_parts.specs.Closes.{Closes};
-ghost use Rattle.display_parts.specs.Placed.{Gives, spaced_list};
+ghost use Rattle.display_parts.specs.Placed.{Gives};
 
-use display_shapes::{Item, Literal, Span, Stage, atom_end, item_at, items_end, list_end};
+use display_shapes::{Item, Literal, Names, Span, Stage, atom_end, item_at, items_end, spaced_end};
 use limits::{BODY, STAGES};
-use text_scan::{at_byte, at_bytes};
+use text_scan::at_bytes;
 
 // The stages of a question behind its first.
 const FURTHER: usize = STAGES - 1;
@@ -26,18 +25,8 @@ pub struct Part {
     pub end: usize,
 }
 
-// Where a space and a list end.
-fn spaced_list_end(line: &[u8], at: usize) -> Option<usize>
-    ensures { Ends spaced_list line.now at result }
-{
-    if at_byte(line, at, b' ') {
-        list_end(line, at + 1)
-    } else {
-        None
-    }
-}
-
 // Whether the line ends with at most n items, each after a space, and the closing bracket.
+// The line and a place stay two parameters: a part has places of the whole line.
 fn closes<T: Item>(line: &[u8], at: usize, n: usize) -> bool
     requires { at ≤ length line.now }
     ensures { Closes (rest T.read n) line.now at result }
@@ -70,7 +59,7 @@ fn new_part(line: &[u8]) -> Option<Part>
     requires { (5 ≤ length line.now) × (after (bytes "(new ") line.now ≡ some (drop 5 line.now)) }
     ensures { Gives line.now (part_of line.now 0) result }
 {
-    let l = list_end(line, 5)?;
+    let l = Names::end(line, 5)?;
     if !closes::<Literal>(line, l, BODY) {
         return None;
     }
@@ -88,8 +77,8 @@ fn next_part(line: &[u8]) -> Option<Part>
     ensures { Gives line.now (part_of line.now 0) result }
 {
     let x = text_scan::name_end(line, 6)?;
-    let p = spaced_list_end(line, x)?;
-    let b = spaced_list_end(line, p)?;
+    let p = spaced_end::<Names>(line, x)?;
+    let b = spaced_end::<Names>(line, p)?;
     if !closes::<Literal>(line, b, BODY) {
         return None;
     }
@@ -102,6 +91,7 @@ fn next_part(line: &[u8]) -> Option<Part>
 }
 
 // The clause of a line.
+// The three tests stay: each reader asks for a first word of its own, so that a table of functions could not hold all three.
 fn clause_part(line: &[u8]) -> Option<Part>
     ensures { Gives line.now (part_of line.now 0) result }
 {

@@ -11,7 +11,7 @@ use Rattle.grammar.specs.Forms.{plain, negated}
 use Rattle.grammar.specs.Shapes.{Read, after, name, rest, bracket, atom, literal, list, stage}
 use Rattle.grammar.proofs.Reading.{Reading, reading-start, reading-more, reading-closed, reading-full, reading-ends, reading-fails}
 use Rattle.text_scan.specs.Found.{NameEnd}
-use Rattle.display_shapes.specs.Ends.{EndsAt, Ends}
+use Rattle.display_shapes.specs.Ends.{after_space, EndsAt, Ends}
 use Rattle.std.specs.Prelude as std
 use Rattle.std.specs.Prelude.{Some, None}
 use lib.Seq.{slice}
@@ -22,6 +22,15 @@ ends_some {x} a b h = record { value = x; begins = a; ends = b; found = h }
 -- a name
 pub ends-name : {text : List ℕ} {at e : ℕ} → NameEnd text at e → EndsAt name text at e
 ends-name h = ends_some h.begins h.ends h.read
+
+-- AFTER A SPACE
+module _ {A : Type 0} (read : List ℕ → Read A) (text : List ℕ) (at : ℕ) where
+  pub space-missing : after (bytes " ") (drop at text) ≡ none → after_space read (drop at text) ≡ none
+  space-missing h = rw h
+
+  pub space-found : after (bytes " ") (drop at text) ≡ some (drop (at + 1) text) → (e : std.Option ℕ) → Ends read text (at + 1) e → Ends (after_space read) text at e
+  space-found h None v = rw h v
+  space-found h (Some e) v = ends_some {x = v.value} (omega (arith, v.begins)) v.ends (rw h v.found)
 
 -- ITEMS, one after the other
 pub record Going {A : Type 0} (item : List ℕ → Read A) (text : List ℕ) (at n i k : ℕ) : Type 0 where

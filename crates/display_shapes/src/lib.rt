@@ -5,7 +5,7 @@ ghost use Rattle.std.specs.Prelude.{◌≤◌, length, List, ℕ};
 ghost use Rattle.grammar.specs.Bytes.{Word};
 ghost use Rattle.grammar.specs.Forms as form;
 ghost use Rattle.grammar.specs.Shapes.{Read, name, rest, atom, literal, list, stage};
-ghost use Rattle.display_shapes.specs.Ends.{Ends};
+ghost use Rattle.display_shapes.specs.Ends.{Ends, after_space};
 ghost use Rattle.display_shapes.specs.Rows.{Behind, Picked};
 
 use limits::{BODY, LIST};
@@ -31,6 +31,7 @@ pub trait Item {
     ghost read: { List ℕ → Read Value };
 
     // Where the item that is next ends.
+    // The line and a place stay two parameters: the place where an item ends in the whole line is the answer.
     fn end(text: &[u8], at: usize) -> Option<usize>
         requires { at ≤ length text.now }
         ensures { Ends read text.now at result };
@@ -45,6 +46,25 @@ impl Item for Name {
 
     fn end(text: &[u8], at: usize) -> Option<usize> {
         text_scan::name_end(text, at)
+    }
+}
+
+pub struct Names;
+
+impl Item for Names {
+    ghost Value = { List Word };
+
+    ghost read = { list };
+
+    fn end(text: &[u8], at: usize) -> Option<usize> {
+        if at_bytes(text, at, b"()") {
+            return Some(at + 2);
+        }
+        if !at_byte(text, at, b'(') {
+            return None;
+        }
+        let e = text_scan::name_end(text, at + 1)?;
+        items_end::<Name>(text, e, NAMES)
     }
 }
 
@@ -86,7 +106,20 @@ impl Item for Stage {
     }
 }
 
+// Where a space and the item behind it end.
+// The line and a place stay two parameters, as at `Item::end`.
+pub fn spaced_end<T: Item>(text: &[u8], at: usize) -> Option<usize>
+    ensures { Ends (after_space T.read) text.now at result }
+{
+    if at_byte(text, at, b' ') {
+        T::end(text, at + 1)
+    } else {
+        None
+    }
+}
+
 // Where at most n items, each after a space, end with the closing bracket.
+// The line and a place stay two parameters, as at `Item::end`.
 pub fn items_end<T: Item>(text: &[u8], at: usize, n: usize) -> Option<usize>
     requires { at ≤ length text.now }
     ensures { Ends (rest T.read n) text.now at result }
@@ -108,22 +141,8 @@ pub fn items_end<T: Item>(text: &[u8], at: usize, n: usize) -> Option<usize>
     }
 }
 
-// Where the list that is next ends.
-pub fn list_end(text: &[u8], at: usize) -> Option<usize>
-    requires { at ≤ length text.now }
-    ensures { Ends list text.now at result }
-{
-    if at_bytes(text, at, b"()") {
-        return Some(at + 2);
-    }
-    if !at_byte(text, at, b'(') {
-        return None;
-    }
-    let e = text_scan::name_end(text, at + 1)?;
-    items_end::<Name>(text, e, NAMES)
-}
-
 // Where the atom that is next ends.
+// The line and a place stay two parameters, as at `Item::end`.
 pub fn atom_end(text: &[u8], at: usize) -> Option<usize>
     requires { at ≤ length text.now }
     ensures { Ends atom text.now at result }
@@ -136,6 +155,7 @@ pub fn atom_end(text: &[u8], at: usize) -> Option<usize>
 }
 
 // The item behind byte i, unless that closes the row.
+// The line and a place stay two parameters: the span has places of the whole line.
 fn item_behind<T: Item>(text: &[u8], i: usize) -> Option<Span>
     requires { i ≤ length text.now }
     ensures { Behind T.read text.now i result }
@@ -151,6 +171,7 @@ fn item_behind<T: Item>(text: &[u8], i: usize) -> Option<Span>
 }
 
 // Item k of the row of them that is next.
+// The line and a place stay two parameters: the span has places of the whole line.
 pub fn item_at<T: Item>(text: &[u8], at: usize, k: usize) -> Option<Span>
     requires { at ≤ length text.now }
     ensures { Picked T.read text.now at k result }

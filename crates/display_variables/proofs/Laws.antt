@@ -7,42 +7,66 @@ use mathlib.Core.Option.{none, some}
 use Prim.Native.Nat.{ℕ, zero, suc, ◌+◌, ◌-◌, ◌≤◌, ◌<◌}
 use native.Mathlib.Omega.{arith}
 use lib.Dec.{eqb}
-use lib.ListN.{length, take, drop, get_or, length-append}
-use lib.Seq.{slice, drop-drop}
-use borrow.Author.Tests.{eqb-true, eq-eqb, ne_eqb}
-use Rattle.grammar.specs.Bytes.{bytes, Word, same}
-use Rattle.grammar.specs.Shapes.{after, name}
+use lib.ListN.{length, take, drop, get_or, length-append, length-drop}
+use lib.Seq.{slice, drop-drop, take-append_seam}
+use borrow.Author.Tests.{eqb-true}
+use Rattle.grammar.specs.Bytes.{Word, same, is_name}
+use Rattle.grammar.specs.Shapes.{word, name}
 use Rattle.grammar.specs.Declarations.{member, extend}
 use Rattle.grammar.proofs.Tests.{either}
 use Rattle.grammar.proofs.Words.{same-eq, member-append, extend-append}
-use Rattle.text_scan.specs.Found.{NameEnd}
 use Rattle.text_scan.proofs.Laws.{next, slice-part}
 use Rattle.std.specs.Prelude as std
-use Rattle.std.specs.Prelude.{Some, None, MatchOption}
+use Rattle.std.specs.Prelude.{Some, None}
 use Rattle.display_shapes.specs.declared.Span.{Span}
 use Rattle.display_shapes.specs.Rows.{pick, Shown}
 use Rattle.display_parts.specs.Placed.{behind, spaced, leading, heading, Heads}
 use Rattle.display_parts.specs.declared.Part.{Part}
+use Rattle.display_shapes.specs.Ends.{after_space, EndsAt}
 use Rattle.display_shapes.proofs.Rows.{some-none, pick_out}
+use Rattle.display_parts.proofs.Inverse.{name-inverse, name-joined}
 use Rattle.display_variables.specs.Order.{behind_at, before, Within, BehindEnd, IsStale, FreshEnd}
+
+-- A NAME THAT IS READ has a letter, and stands at the front
+name-long : (w : Word) → is_name w ≡ true → 0 < length w
+unfolding is_name
+name-long [] h = absurd (let z : ◌≡◌ {A = ℕ} 0 1 = cc in omega arith)
+name-long (b ∷ w) h = omega arith
+
+name-front : (s : List ℕ) {w t : List ℕ} → name s ≡ some (w, t) → (0 < length w) × (s ≡ w ++ t)
+unfolding name
+name-front s {w} {t} e = (
+  ⊎_elim
+      (λ (q : is_name (word s) ≡ true). let (p, r) = name-inverse s e in rw p (name-long (word s) q))
+      (λ (q : is_name (word s) ≡ false). some-none e (rw q)) (either (is_name (word s))),
+  name-joined s e,
+)
+
+name-slice : (line : List ℕ) (a e : ℕ) {w : List ℕ} → a ≤ e → e ≤ length line → name (drop a line) ≡ some (w, drop e line) → (a < e) × (w ≡ slice a e line)
+name-slice line a e {w} h k n =
+    let (p, r) = name-front (drop a line) n in
+    let c : length w ≡ e - a = (let d = ap length r in omega (arith, d, length-append w (drop e line), length-drop a line, length-drop e line)) in
+    (omega (arith, p, c), sym (slice-part line a e h ∙ rw (r, ← c) (take-append_seam w (drop e line))))
 
 -- THE NAME BEHIND A BYTE
 module _ (line : List ℕ) (i : ℕ) (l : i < length line) where
-  space : {t : List ℕ} → after (bytes " ") (drop i line) ≡ some t → eqb (get_or line i 0) 32 ≡ true
-  space h = ⊎_elim
-      (λ (q : eqb 32 (get_or line i 0) ≡ true). eq-eqb (get_or line i 0) 32 (sym (eqb-true 32 (get_or line i 0) q)))
-      (λ (q : eqb 32 (get_or line i 0) ≡ false). some-none h (rw (next line i l, q))) (either (eqb 32 (get_or line i 0)))
-
-  pub behind-found : {t : List ℕ} → after (bytes " ") (drop i line) ≡ some t → (e : std.Option ℕ) → MatchOption e (name (drop (i + 1) line) ≡ none) (NameEnd line (i + 1)) → MatchOption e (behind_at line i ≡ []) (BehindEnd line i)
+  pub behind_none : after_space name (drop i line) ≡ none → behind_at line i ≡ []
   unfolding behind_at
-  behind-found h None v = rw (space h, v)
-  behind-found h (Some e) v = record { begins = v.begins; ends = v.ends; read = rw (space h, v.read) }
+  behind_none h = ⊎_elim
+      (λ (q : eqb (get_or line i 0) 32 ≡ true).
+      let z : name (drop (i + 1) line) ≡ none = rw (next line i l, eqb-true (get_or line i 0) 32 q) at h in
+      rw (q, z))
+      (λ (q : eqb (get_or line i 0) 32 ≡ false). rw q) (either (eqb (get_or line i 0) 32))
 
-  pub behind-other : after (bytes " ") (drop i line) ≡ none → behind_at line i ≡ []
+  pub behind-found : {e : ℕ} → EndsAt (after_space name) line i e → BehindEnd line i e
   unfolding behind_at
-  behind-other h =
-      let z : eqb (get_or line i 0) 32 ≡ false = ne_eqb (get_or line i 0) 32 (λ e. some-none {o = after (bytes " ") (drop i line)} {x = drop (i + 1) line} (rw (next line i l, e)) h) in
-      rw z
+  behind-found {e} v = ⊎_elim
+      (λ (q : eqb 32 (get_or line i 0) ≡ true).
+      let b = eqb-true 32 (get_or line i 0) q in
+      let z : name (drop (i + 1) line) ≡ some (v.value, drop e line) = (let f = v.found in rw (next line i l, q) at f) in
+      let (p, w) = name-slice line (i + 1) e (omega (arith, v.begins)) v.ends z in
+      record { begins = p; ends = v.ends; read = rw (← b, z, w) })
+      (λ (q : eqb 32 (get_or line i 0) ≡ false). some-none v.found (rw (next line i l, q))) (either (eqb 32 (get_or line i 0)))
 
 -- a word among one
 member-one : (x y : Word) → member x (y ∷ []) ≡ same x y

@@ -5,30 +5,18 @@ ghost use Rattle.std.specs.Prelude.{◌≡◌, [], ◌-◌, ◌≤◌, ◌<◌, 
 ghost use Rattle.grammar.specs.Declarations.{member, extend};
 ghost use Rattle.display_shapes.specs.Rows.{pick, Shown};
 ghost use Rattle.display_parts.specs.Placed.{spaced, heading, Heads};
-ghost use Rattle.display_variables.specs.Order.{behind_at, before, Within, BehindEnd, IsStale, FreshEnd};
+ghost use Rattle.display_variables.specs.Order.{behind_at, before, Within, IsStale, FreshEnd};
 
 use display_parts::Part;
-use display_shapes::Span;
-use text_scan::{at_byte, name_end, same_words};
-
-// Where the name behind byte i ends, if that byte is a space.
-fn behind_end(line: &[u8], i: usize) -> Option<usize>
-    requires { i < length line.now }
-    ensures { MatchOption result (behind_at line.now i ≡ []) (BehindEnd line.now i) }
-{
-    if at_byte(line, i, b' ') {
-        name_end(line, i + 1)
-    } else {
-        None
-    }
-}
+use display_shapes::{Name, Span, spaced_end};
+use text_scan::same_words;
 
 // Whether the name stands behind byte i.
 fn is_behind(line: &[u8], i: usize, name: &[u8]) -> bool
     requires { i < length line.now }
     ensures { result ≡ member name.now (behind_at line.now i) }
 {
-    match behind_end(line, i) {
+    match spaced_end::<Name>(line, i) {
         Some(end) => same_words(name, &line[i + 1..end]),
         None => false,
     }
@@ -59,6 +47,7 @@ fn is_head(line: &[u8], head: Option<Span>, name: &[u8]) -> bool
 }
 
 // Whether the name stands in the part before byte i.
+// That the part lies in the line stays a clause: a part has numbers only, and the line is lent beside it.
 fn is_known(line: &[u8], p: Part, i: usize, name: &[u8]) -> bool
     requires { Within line.now p × (p.from ≤ i) × (i ≤ length line.now) }
     ensures { result ≡ member name.now (before line.now p i) }
@@ -71,7 +60,7 @@ fn fresh_end(line: &[u8], p: Part, i: usize) -> Option<usize>
     requires { Within line.now p × (p.from ≤ i) × (i < length line.now) }
     ensures { MatchOption result (IsStale line.now p i) (FreshEnd line.now p i) }
 {
-    let end = behind_end(line, i)?;
+    let end = spaced_end::<Name>(line, i)?;
     if is_known(line, p, i, &line[i + 1..end]) {
         return None;
     }

@@ -9,7 +9,6 @@ ghost use Rattle.grammar.specs.Texts.{outcome};
 ghost use Rattle.effects.specs.Effects.{action_made, made as made_on, effect_at};
 
 use model::{Action, Model};
-use text::Acceptance;
 
 // Which clause stands on a line.
 fn clause_on(m: &Model, line: u32) -> Option<usize>
@@ -49,12 +48,12 @@ fn on_line(m: &Model, line: u32, state: u32) -> u64
 }
 
 // What a line of an accepted text makes of an object in a state: 2 × 2^32 and the state of an object that a `new` line creates, 3 × 2^32 and the state that a `next` line gives it; 0 otherwise.
+// 0 stays for nothing made: this is the word that C is told.
 pub fn effect(text: &[u8], line: u32, state: u32) -> u64
     ensures { result ≡ effect_at (outcome text.now) line state }
 {
-    let reading = text::read(text);
-    if let Acceptance::Refused { .. } = reading.answer {
-        return 0;
+    match text::read(text) {
+        Ok(m) => on_line(&m, line, state),
+        Err(_) => 0,
     }
-    on_line(&reading.model, line, state)
 }

@@ -12,22 +12,22 @@ use borrow.Author.Tests.{leb-true, le-ltb}
 use Rattle.std.proofs.lemmas.List.{length-take}
 use Rattle.limits.specs.Limits as limit
 use Rattle.semantics.specs.Models.{Program, Question}
+use Rattle.model.specs.Records.{program_of, question_of}
 use Rattle.model.specs.declared.Model.{Model}
 use Rattle.grammar.specs.Bytes.{bytes, Word, letter, alphanumeric, every, same, is_name, lines}
 use Rattle.grammar.specs.Declarations.{Declared}
-use Rattle.grammar.specs.Texts.{Outcome, accepted, refused, outcome}
+use Rattle.grammar.specs.Texts.{accepted, outcome}
 use Rattle.grammar.proofs.Tests.{either, and_left, and_right}
 use Rattle.acceptance.specs.Represents.{Represents}
 use Rattle.acceptance.specs.Sound.{name_at}
 use Rattle.acceptance.proofs.Acceptance.{accepted-sound}
 use Rattle.acceptance.proofs.WellFormed.{accepted-well-formed}
-use Rattle.text.specs.declared.Reading.{Reading}
-use Rattle.text.specs.Reading.{Names, Reads}
+use Rattle.text.specs.Reading.{Names, Accepts}
 use Rattle.search_states.specs.Rising.{Rising}
 use Rattle.analyzer_verdict.specs.declared.Answer.{Answer}
 use Rattle.analyzer_verdict.specs.declared.Answer.TheVariants.{Reached, Unreached, Refused}
 use Rattle.analyzer_verdict.specs.declared.Analysis.{Analysis}
-use Rattle.analyzer_verdict.specs.Judging.{Answered, Beside}
+use Rattle.analyzer_verdict.specs.Judging.{Answered, Beside, Judges}
 use Rattle.calls.specs.Calls.{early, called, short}
 use Rattle.analyzer.specs.Analyzing.{Leaves, Analyzes}
 use Rattle.listing_lines.specs.Lines.{Named}
@@ -137,16 +137,17 @@ in-room text short e = rw e (⊎_elim (λ (q : bytes-wrong ≡ true). rw q refl)
 pub answered : (text work run : List ℕ) (a : Analysis) (work' run' : List ℕ) → limit.work ≤ length work → limit.run ≤ length run → Analyzes text work run a work' run' → Leaves (outcome text) work run a work' run'
 answered text work run a work' run' h l w = rw (in-room text (short (length work) (length run)) (rw (le-ltb (length work) limit.work h, le-ltb (length run) limit.run l) refl)) at w
 
--- EVERY TEXT. What reading and analyzing it leave can be listed, and the listing is the output
-module _ (text work run : List ℕ) (r : Reading) (a : Analysis) (work' run' : List ℕ) (whole : length a.states ≡ limit.listed) where
-  pub text-ready : (o : Outcome) → outcome text ≡ o → Reads o text r → Leaves o work run a work' run' → limit.run ≤ length run' → Ready text r.model a.states a.count run' a.answer
-  text-ready (refused n ℓ) ok reads leaves long = rw leaves.0 tt
-  text-ready (accepted D P Q) ok reads leaves long = ready text D P Q r.model ok reads.1 reads.2 a.states a.count run run' whole a.answer leaves.verdict leaves.states long
+-- AN ACCEPTED TEXT. What analyzing it leaves can be listed, and the listing is the output
+module _ (text work run : List ℕ) (m : Model) (r : Accepts (outcome text) text m) (a : Analysis) (work' run' : List ℕ) (whole : length a.states ≡ limit.listed) (leaves : Leaves (outcome text) work run a work' run') where
+  judged : Judges (program_of m) (question_of m) work run a work' run'
+  judged = rw r.says at leaves
 
-  module _ (d : List ℕ) (n : ℕ) (e : List ℕ) (w : Shows text r.model a.states a.count run' a.answer d n e) where
-    pub text-output : (o : Outcome) → outcome text ≡ o → Reads o text r → Leaves o work run a work' run' → Listing o text a run' (take n e) × (n ≤ length d)
-    text-output (refused k ℓ) ok reads leaves = let v = (rw leaves.0 at w) in (v.front, v.room)
-    text-output (accepted D P Q) ok reads leaves = (
-      writes text D P Q r.model ok reads.1 reads.2 a.states a.count run run' whole d n e a.answer leaves.verdict leaves.states w,
-      room text D P Q r.model ok reads.1 reads.2 a.states a.count run run' whole d n e a.answer leaves.verdict w,
-    )
+  pub text-ready : limit.run ≤ length run' → Ready text m a.states a.count run' a.answer
+  text-ready long = ready text r.declared (program_of m) (question_of m) m r.says r.represents r.names a.states a.count run run' whole a.answer judged.verdict judged.states long
+
+  module _ (d : List ℕ) (n : ℕ) (e : List ℕ) (w : Shows text m a.states a.count run' a.answer d n e) where
+    pub text-output : Listing (outcome text) text a run' (take n e)
+    text-output = rw r.says (writes text r.declared (program_of m) (question_of m) m r.says r.represents r.names a.states a.count run run' whole d n e a.answer judged.verdict judged.states w)
+
+    pub text-room : n ≤ length d
+    text-room = room text r.declared (program_of m) (question_of m) m r.says r.represents r.names a.states a.count run run' whole d n e a.answer judged.verdict w

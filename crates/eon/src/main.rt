@@ -16,6 +16,7 @@ use std::io::{ErrorKind, Print, Read, Write};
 const INPUT: usize = TEXT + 1;
 
 // Reads until the buffer is full or the input ends, and says how many bytes were read.
+// The loop stays: a reader may give fewer bytes than are asked for, until it gives none.
 fn read_input<R: Read>(source: &mut R, text: &mut [u8]) -> io::Result<usize>
     ensures { IfOk result (λ count. count ≤ length text.new) }
 {
@@ -56,9 +57,11 @@ fn mark(text: &[u8], work: &mut [u8], run: &mut [u32], out: &mut [u8]) -> usize
     requires { (limit.work ≤ length work.old) × (limit.run ≤ length run.old) × (size ≤ length out.old) }
     ensures { Output text.now work.old run.old work.new run.new (take result out.new) × IsPrefixLen result out.new }
 {
-    let reading = text::read(text);
     let analysis = analyzer::analyze(text, work, run);
-    list(out, text, &reading.model, &analysis, run)
+    match text::read(text) {
+        Ok(m) => list(out, text, &m, &analysis, run),
+        Err(refusal) => listing::put_refusal(out, refusal.row.number(), refusal.line),
+    }
 }
 
 // Writes the listing of the text.

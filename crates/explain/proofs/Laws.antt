@@ -12,24 +12,15 @@ use Rattle.semantics.specs.Runs.{start, Allowed, after}
 use Rattle.model.specs.declared.Model.{Model}
 use Rattle.model.specs.Records.{program_of, question_of}
 use Rattle.model.specs.Places.{place_of}
-use Rattle.grammar.specs.Texts.{outcome}
-use Rattle.calls.specs.Wiping.{wiped}
-use Rattle.text.specs.declared.Acceptance.TheVariants.{Accepted}
-use Rattle.text.specs.declared.Reading.{Reading}
-use Rattle.text.specs.Reading.{Reads}
-use Rattle.text.proofs.Laws.{is-accepted, read-represents}
 use Rattle.replay_session.specs.declared.Answer.TheVariants.{Broken}
 use Rattle.replay_session.specs.declared.Session.{Session}
 use Rattle.replay_session.specs.Records.{session_of}
 use Rattle.replay_session.specs.Replays.{Replays}
-use Rattle.replay_session.specs.Notes.{Notes}
 use Rattle.replay_runs.specs.Endings.{Leads, Stopped}
-use Rattle.replay.proofs.Laws.{replayed}
 use Rattle.reasons.specs.declared.Reason.{Reason}
 use Rattle.reasons.specs.declared.Reason.TheVariants.{Ends}
 use Rattle.reasons.specs.Reasons.{Explains}
-use Rattle.explain.specs.declared.Explanation.{Explanation}
-use Rattle.explain.specs.Explains.{Reasoned, Told, Explained}
+use Rattle.explain.specs.Explains.{Reasoned}
 
 module _ (P : Program) (Q : Question) where
   broken-late : (s : runs.Session) (ns : List ℕ) (i j : ℕ) → Replays P Q s ns i (Broken j) → i ≤ j
@@ -57,15 +48,3 @@ module _ (m : Model) (run : List ℕ) (k : ℕ) (s : Session) (replays : Replays
   pub reason-place : k < length run → (r : Reason) → ((p : runs.Place) → place_of (get_or run k 0) ≡ some p → Explains m s p r) → Reasoned (program_of m) (question_of m) run k r
   reason-place l r h =
       inr (l, λ p e. (session_of m s, stopped.leads, h p e (broken-not (program_of m) (question_of m) (start []) run 0 k k (session_of m s) stopped.leads (omega arith) l replays p e)))
-
--- the reading r of an accepted text
-pub explained : (text : List ℕ) (r : Reading) → Reads (outcome text) text r → r.answer ≡ Accepted → (run work table work' table' : List ℕ) (x : Explanation) → Told (program_of r.model) (question_of r.model) run x
-    → Notes (program_of r.model) (question_of r.model) (start []) run table table' → work' ≡ wiped work → Explained (outcome text) run work table x work' table'
-explained text r h e run work table work' table' x (a, g, t) n w =
-    let says = is-accepted text r (outcome text) h e in
-    let record_of = read-represents text says.0 says.1 says.2 r says.3 h in
-    record {
-      answer = a;
-      replayed = replayed text r h e run work table work' table' a g n w;
-      says = rw says.3 (rw (← record_of.program, ← record_of.question) t);
-    }

@@ -26,17 +26,18 @@ use model::Model;
 use reasons::Reason;
 use replay_runs::Ending;
 use replay_session::{Answer, Session};
-use text::Acceptance;
+use rows::Refusal;
 
-// What is said of a run: a refusal with its number and line, that it is kept, or that it is broken at a place, and why.
+// What is said of a run: that it is kept, or that it is broken at a place, and why.
+// It stays an enum: a broken run is what is said and no failure of the call.
 #[derive(Clone, Copy)]
 pub enum Explanation {
-    Refused { number: u32, line: u32 },
     Kept,
     Broken { place: usize, reason: Reason },
 }
 
 // Why a place is not allowed in a state that fits.
+// `WellFormed m` stays a clause: it speaks by recursion over the model's lists, which a ghost field cannot hold, and behind an `impl Model` other crates would read a model only through a method that gives it out whole; the length of `run` stays one too, since C lends a run that may be shorter, and that of `work`, as `replay_runs` asks for it in a clause and not in a type.
 fn why(m: Model, s: Session, n: u32, work: &mut [u8]) -> Reason
     requires { WellFormed m × Fits m s × (s.kept < limit.run) × (room ≤ length work.old) }
     ensures { ((p : runs.Place) → place_of n ≡ some p → Explains m s p result) × (length work.new ≡ length work.old) }
@@ -50,6 +51,7 @@ fn why(m: Model, s: Session, n: u32, work: &mut [u8]) -> Reason
 }
 
 // Why a run breaks at a place, in the state to which the places before it lead.
+// The model and the run stay apart from the work area: they are only read, and it is written.
 fn why_broken(m: Model, s: Session, place: usize, run: &[u32], work: &mut [u8]) -> Reason
     requires { WellFormed m × (length run.now ≤ limit.run) × (room ≤ length work.old) × Replays (program_of m) (question_of m) (start []) run.now 0 (BrokenAt place) × Stopped m run.now place s }
     ensures { Reasoned (program_of m) (question_of m) run.now place result × (length work.new ≡ length work.old) }
@@ -72,11 +74,11 @@ fn tell(m: Model, ending: Ending, run: &[u32], work: &mut [u8]) -> Explanation
             let reason = why_broken(m, session, place, run, work);
             Explanation::Broken { place, reason }
         }
-        Answer::Refused { number, line } => Explanation::Refused { number, line },
     }
 }
 
 // Replays a run over a model and explains the answer, and notes who stood by.
+// The run and the two buffers stay apart: the run is only read, `stood` is lent by C, and `work` is a local of `explain_model`.
 fn explain_run(m: Model, run: &[u32], work: &mut [u8], stood: &mut [u32]) -> Explanation
     requires { WellFormed m × (length run.now ≤ limit.run) × (room ≤ length work.old) × (limit.run ≤ length stood.old) }
     ensures { Told (program_of m) (question_of m) run.now result × Notes (program_of m) (question_of m) (start []) run.now stood.old stood.new × (length work.new ≡ length work.old) }
@@ -97,22 +99,15 @@ fn explain_model(m: Model, run: &[u32], work: &mut [u8], stood: &mut [u32]) -> E
 }
 
 // Replays a run over a text and explains the answer, and notes in the table who stood by at each kept step.
-pub fn explain(text: &[u8], run: &[u32], work: &mut [u8], stood: &mut [u32]) -> Explanation
+pub fn explain(
+    text: &[u8],
+    run: &[u32],
+    work: &mut [u8],
+    stood: &mut [u32],
+) -> Result<Explanation, Refusal>
     ensures { Explained (run_outcome text.now run.now work.old stood.old) run.now work.old stood.old result work.new stood.new }
 {
     let short = calls::short(work.len(), stood.len());
-    let row = calls::early(text.len(), short, run.len() > RUN);
-    if row != 0 {
-        return Explanation::Refused {
-            number: row,
-            line: 0,
-        };
-    }
-    let reading = text::read(text);
-    let acceptance = reading.answer;
-    if let Acceptance::Refused { number, line } = acceptance {
-        return Explanation::Refused { number, line };
-    }
-    let m = reading.model;
-    explain_model(m, run, work, stood)
+    let m = text::accept(text, short, run.len() > RUN)?;
+    Ok(explain_model(m, run, work, stood))
 }

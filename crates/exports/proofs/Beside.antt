@@ -5,6 +5,8 @@ use mathlib.Core.Bool.{false}
 use mathlib.Core.List.{List}
 use Prim.Native.Nat.{ℕ, ◌+◌}
 use lib.ListN.{length, replicate}
+use Rattle.std.specs.Prelude.{Result, Ok, Err}
+use Rattle.rows.specs.declared.Refusal.{Refusal}
 use Rattle.limits.specs.Limits as limit
 use Rattle.grammar.specs.Texts.{Outcome, accepted, refused}
 use Rattle.calls.specs.Calls.{short, called}
@@ -33,11 +35,12 @@ pub refused-zero : (text work run : List ℕ) (n : ℕ) (work' run' out' : List 
 refused-zero text work run n work' run' out' h k l e = h.cells ∙ zero-cells (called text (short (length work) (length run)) false) work run h.analysis work' run' k l e h.analyzes
 
 -- a place that is not kept leaves the cells
-unkept-state : (o : Outcome) (s : Session) (place : ℕ) (work : List ℕ) (a : PlaceAnswer) (t : Session) (work' : List ℕ) → ((stood : ℕ) → a ≡ Kept stood → ⊥) → Put o s place work a t work' → t ≡ s
+unkept-state : (o : Outcome) (s : Session) (place : ℕ) (work : List ℕ) (a : Result PlaceAnswer Refusal) (t : Session) (work' : List ℕ) → ((stood : ℕ) → a ≡ Ok (Kept stood) → ⊥) → Put o s place work a t work' → t ≡ s
 unkept-state (refused k l) s place work a t work' not h = h.1
-unkept-state (accepted D P Q) s place work a t work' not h = ⊎_elim (λ w. w.left) (λ w. ⊎_elim (λ k. absurd (not k.stood k.answer)) (λ b. b.left) w.1) h.0
+unkept-state (accepted D P Q) s place work (Ok a) t work' not h = ⊎_elim (λ w. w.left) (λ w. ⊎_elim (λ k. absurd (not k.stood (ap Ok k.answer))) (λ b. b.left) w.1) h.0
+unkept-state (accepted D P Q) s place work (Err x) t work' not h = absurd h.0
 
 pub unkept-left : (text lent : List ℕ) (place : ℕ) (work : List ℕ) (n : ℕ) (lent' work' : List ℕ) → length lent ≡ 260 → (h : Placed text lent place work n lent' work')
-    → ((stood : ℕ) → h.answer ≡ Kept stood → ⊥) → lent' ≡ lent
+    → ((stood : ℕ) → h.answer ≡ Ok (Kept stood) → ⊥) → lent' ≡ lent
 unkept-left text lent place work n lent' work' size h not =
     h.cells ∙ ap cells_of (unkept-state (place_outcome text (state_of lent) work) (state_of lent) place work h.answer h.after work' not h.puts) ∙ cells_left lent size

@@ -8,6 +8,8 @@ use native.Mathlib.Omega.{arith}
 use lib.Dec.{eqb, ltb}
 use lib.ListN.{length, take, get_or, length-append, length-map, length-take}
 use borrow.Author.Tests.{eqb-true, eqb-false, ltb-false}
+use Rattle.std.specs.Prelude.{Result, Ok, Err}
+use Rattle.rows.specs.declared.Refusal.{Refusal}
 use Rattle.limits.specs.Limits as limit
 use Rattle.semantics.specs.Models.{Line, rule, new, next, other, line, Program, Question, names}
 use Rattle.semantics.specs.Facts.{Database}
@@ -110,16 +112,16 @@ asking-fits (accepted D P Q) ns o work run a work' run' h = ⊎_elim (λ w. refu
 
 -- THE REPLAY
 module _ (P : Program) (Q : Question) where
-  within : (s : runs.Session) (ns : List ℕ) (i : ℕ) (a : session.Answer) → i + length ns ≤ limit.run → Replays P Q s ns i a → LowPlace a
+  within : (s : runs.Session) (ns : List ℕ) (i : ℕ) (a : session.Answer) → i + length ns ≤ limit.run → Replays P Q s ns i a → LowPlace (Ok a)
   within s [] i reply.Kept h r = tt
   within s [] i (reply.Broken j) h r = omega (arith, r.1)
-  within s [] i (reply.Refused n l) h r = tt
   within s (n ∷ ns) i a h r = ⊎_elim (λ w. within (after P Q s w.0) ns (suc i) a (omega arith) w.3) (λ w. rw w.1 (omega arith)) r
 
-pub replay-fits : (text run work table : List ℕ) (short : Bool) (a : session.Answer) (work' table' : List ℕ) (o : Outcome) → called text short (ltb limit.run (length run)) ≡ o
+pub replay-fits : (text run work table : List ℕ) (short : Bool) (a : Result session.Answer Refusal) (work' table' : List ℕ) (o : Outcome) → called text short (ltb limit.run (length run)) ≡ o
     → Replayed o run work table a work' table' → LowPlace a
-replay-fits text run work table short a work' table' (refused n l) e h = rw h.0 tt
-replay-fits text run work table short a work' table' (accepted D P Q) e h =
+replay-fits text run work table short (Err x) work' table' o e h = tt
+replay-fits text run work table short (Ok a) work' table' (refused n l) e h = absurd h.0
+replay-fits text run work table short (Ok a) work' table' (accepted D P Q) e h =
     within P Q (start []) run 0 a (omega (arith, ltb-false limit.run (length run) (called-taken text short (ltb limit.run (length run)) D P Q e).long-not)) h.0
 
 -- ONE PLACE
@@ -137,13 +139,15 @@ number_small : (P : Program) (Q : Question) (d : ℕ) (s : Session) → Fits d Q
 number_small P Q d s f p k h =
     omega (arith, standing-small P (session_of Q s) p k (omega (arith, f.objects, length-take s.objects s.states)) h)
 
-reply-fits : (P : Program) (Q : Question) (d : ℕ) (s : Session) (n : ℕ) (a : PlaceAnswer) (t : Session) → length Q ≤ 4 → Small s → PlaceReply d P Q s n a t → LowNumber a × Small t
+reply-fits : (P : Program) (Q : Question) (d : ℕ) (s : Session) (n : ℕ) (a : PlaceAnswer) (t : Session) → length Q ≤ 4 → Small s → PlaceReply d P Q s n a t → LowNumber (Ok a) × Small t
 reply-fits P Q d s n a t few h r = ⊎_elim (λ w. (rw w.answer (omega arith), rw w.left h))
     (λ w. ⊎_elim (λ k. (rw k.answer (number_small P Q d s w.0 k.place k.stood k.stands), rw k.taken (taken-small P Q d s few w.0 h k.place)))
     (λ b. (rw b.answer h.kept, rw b.left h)) w.1) r
 
-pub place-fits : (text : List ℕ) (short long : Bool) (s : Session) (n : ℕ) (work : List ℕ) (a : PlaceAnswer) (t : Session) (work' : List ℕ) → Small s
+pub place-fits : (text : List ℕ) (short long : Bool) (s : Session) (n : ℕ) (work : List ℕ) (a : Result PlaceAnswer Refusal) (t : Session) (work' : List ℕ) → Small s
     → (o : Outcome) → called text short long ≡ o → Put o s n work a t work' → LowNumber a × Small t
-place-fits text short long s n work a t work' h (refused k l) e w = (rw w.0 tt, rw w.1 h)
-place-fits text short long s n work a t work' h (accepted D P Q) e w =
+place-fits text short long s n work (Ok a) t work' h (refused k l) e w = absurd w.0
+place-fits text short long s n work (Err x) t work' h (refused k l) e w = (tt, rw w.1 h)
+place-fits text short long s n work (Err x) t work' h (accepted D P Q) e w = absurd w.0
+place-fits text short long s n work (Ok a) t work' h (accepted D P Q) e w =
     reply-fits P Q _ s n a t (accepted-sound text D P Q (called-taken text short long D P Q e).text-accepted).question.stages h w.0

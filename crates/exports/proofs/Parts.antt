@@ -6,20 +6,13 @@ use Prim.Native.Nat.{ℕ, ◌≤◌, ◌<◌}
 use lib.ListN.{length}
 use borrow.Author.Tests.{lt-ltb, le-ltb}
 use Rattle.limits.specs.Limits as limit
-use Rattle.handin.specs.declared.Handin.TheVariants.{Yes}
-use Rattle.handin.specs.Handins.{Handin, says-no, says-yes, unreadable, reading}
+use Rattle.handin.specs.Handins.{reading}
 use Rattle.handin.specs.Answers.{told}
 use Rattle.display_shapes.specs.declared.Span.{Span}
 use Rattle.display_shapes.specs.Rows.{Shows}
 use Rattle.codes.specs.Codes.{handed, spanned}
-use Rattle.exports.specs.Codes.{refusal}
+use Rattle.words.specs.Words.{refusal}
 use Rattle.exports.specs.Calls.{written, Handed, Spanned}
-
--- a hand-in that says no yes leaves the table
-pub not_yes : (h : Handin) (run : List ℕ) → ((first places : ℕ) → told h ≡ Yes first places → ⊥) → run ≡ written h run
-not_yes says-no run f = refl
-not_yes (says-yes first ps) run f = absurd (f first (length ps) refl)
-not_yes (unreadable at) run f = refl
 
 -- a table that is too short, and one that is not
 pub short-table : (handin run : List ℕ) → length run < limit.run → Handed handin run (refusal 12 0) run

@@ -1,9 +1,10 @@
 -- WHAT THE EXPORTED CALLS ANSWER: each passes on the whole contract of the public call, its answer as a number and its records as cells.
-use Rattle.std.specs.Prelude.{◌≡◌, cond, List, ◌++◌, map, ℕ, ltb, length, drop}
+use Rattle.std.specs.Prelude.{◌≡◌, cond, List, ◌++◌, map, ℕ, ltb, length, drop, Result}
 use Rattle.std.proofs.Math.Option.{Option, none}
 use Rattle.limits.specs.Limits as limit
 use Rattle.grammar.specs.Texts.{outcome}
 use Rattle.model.specs.Places.{number_of}
+use Rattle.rows.specs.declared.Refusal.{Refusal}
 use Rattle.analyzer_verdict.specs.declared.Analysis.{Analysis}
 use Rattle.analyzer.specs.Analyzing.{Analyzes}
 use Rattle.from_here.specs.Asking.{Asks}
@@ -23,13 +24,13 @@ use Rattle.display.specs.Shown.{relation_at, ShowsRelation}
 use Rattle.explain.specs.declared.Explanation.{Explanation}
 use Rattle.explain.specs.Explains.{Explained}
 use Rattle.asbestos.specs.Messages.{Process}
-use Rattle.asbestos_writer.specs.declared.Answer as desk
 use Rattle.asbestos_writer.specs.Writing.{Desks}
 use Rattle.asbestos_desk.specs.Promise.{Keeps}
 use Rattle.asbestos_desk.specs.Codes.{code}
 use Rattle.codes.specs.Codes as codes
 use Rattle.reason_codes.specs.Codes.{explained}
-use Rattle.exports.specs.Codes.{refusal, coded, replied, put}
+use Rattle.words.specs.Words.{refusal}
+use Rattle.exports.specs.Codes.{coded, replied, put}
 use Rattle.exports.specs.Cells as cells
 use Rattle.exports.specs.Cells.{last_number, state_of, cells_of}
 
@@ -49,13 +50,13 @@ pub record Asked (text places : List ℕ) (object : ℕ) (work run : List ℕ) (
 
 -- THE REPLAY of a run, with the work area and the table of those who stood by after it
 pub record Replayed (text run work table : List ℕ) (n : ℕ) (work' table' : List ℕ) : Type 0 where
-  pub answer : Answer
+  pub answer : Result Answer Refusal
   pub replays : replies.Replayed (run_outcome text run work table) run work table answer work' table'
   pub number : n ≡ replied answer
 
 -- ONE PLACE put to the state that the cells say
 pub record Placed (text lent : List ℕ) (place : ℕ) (work : List ℕ) (n : ℕ) (lent' work' : List ℕ) : Type 0 where
-  pub answer : PlaceAnswer
+  pub answer : Result PlaceAnswer Refusal
   pub after : Session
   pub puts : Put (place_outcome text (state_of lent) work) (state_of lent) place work answer after work'
   pub number : n ≡ put answer
@@ -74,13 +75,13 @@ pub record Handed (handin run : List ℕ) (n : ℕ) (run' : List ℕ) : Type 0 w
 
 -- THE MARK of a hand-in to a text, with the work area, the run table and the table of those who stood by after it
 pub record Marked (text handin work run stood : List ℕ) (n : ℕ) (work' run' stood' : List ℕ) : Type 0 where
-  pub mark : Mark
+  pub mark : Result Mark Refusal
   pub marks : Marks text handin work run stood mark work' run' stood'
   pub number : n ≡ codes.marked mark
 
 -- A RUN PUT TO A TEXT, and why it breaks, with the work area and the table of those who stood by after it
 pub record Reasoned (text run work table : List ℕ) (n : ℕ) (work' table' : List ℕ) : Type 0 where
-  pub explanation : Explanation
+  pub explanation : Result Explanation Refusal
   pub explains : Explained (run_outcome text run work table) run work table explanation work' table'
   pub number : n ≡ explained explanation
 
@@ -98,7 +99,7 @@ pub record Spanned (line : List ℕ) (part : Option (List ℕ)) (n : ℕ) : Type
 
 -- THE TEXT THAT A DESK for Asbestos labels writes, with the output after it
 pub record Desked (kinds : List Process) (port level : ℕ) (out : List ℕ) (n : ℕ) (out' : List ℕ) : Type 0 where
-  pub answer : desk.Answer
+  pub answer : Result ℕ Refusal
   pub desks : Desks kinds port level out answer out'
   pub keeps : Keeps kinds port level answer out'
   pub number : n ≡ code answer

@@ -1,5 +1,6 @@
 -- NUMBERS THAT FIT their cells and codes.
-use Rattle.std.specs.Prelude.{ℕ, ◌≤◌, ◌<◌}
+use Rattle.std.specs.Prelude.{ℕ, ◌≤◌, ◌<◌, Result, Ok, Err}
+use Rattle.rows.specs.declared.Refusal.{Refusal}
 use Rattle.limits.specs.Limits as limit
 use Rattle.analyzer_verdict.specs.declared.Answer.{Answer}
 use Rattle.analyzer_verdict.specs.declared.Answer.TheVariants.{Reached, Unreached, Refused}
@@ -22,16 +23,16 @@ Shown size Unreached = Unit {0}
 Shown size (Refused n l) = Unit {0}
 
 -- a broken place is a number of 32 bits
-abbrev pub LowPlace : session.Answer → Type 0
-LowPlace reply.Kept = Unit {0}
-LowPlace (reply.Broken place) = place < 4294967296
-LowPlace (reply.Refused n l) = Unit {0}
+abbrev pub LowPlace : Result session.Answer Refusal → Type 0
+LowPlace (Ok reply.Kept) = Unit {0}
+LowPlace (Ok (reply.Broken place)) = place < 4294967296
+LowPlace (Err x) = Unit {0}
 
 -- and so is the number of those who stood by
-abbrev pub LowNumber : place.PlaceAnswer → Type 0
-LowNumber (place_reply.Kept stood) = stood < 4294967296
-LowNumber (place_reply.Broken place) = place < 4294967296
-LowNumber (place_reply.Refused n l) = Unit {0}
+abbrev pub LowNumber : Result place.PlaceAnswer Refusal → Type 0
+LowNumber (Ok (place_reply.Kept stood)) = stood < 4294967296
+LowNumber (Ok (place_reply.Broken place)) = place < 4294967296
+LowNumber (Err x) = Unit {0}
 
 -- and so are the counts of a state
 pub record Small (s : Session) : Type 0 where

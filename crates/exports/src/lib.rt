@@ -11,16 +11,17 @@ ghost use Rattle.handin.specs.Answers.{told};
 ghost use Rattle.display.specs.Shown.{literal_at, variable_at};
 ghost use Rattle.effects.specs.Effects.{effect_at};
 ghost use Rattle.asbestos_writer.specs.Writing.{kinds_of};
-ghost use Rattle.exports.specs.Codes.{refusal as refusal_code, coded as code_of, replied as reply_code, put as place_code};
+ghost use Rattle.exports.specs.Codes.{coded as code_of, replied as reply_code, put as place_code};
 ghost use Rattle.exports.specs.Cells.{last_number, table as table_of, state_of, cells_of};
 ghost use Rattle.exports.specs.Calls.{Analyzed, Asked, Replayed, Placed, written, Handed, Marked, Reasoned, Declared, Spanned, Desked};
 ghost use Rattle.exports.specs.Ranges.{ShortRun, LowPlace, LowNumber, Shown, Small};
 
 use analyzer_verdict::Analysis;
 use asbestos_writer::CELLS;
-use handin::Handin;
+use handin::{Run, Unreadable};
 use limits::{LISTED, OBJECTS, RUN, TEXT};
-use replay_session::Session;
+use replay_session::{PlaceAnswer, Session};
+use rows::{Refusal, Row};
 
 // The cells beside an answer of the analysis, of which the last has the shown run's last place.
 const LAST: usize = LISTED + 1;
@@ -39,18 +40,12 @@ const KEPT: usize = OBJECTS + 4;
 const SESSION: usize = OBJECTS + 5;
 
 // Copies the numbers into the cells from place `at` on.
+// It stays a function of its own: it adds the place to the library's `copy_from_slice`, which takes two slices of one length.
 fn copy(cells: &mut [u32], at: usize, numbers: &[u32])
     requires { at + length numbers.now ≤ length cells.old }
     ensures { cells.new ≡ paste cells.old at numbers.now (length numbers.now) }
 {
     cells[at..at + numbers.len()].copy_from_slice(numbers);
-}
-
-// The number of a refusal.
-fn refusal(number: u32, line: u32) -> u64
-    ensures { result ≡ refusal_code number line }
-{
-    2 * 4_294_967_296 + (number as u64 * 65_536 + line as u64)
 }
 
 // The number of an analysis's answer.
@@ -61,35 +56,36 @@ fn coded(answer: analyzer_verdict::Answer) -> u64
     match answer {
         analyzer_verdict::Answer::Unreached => 0,
         analyzer_verdict::Answer::Reached { places, .. } => 4_294_967_296 + places as u64,
-        analyzer_verdict::Answer::Refused { number, line } => refusal(number, line),
+        analyzer_verdict::Answer::Refused { number, line } => words::refusal(number, line),
     }
 }
 
 // The number of a replay's answer.
-fn replied(answer: replay_session::Answer) -> u64
+fn replied(answer: Result<replay_session::Answer, Refusal>) -> u64
     requires { LowPlace answer }
     ensures { result ≡ reply_code answer }
 {
     match answer {
-        replay_session::Answer::Kept => 3 * 4_294_967_296,
-        replay_session::Answer::Broken { place } => 4 * 4_294_967_296 + place as u64,
-        replay_session::Answer::Refused { number, line } => refusal(number, line),
+        Ok(replay_session::Answer::Kept) => 3 * 4_294_967_296,
+        Ok(replay_session::Answer::Broken { place }) => 4 * 4_294_967_296 + place as u64,
+        Err(r) => words::refused(r),
     }
 }
 
 // The number of the answer to one place.
-fn put(answer: replay_session::PlaceAnswer) -> u64
+fn put(answer: Result<PlaceAnswer, Refusal>) -> u64
     requires { LowNumber answer }
     ensures { result ≡ place_code answer }
 {
     match answer {
-        replay_session::PlaceAnswer::Kept { stood } => 3 * 4_294_967_296 + stood as u64,
-        replay_session::PlaceAnswer::Broken { place } => 4 * 4_294_967_296 + place as u64,
-        replay_session::PlaceAnswer::Refused { number, line } => refusal(number, line),
+        Ok(PlaceAnswer::Kept { stood }) => 3 * 4_294_967_296 + stood as u64,
+        Ok(PlaceAnswer::Broken { place }) => 4 * 4_294_967_296 + place as u64,
+        Err(r) => words::refused(r),
     }
 }
 
 // The number of the shown run's last place, 0 where there is no run.
+// 0 stays for no run: this is a cell that C lends.
 fn last_number(answer: analyzer_verdict::Answer, run: &[u32]) -> u32
     requires { Shown (length run.now) answer }
     ensures { result ≡ last_number answer run.now }
@@ -115,6 +111,7 @@ fn table(a: Analysis, last: u32) -> [u32; OUT]
 }
 
 // The replay's state that the cells say.
+// It stays a function: neither `Session` nor the array is a type of this crate, so that no `From` can be written here.
 fn unpack(cells: [u32; SESSION]) -> Session
     ensures { (result ≡ state_of cells) × Small result }
 {
@@ -131,6 +128,7 @@ fn unpack(cells: [u32; SESSION]) -> Session
 }
 
 // The cells of a replay's state.
+// It stays a function: neither `Session` nor the array is a type of this crate, so that no `From` can be written here.
 fn pack(s: Session) -> [u32; SESSION]
     requires { Small s }
     ensures { result ≡ cells_of s }
@@ -204,11 +202,10 @@ pub extern "C" fn eon_place(
     ensures { Placed text.now session.old place work.old result session.new work.new }
 {
     let cells = *session;
-    let reply = lent::place(text, unpack(cells), place, work);
-    let after = reply.session;
-    let left = pack(after);
+    let mut state = unpack(cells);
+    let answer = lent::put(text, &mut state, place, work);
+    let left = pack(state);
     *session = left;
-    let answer = reply.answer;
     put(answer)
 }
 
@@ -221,11 +218,11 @@ pub extern "C" fn eon_line(text: &[u8], i: usize) -> u64
 }
 
 // Writes the run of a hand-in that says yes into the table.
-fn write_run(handin: &[u8], said: Handin, run: &mut [u32])
+fn write_run(handin: &[u8], said: Result<Option<Run>, Unreadable>, run: &mut [u32])
     requires { (limit.run ≤ length run.old) × (said ≡ told (reading handin.now)) }
     ensures { run.new ≡ written (reading handin.now) run.old }
 {
-    if let Handin::Yes { .. } = said {
+    if let Ok(Some(_)) = said {
         handin::write(handin, run);
     }
 }
@@ -236,7 +233,10 @@ pub extern "C" fn eon_handin(handin: &[u8], run: &mut [u32]) -> u64
     ensures { Handed handin.now run.old result run.new }
 {
     if run.len() < RUN {
-        return refusal(12, 0);
+        return words::refused(Refusal {
+            row: Row::Lent,
+            line: 0,
+        });
     }
     let said = handin::read(handin);
     write_run(handin, said, run);

@@ -2,23 +2,31 @@
 #![tactic(auto)]
 
 ghost use Rattle.std.specs.Prelude.{◌≡◌};
-ghost use Rattle.exports_cure.specs.Codes.{coded as code_of, Few};
+ghost use Rattle.exports_cure.specs.Codes.{coded as code_of, cells as cells_of, Few};
 ghost use Rattle.exports_cure.specs.Calls.{Advised};
 
-use cure::Answer;
-use strike_list::MOST;
+use rows::Refusal;
+use strike_list::{Lines, MOST};
 
 // The number of an answer.
-fn coded(answer: Answer) -> u64
-    requires { Few answer }
-    ensures { result ≡ code_of answer }
+fn coded(advice: Result<Option<Lines>, Refusal>) -> u64
+    requires { Few advice }
+    ensures { result ≡ code_of advice }
 {
-    match answer {
-        Answer::Strike { count } => 11 * 4_294_967_296 + count as u64,
-        Answer::NoChoice => 12 * 4_294_967_296,
-        Answer::Refused { number, line } => {
-            2 * 4_294_967_296 + (number as u64 * 65_536 + line as u64)
-        }
+    match advice {
+        Ok(Some(l)) => 11 * 4_294_967_296 + l.count as u64,
+        Ok(None) => 12 * 4_294_967_296,
+        Err(r) => words::refused(r),
+    }
+}
+
+// The cells beside an answer.
+fn cells(advice: Result<Option<Lines>, Refusal>) -> [u32; MOST]
+    ensures { result ≡ cells_of advice }
+{
+    match advice {
+        Ok(Some(l)) => l.lines,
+        Ok(None) | Err(_) => [0u32; MOST],
     }
 }
 
@@ -28,8 +36,7 @@ pub extern "C" fn eon_cure(text: &[u8], list: &[u32], work: &mut [u8], out: &mut
     ensures { Advised text.now list.now work.old result work.new out.new }
 {
     let advice = cure::cure(text, list, work);
-    let lines = advice.lines;
+    let lines = cells(advice);
     *out = lines;
-    let answer = advice.answer;
-    coded(answer)
+    coded(advice)
 }

@@ -1,24 +1,44 @@
 // Attacker and guardian, for C and Rust: the answer as a number, the states and their numbers of moves as rows of cells (include/eon.h).
 #![tactic(auto)]
 
-ghost use Rattle.std.specs.Prelude.{◌≡◌, ◌≤◌};
-ghost use Rattle.limits.specs.Limits as limit;
-ghost use Rattle.exports_game.specs.Codes.{coded as code_of};
+ghost use Rattle.std.specs.Prelude.{◌≡◌};
+ghost use Rattle.exports_game.specs.Codes.{coded as code_of, states as states_of, moves as moves_of, Few};
 ghost use Rattle.exports_game.specs.Calls.{Tells};
 
-use game_answer::Answer;
+use game_answer::Game;
 use limits::LISTED;
+use rows::Refusal;
 
-// The number of an answer, with so many states beside it.
-fn coded(answer: Answer, count: usize) -> u64
-    requires { count ≤ limit.listed }
-    ensures { result ≡ code_of answer count }
+// The number of an answer, with how many states stand beside it.
+fn coded(game: Result<Game, Refusal>) -> u64
+    requires { Few game }
+    ensures { result ≡ code_of game }
 {
-    match answer {
-        Answer::Told => 15 * 4_294_967_296 + count as u64,
-        Answer::Refused { number, line } => {
-            2 * 4_294_967_296 + (number as u64 * 65_536 + line as u64)
-        }
+    match game {
+        Ok(g) => 15 * 4_294_967_296 + g.count as u64,
+        Err(r) => words::refused(r),
+    }
+}
+
+// The cells of the states.
+// The two rows stay two functions: an array field cannot be made part of a pair straight.
+fn listed(game: Result<Game, Refusal>) -> [u32; LISTED]
+    ensures { result ≡ states_of game }
+{
+    match game {
+        Ok(g) => g.states,
+        Err(_) => [0u32; LISTED],
+    }
+}
+
+// The cells of their numbers of moves.
+// The two rows stay two functions: an array field cannot be made part of a pair straight.
+fn counted(game: Result<Game, Refusal>) -> [u32; LISTED]
+    ensures { result ≡ moves_of game }
+{
+    match game {
+        Ok(g) => g.moves,
+        Err(_) => [0u32; LISTED],
     }
 }
 
@@ -35,10 +55,9 @@ pub extern "C" fn eon_game(
     ensures { Tells text.now attacker.now guardian.now work.old result work.new states.new moves.new }
 {
     let game = game::play(text, attacker, guardian, work);
-    let listed = game.states;
-    *states = listed;
-    let counted = game.moves;
-    *moves = counted;
-    let answer = game.answer;
-    coded(answer, game.count)
+    let listing = listed(game);
+    *states = listing;
+    let counts = counted(game);
+    *moves = counts;
+    coded(game)
 }

@@ -5,40 +5,29 @@ ghost use Rattle.std.specs.Prelude.{◌≡◌};
 ghost use Rattle.exports_tally.specs.Codes.{coded as code_of, counts as counts_of};
 ghost use Rattle.exports_tally.specs.Calls.{Counted};
 
+use rows::Refusal;
 use tally::Count;
 
 // The cells beside an answer: the reached and the unreached choices, the reached share and its remainder.
 const COUNTS: usize = 4;
 
 // The number of an answer.
-fn coded(count: Count) -> u64
+fn coded(count: Result<Count, Refusal>) -> u64
     ensures { result ≡ code_of count }
 {
     match count {
-        Count::Counted {
-            reached: _,
-            unreached: _,
-            share: _,
-            remainder: _,
-        } => 13 * 4_294_967_296,
-        Count::Refused { number, line } => {
-            2 * 4_294_967_296 + (number as u64 * 65_536 + line as u64)
-        }
+        Ok(_) => 13 * 4_294_967_296,
+        Err(r) => words::refused(r),
     }
 }
 
 // The cells beside an answer.
-fn counts(count: Count) -> [u32; COUNTS]
+fn counts(count: Result<Count, Refusal>) -> [u32; COUNTS]
     ensures { result ≡ counts_of count }
 {
     match count {
-        Count::Counted {
-            reached,
-            unreached,
-            share,
-            remainder,
-        } => [reached, unreached, share, remainder],
-        Count::Refused { number: _, line: _ } => [0u32; COUNTS],
+        Ok(c) => [c.reached, c.unreached, c.share, c.remainder],
+        Err(_) => [0u32; COUNTS],
     }
 }
 

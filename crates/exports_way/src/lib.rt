@@ -5,19 +5,17 @@ ghost use Rattle.std.specs.Prelude.{◌≡◌};
 ghost use Rattle.exports_way.specs.Codes.{coded as code_of, Few};
 ghost use Rattle.exports_way.specs.Calls.{Looks};
 
-use shortest_answer::Answer;
+use rows::Refusal;
 
 // The number of an answer.
-fn coded(answer: Answer) -> u64
-    requires { Few answer }
-    ensures { result ≡ code_of answer }
+fn coded(steps: Result<Option<usize>, Refusal>) -> u64
+    requires { Few steps }
+    ensures { result ≡ code_of steps }
 {
-    match answer {
-        Answer::Way { steps } => 16 * 4_294_967_296 + steps as u64,
-        Answer::NoWay => 17 * 4_294_967_296,
-        Answer::Refused { number, line } => {
-            2 * 4_294_967_296 + (number as u64 * 65_536 + line as u64)
-        }
+    match steps {
+        Ok(Some(n)) => 16 * 4_294_967_296 + n as u64,
+        Ok(None) => 17 * 4_294_967_296,
+        Err(r) => words::refused(r),
     }
 }
 

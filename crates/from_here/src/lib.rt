@@ -5,7 +5,6 @@ ghost use Rattle.from_here.specs.Asking.{Asks};
 
 use analyzer_verdict::Analysis;
 use limits::RUN;
-use text::Acceptance;
 
 // Reads a text, and asks what can still become of an object after the places; a refusal of the text leaves both buffers as they are.
 pub fn from_here(
@@ -18,15 +17,8 @@ pub fn from_here(
     ensures { Asks text.now places.now object work.old run.old result work.new run.new }
 {
     let short = calls::short(work.len(), run.len());
-    let row = calls::early(text.len(), short, places.len() > RUN);
-    if row != 0 {
-        return analyzer_verdict::refuse(row, 0);
+    match text::accept(text, short, places.len() > RUN) {
+        Ok(m) => from_here_verdict::decide(m, places, object, work, run),
+        Err(refusal) => analyzer_verdict::refuse(refusal),
     }
-    let reading = text::read(text);
-    let acceptance = reading.answer;
-    if let Acceptance::Refused { number, line } = acceptance {
-        return analyzer_verdict::refuse(number, line);
-    }
-    let m = reading.model;
-    from_here_verdict::decide(m, places, object, work, run)
 }

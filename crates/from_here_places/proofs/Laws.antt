@@ -17,7 +17,7 @@ use Rattle.semantics.proofs.Tools.{either, clash}
 use Rattle.model.specs.declared.Model.{Model}
 use Rattle.model.specs.Records.{program_of, question_of}
 use Rattle.replay_session.specs.declared.Answer.{Answer}
-use Rattle.replay_session.specs.declared.Answer.TheVariants.{Kept, Broken, Refused}
+use Rattle.replay_session.specs.declared.Answer.TheVariants.{Kept, Broken}
 use Rattle.replay_session.specs.declared.Session.{Session}
 use Rattle.replay_session.specs.Replays.{Replays}
 use Rattle.replay_runs.specs.Endings.{Leads, Ends, Stopped}
@@ -32,12 +32,6 @@ module _ (P : Program) (Q : Question) where
       omega (arith, at-its-length (after P Q s p) t ns (suc i) j g (subst (λ (x : runs.Place). Leads P Q (after P Q s x) ns (length ns) t) same l))
   at-its-length s t (n ∷ ns) i j (inr (never, e)) (q, d, b, l) = absurd (never (q, d, b))
 
-  -- a replay over an accepted text is never refused
-  never-refused : (s : runs.Session) (ns : List ℕ) (i number line : ℕ) → Replays P Q s ns i (Refused number line) → ⊥
-  never-refused s [] i number line h = h
-  never-refused s (n ∷ ns) i number line (inl (p, e, a, g)) = never-refused (after P Q s p) ns (suc i) number line g
-  never-refused s (n ∷ ns) i number line (inr (never, e)) = absurd (let z : ◌≡◌ {A = ℕ} 0 1 = cc in omega arith)
-
 module _ (m : Model) (ns : List ℕ) (s : Session) where
   pub stands : (a : Answer) → Replays (program_of m) (question_of m) (start []) ns 0 a → Ends m ns a s → Stands m ns (then_some (unbroken a (length ns)) s)
   stands Kept h e = e
@@ -45,4 +39,3 @@ module _ (m : Model) (ns : List ℕ) (s : Session) where
       (λ (q : eqb k (length ns) ≡ true). rw q (subst (λ (i : ℕ). Stopped m ns i s) (eqb-true k (length ns) q) e))
       (λ (q : eqb k (length ns) ≡ false). rw q (λ t l. clash (eq-eqb k (length ns) (omega (arith, at-its-length (program_of m) (question_of m) (start []) t ns 0 k h l))) q))
       (either (eqb k (length ns)))
-  stands (Refused number line) h e = absurd (never-refused (program_of m) (question_of m) (start []) ns 0 number line h)

@@ -1,11 +1,11 @@
 -- WHERE PLACES LEAD from the empty database, wherever they end.
-use Rattle.std.specs.Prelude.{Bool, true, false, Option, Some, None, List, [], ℕ, eqb, length}
+use Rattle.std.specs.Prelude.{Bool, true, Option, Some, None, List, [], ℕ, eqb, length}
 use Rattle.semantics.specs.Runs as runs
 use Rattle.semantics.specs.Runs.{start}
 use Rattle.model.specs.declared.Model.{Model}
 use Rattle.model.specs.Records.{program_of, question_of}
 use Rattle.replay_session.specs.declared.Answer.{Answer}
-use Rattle.replay_session.specs.declared.Answer.TheVariants.{Kept, Broken, Refused}
+use Rattle.replay_session.specs.declared.Answer.TheVariants.{Kept, Broken}
 use Rattle.replay_session.specs.declared.Session.{Session}
 use Rattle.replay_runs.specs.Endings.{Leads, Stopped}
 
@@ -13,7 +13,6 @@ use Rattle.replay_runs.specs.Endings.{Leads, Stopped}
 abbrev pub unbroken : Answer → ℕ → Bool
 unbroken Kept n = true
 unbroken (Broken k) n = eqb k n
-unbroken (Refused number line) n = true
 
 -- all places are allowed, and lead to the state; or they lead nowhere, since one of them is broken
 abbrev pub Stands : Model → List ℕ → Option Session → Type 0

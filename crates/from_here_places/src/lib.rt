@@ -18,7 +18,6 @@ fn whole(answer: Answer, n: usize) -> bool
     match answer {
         Answer::Kept => true,
         Answer::Broken { place } => place == n,
-        Answer::Refused { .. } => true,
     }
 }
 

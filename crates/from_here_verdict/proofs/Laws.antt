@@ -4,6 +4,7 @@ use mathlib.Core.Logic.{◌↔◌, inl, inr}
 use mathlib.Core.Bool.{true, false, false≢true}
 use mathlib.Core.List.{List, [], ◌∷◌, ◌++◌, map}
 use mathlib.Core.Option.{some, some-injective}
+use Rattle.std.specs.Prelude.{Some}
 use Prim.Native.Nat.{ℕ, zero, suc, ◌-◌, ◌≤◌, ◌<◌}
 use native.Mathlib.Omega.{arith}
 use lib.ListN.{length, take, drop, get_or, length-map}
@@ -98,7 +99,7 @@ module _ (m : Model) (s : Session) (o : ℕ) (h : Ready m s o) (w : List ℕ) (r
   unreached e h = false≢true (sym e ∙ verdict.1 h)
 
   -- the states by rising number
-  pub listed : Listed (program_of m) r.listing.states r.listing.count
+  pub listed : Listed (program_of m) r.explored.listing.states r.explored.listing.count
   listed =
       record {
         count = f.explored.listing.count;
@@ -108,32 +109,31 @@ module _ (m : Model) (s : Session) (o : ℕ) (h : Ready m s o) (w : List ℕ) (r
       }
 
   -- WHAT IT RECORDED
-  pub recorded : Recorded m w r.states r.levels.rows r.moves.table r.moves.steps r.moves.ways
+  pub recorded : Recorded m w r.explored.states r.levels.rows r.explored.moves.table r.explored.moves.steps r.explored.moves.ways
   recorded =
       let e = f.explored in
       record {
         known = record { model = h.model; proper = e.proper; found = e.found; agree = e.agree; exact = e.exact };
-        mapped = record { whole = e.whole; tabled = e.moves.tabled; moves = e.moves.table; stepped = e.moves.stepped; single = e.moves.steps };
-        long = e.moves.closed;
+        mapped = record { whole = e.whole; moves = e.moves.table; single = e.moves.steps };
         comes = e.moves.ways;
-        asked = f.asked;
+        asked = Some f.asked;
         levels = f.levels;
       }
 
   -- the slot of the object's state
   abbrev slot : ℕ
-  slot = seat (state_in s o) (row r.states)
+  slot = seat (state_in s o) (row r.explored.states)
 
   -- with each pair of level 1 stage 1 holds for a slot to which the object can come
-  came : (e g : ℕ) → Sits r.levels.rows 1 e g → (σ : ℕ → ℕ) × Seating m w r.states 0 e g σ × (slot < r.states.count) × (in_row r.moves.ways slot (σ (first_variable m)) ≡ true)
+  came : (e g : ℕ) → Sits r.levels.rows 1 e g → (σ : ℕ → ℕ) × Seating m w r.explored.states 0 e g σ × (slot < r.explored.states.count) × (in_row r.explored.moves.ways slot (σ (first_variable m)) ≡ true)
   unfolding recorded
   came e g sits =
-      let c = came-besides m w r.states r.levels.rows r.moves.table r.moves.steps r.moves.ways recorded 0 e g h.model.one sits in
+      let c = came-besides m w r.explored.states r.levels.rows r.explored.moves.table r.explored.moves.steps r.explored.moves.ways recorded 0 e g h.model.one sits in
       let l = c.1.0.0 (first_variable m) (first-stands m h.model h.variable) in
-      let z = (f.aims.slots (c.0 (first_variable m)) (omega (arith, l, length-row r.states f.explored.proper, f.explored.proper.count))).0 (c.2 f.aims.given) in
+      let z = (f.aims.slots (c.0 (first_variable m)) (omega (arith, l, length-row r.explored.states f.explored.proper, f.explored.proper.count))).0 c.2 in
       (c.0, c.1, z.0, z.1)
 
-  pub points : Openable m w r.states r.levels.rows r.moves.ways slot
+  pub points : Openable m w r.explored.states r.levels.rows r.explored.moves.ways slot
   points e g sits = let c = came e g sits in (c.0, (c.1, c.3))
 
   -- each level is entered from level 1
@@ -141,20 +141,20 @@ module _ (m : Model) (s : Session) (o : ℕ) (h : Ready m s o) (w : List ℕ) (r
   from_one zero one l e g sits = absurd (omega arith)
   from_one (suc zero) one l e g sits = (e, g, sits)
   from_one (suc (suc k)) one l e g sits =
-      let c = came_from m w r.states r.levels.rows r.moves.table r.moves.steps r.moves.ways recorded (suc k) e g (omega arith) sits in
+      let c = came_from m w r.explored.states r.levels.rows r.explored.moves.table r.explored.moves.steps r.explored.moves.ways recorded (suc k) e g (omega arith) sits in
       from_one (suc k) (omega arith) (omega arith) c.0 c.1 c.2.0
 
   module _ (yes : r.reached ≡ true) where
     pub sits : (e g : ℕ) × Sits r.levels.rows m.stagecount e g
     sits = let x = f.entered yes in (x.0, x.1, (x.2, x.3, x.4))
 
-    pub slot-there : slot < r.states.count
+    pub slot-there : slot < r.explored.states.count
     slot-there = let x = sits in let y = from_one m.stagecount h.model.one (omega arith) x.0 x.1 x.2 in (came y.0 y.1 y.2).2
 
-    pub slot-state : state (there m s) o ≡ state (row r.states) slot
+    pub slot-state : state (there m s) o ≡ state (row r.explored.states) slot
     slot-state =
-        let n = length-row r.states f.explored.proper in
-        there-state m h.places s h.stopped o h.created ∙ sym (seat-ok (state_in s o) (row r.states) (seat-in (state_in s o) (row r.states) r.states.count n slot-there)).1
+        let n = length-row r.explored.states f.explored.proper in
+        there-state m h.places s h.stopped o h.created ∙ sym (seat-ok (state_in s o) (row r.explored.states) (seat-in (state_in s o) (row r.explored.states) r.explored.states.count n slot-there)).1
 
 -- THE RUN WRITTEN
 module _ (m : Model) (wf : WellFormed m) (D : Database) (o : ℕ) (run run' : List ℕ) (n : ℕ) (h : witness.ShownFrom m D o run run' n) where

@@ -12,34 +12,48 @@ ghost use Rattle.from_here_verdict.specs.From.{Put, Judges};
 ghost use Rattle.from_here_verdict.specs.Standing.{Ready, there, Concluded, Told};
 
 use analyzer_verdict::{Analysis, Answer};
-use calls::TOO_MANY;
+use calls::CROWDED;
 use facts_heads::ROOM;
 use limits::EARLIER;
 use model::Model;
 use replay_session::Session;
+use rows::{Refusal, Row};
 use search::Found;
 
-// The numbers of the refusals: a place is broken or the object was not created; stage 1 has no variable; too many objects exist.
-const NOT_THERE: u32 = 16;
+// The refusals: a place is broken or the object was not created; stage 1 has no variable; too many objects exist.
+const NOT_THERE: Refusal = Refusal {
+    row: Row::Place,
+    line: 0,
+};
 
-const NO_VARIABLE: u32 = 17;
+const NO_VARIABLE: Refusal = Refusal {
+    row: Row::NoVariable,
+    line: 0,
+};
 
-const MANY_OBJECTS: u32 = 18;
+const MANY_OBJECTS: Refusal = Refusal {
+    row: Row::Objects,
+    line: 0,
+};
 
 // Writes the run of a reached question. Returns how many places it has.
+// `Ready m s object` stays a clause and its three parameters stay apart, since the search asks for the model and one state alone and a record would be taken apart for it; the length of `run` stays a clause, since C lends a row that may be longer.
 fn show(m: Model, s: Session, object: u32, facts: &[u8], run: &mut [u32], found: Found) -> usize
     requires { Ready m s object × SearchedFrom m (state_in s object) facts.now found × (found.reached ≡ true) × (limit.run ≤ length run.old) }
     ensures { ShownFrom m (there m s) object run.old run.new result }
 {
-    let states = found.states;
+    let explored = found.explored;
+    let states = explored.states;
     let levels = found.levels;
     let rows = levels.rows;
-    let moves = found.moves;
+    let moves = explored.moves;
     let table = moves.table;
     let steps = moves.steps;
     let ways = moves.ways;
-    let known = states.states;
-    let slot = search_states::seek(&known, states.count, s.states[object as usize]);
+    let slot = search_states::seek(
+        &states.states[..states.count],
+        s.states[object as usize],
+    ).unwrap();
     witness_from::witness_from(
         run,
         facts,
@@ -82,12 +96,12 @@ fn ask(m: Model, s: Session, object: u32, run: &mut [u32]) -> Analysis
 {
     let mut facts = [0u8; ROOM];
     let state = s.states[object as usize];
-    let found = search::search_from(&mut facts, m, state);
-    if found.crowded {
-        return analyzer_verdict::refuse(TOO_MANY, 0);
-    }
+    let Some(found) = search::search_from(&mut facts, m, state) else {
+        return analyzer_verdict::refuse(CROWDED);
+    };
     let answer = conclude(m, s, object, &facts, run, found);
-    let listing = found.listing;
+    let explored = found.explored;
+    let listing = explored.listing;
     let states = listing.states;
     Analysis {
         answer,
@@ -102,17 +116,17 @@ fn judge(m: Model, places: &[u32], object: u32, run: &mut [u32]) -> Analysis
     ensures { Put run.old result run.new (program_of m) (question_of m) places.now object }
 {
     let Some(s) = from_here_places::stand(m, places) else {
-        return analyzer_verdict::refuse(NOT_THERE, 0);
+        return analyzer_verdict::refuse(NOT_THERE);
     };
     if object as usize >= s.objects {
-        return analyzer_verdict::refuse(NOT_THERE, 0);
+        return analyzer_verdict::refuse(NOT_THERE);
     }
     let first = m.stages[0];
     if first.variables == 0 {
-        return analyzer_verdict::refuse(NO_VARIABLE, 0);
+        return analyzer_verdict::refuse(NO_VARIABLE);
     }
     if s.objects > EARLIER {
-        return analyzer_verdict::refuse(MANY_OBJECTS, 0);
+        return analyzer_verdict::refuse(MANY_OBJECTS);
     }
     ask(m, s, object, run)
 }

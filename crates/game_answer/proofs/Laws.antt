@@ -26,7 +26,7 @@ use Rattle.facts_bits.specs.Bits.{bit_at}
 use Rattle.search_states.specs.States.{row}
 use Rattle.search_states.proofs.Laws.{length-row, row-full}
 use Rattle.search_states.proofs.Seats.{elem-get_or}
-use Rattle.search_ways.specs.Moves.{matrix_bytes, Marks}
+use Rattle.search_ways.specs.Moves.{Marks}
 use Rattle.search.specs.declared.Explored.{Explored}
 use Rattle.search.specs.Search.{Surveyed}
 use Rattle.helpers.specs.Helpers.{Helpers}
@@ -89,12 +89,10 @@ module _ (m : Model) (wf : WellFormed m) (one : OneVariable m) (w : List ℕ) (r
     marks attacker = ours
     marks guardian = theirs
 
-    pub fits : length MA ≡ matrix_bytes → length MB ≡ matrix_bytes → Fits MA MB M r.states.count
-    fits p q =
+    pub fits : Fits MA MB M r.states.count
+    fits =
         record {
           few = h.proper.count;
-          first = p;
-          second = q;
           ours = λ e t l i. let o = (ours.bits e t l).0 i in (omega (arith, o.0, many), omega (arith, o.1, many));
           theirs = λ e t l i. let o = (theirs.bits e t l).0 i in (omega (arith, o.0, many), omega (arith, o.1, many));
           unmet = ⊎_elim

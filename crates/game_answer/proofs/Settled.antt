@@ -1,5 +1,5 @@
 -- THE CONTRACT LEAVES NO FREEDOM: the answer, the states, their numbers of moves and the work area are settled.
-use mathlib.Core.Path.{◌≡◌, refl, sym, ap, ◌∙◌, subst}
+use mathlib.Core.Path.{◌≡◌, sym, ap, ◌∙◌, subst}
 use mathlib.Core.Logic.{⊎_elim}
 use mathlib.Core.Bool.{true, false}
 use mathlib.Core.List.{List, [], ◌∷◌, ◌++◌}
@@ -10,6 +10,10 @@ use borrow.Author.Tests.{eqb-true}
 use lib.Dec.{eqb}
 use lib.ListN.{length, take, drop, get_or, replicate, take-append-drop}
 use lib.Seq.{ext_get_or, get_or-take, length-take-le}
+use Rattle.std.specs.Prelude.{Result, Ok, Err}
+use Rattle.rows.specs.Rows.{number_of}
+use Rattle.rows.specs.declared.Refusal.{Refusal}
+use Rattle.rows.proofs.Laws.{same-refusal}
 use Rattle.limits.specs.Limits as limit
 use Rattle.semantics.specs.Models.{Body, Program, Question, names}
 use Rattle.semantics.proofs.Tools.{either, clash, no_none}
@@ -18,10 +22,8 @@ use Rattle.games.specs.Sides.{Hosts}
 use Rattle.games.proofs.Holding.{tells-one}
 use Rattle.search_states.proofs.Listed.{states-settled}
 use Rattle.game_lists.specs.Lists.{Form}
-use Rattle.game_answer.specs.declared.Answer.{Answer}
-use Rattle.game_answer.specs.declared.Answer.TheVariants.{Told, Refused}
 use Rattle.game_answer.specs.declared.Game.{Game}
-use Rattle.game_answer.specs.Telling.{owned, told, Telling, Refusing, refusal, Answers, Settles}
+use Rattle.game_answer.specs.Telling.{owned, told, Telling, Refusing, Settles}
 
 -- what a number tells says which number it is
 told-one : (v w : ℕ) → told v ≡ told w → v ≡ w
@@ -82,7 +84,7 @@ module _ (P : Program) (Q : Question) (A B : List ℕ) where
       rest = x.blank ∙ ap (λ (k : ℕ). replicate (limit.listed - k) 0) c ∙ sym y.blank
 
   -- A REFUSAL is no told game, and has one number
-  not-refused : (n : ℕ) (work work' v' : List ℕ) (g : Game) → Answers P Q A B work g v' Told → Refusing P Q A B n work work' → ⊥
+  not-refused : (n : ℕ) (work work' v' : List ℕ) (g : Game) → Settles P Q A B work (Ok g) v' → Refusing P Q A B n work work' → ⊥
   not-refused n work work' v' g x r = ⊎_elim
       (λ q. clash q.1 x.0)
       (λ r. ⊎_elim (λ q. q.2 (x.2.stage, x.2.variable, x.2.form)) (λ q. x.1 q.3) r)
@@ -97,24 +99,23 @@ module _ (P : Program) (Q : Question) (A B : List ℕ) where
       x)
       x
 
--- THE WHOLE, with the work area
-abbrev pub Same : Game → List ℕ → Game → List ℕ → Type 0
-Same g work h work' = (g.answer ≡ h.answer) × (g.states ≡ h.states) × (g.moves ≡ h.moves) × (g.count ≡ h.count) × (work ≡ work')
+-- THE WHOLE, with the work area; an array of a told game has its length
+abbrev pub Long : Result Game Refusal → Type 0
+Long (Ok g) = (length g.states ≡ limit.listed) × (length g.moves ≡ limit.listed)
+Long (Err x) = Unit {0}
 
-pub refused-same : (n l : ℕ) (g h : Game) (w w' : List ℕ) → g ≡ refusal n l → h ≡ refusal n l → w ≡ w' → Same g w h w'
-refused-same n l g h w w' p q e = rw (p, q) (refl, refl, refl, refl, e)
+same-game : (g h : Game) → g.states ≡ h.states → g.moves ≡ h.moves → g.count ≡ h.count → g ≡ h
+same-game g h s m c =
+    ap (λ (l : List ℕ). record { states = l; moves = g.moves; count = g.count }) s
+    ∙ ap (λ (l : List ℕ). record { states = h.states; moves = l; count = g.count }) m
+    ∙ ap (λ (k : ℕ). record { states = h.states; moves = h.moves; count = k }) c
 
-module _ (P : Program) (Q : Question) (A B work : List ℕ) (g h : Game) (w w' : List ℕ) (p : length g.states ≡ limit.listed) (q : length h.states ≡ limit.listed) (r : length g.moves ≡ limit.listed) (t : length h.moves ≡ limit.listed) where
-  answers-settled : (a b : Answer) → g.answer ≡ a → h.answer ≡ b → Answers P Q A B work g w a → Answers P Q A B work h w' b → Same g w h w'
-  answers-settled Told Told d e x y =
-      let s = states-settled P g.states h.states g.count h.count p q x.2.listed y.2.listed in
-      (d ∙ sym e, s.0, moves-one P Q A B g h r t x.2 y.2 s.0 s.1, s.1, x.3 ∙ sym y.3)
-  answers-settled Told (Refused n l) d e x y = absurd (not-refused P Q A B n work w' w g x y.0)
-  answers-settled (Refused n l) Told d e x y = absurd (not-refused P Q A B n work w w' h y x.0)
-  answers-settled (Refused n l) (Refused k j) d e x y =
-      let z = refused-one P Q A B n k work w w' x.0 y.0 in
-      let i : refusal k j ≡ refusal n l = rw (z.0, x.1, y.1) refl in
-      refused-same n l g h w w' x.2 (y.2 ∙ i) z.1
-
-  pub settled : Settles P Q A B work g w → Settles P Q A B work h w' → Same g w h w'
-  settled x y = answers-settled g.answer h.answer refl refl x y
+pub settled : (P : Program) (Q : Question) (A B work : List ℕ) (g h : Result Game Refusal) (w w' : List ℕ) → Long g → Long h → Settles P Q A B work g w → Settles P Q A B work h w' → (g ≡ h) × (w ≡ w')
+settled P Q A B work (Ok g) (Ok h) w w' p q x y =
+    let s = states-settled P g.states h.states g.count h.count p.0 q.0 x.2.listed y.2.listed in
+    (ap Ok (same-game g h s.0 (moves-one P Q A B g h p.1 q.1 x.2 y.2 s.0 s.1) s.1), x.3 ∙ sym y.3)
+settled P Q A B work (Ok g) (Err z) w w' p q x y = absurd (not-refused P Q A B (number_of z.row) work w' w g x y.0)
+settled P Q A B work (Err z) (Ok h) w w' p q x y = absurd (not-refused P Q A B (number_of z.row) work w w' h y x.0)
+settled P Q A B work (Err z) (Err u) w w' p q x y =
+    let e = refused-one P Q A B (number_of z.row) (number_of u.row) work w w' x.0 y.0 in
+    (ap Err (same-refusal z u e.0 (x.1 ∙ sym y.1)), e.1)

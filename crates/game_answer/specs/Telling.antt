@@ -1,5 +1,7 @@
 -- ATTACKER AND GUARDIAN (document 02, R-12): what is answered for a program, a question and the lines of the two sides, and what is left in the work area.
-use Rattle.std.specs.Prelude.{◌≡◌, ◌⊎◌, Bool, true, false, cond, ◌||◌, List, ℕ, ◌-◌, ◌<◌, eqb, drop, get_or, replicate}
+use Rattle.std.specs.Prelude.{◌≡◌, ◌⊎◌, Bool, true, false, cond, ◌||◌, List, ℕ, ◌-◌, ◌<◌, eqb, drop, get_or, replicate, Result, Ok, Err}
+use Rattle.rows.specs.Rows.{number_of}
+use Rattle.rows.specs.declared.Refusal.{Refusal}
 use Rattle.std.proofs.Math.Option.{Option, none, some}
 use Rattle.limits.specs.Limits as limit
 use Rattle.semantics.specs.Models.{Body, Program, Question}
@@ -11,8 +13,6 @@ use Rattle.games.specs.Game.{Side, attacker, guardian, Arena, Tells}
 use Rattle.games.specs.Sides.{Hosts}
 use Rattle.search_states.specs.Listed.{Listed}
 use Rattle.game_lists.specs.Lists.{faulty, Form}
-use Rattle.game_answer.specs.declared.Answer.{Answer}
-use Rattle.game_answer.specs.declared.Answer.TheVariants.{Told, Refused}
 use Rattle.game_answer.specs.declared.Game.{Game}
 
 -- the lines of each side
@@ -55,14 +55,7 @@ Refusing P Q A B n work work' =
     ⊎ (((n ≡ 22) × (faulted P A B ≡ false) × (Formed Q → ⊥) × (work' ≡ work))
     ⊎ ((n ≡ too_many) × (faulted P A B ≡ false) × Formed Q × Crowded P × (work' ≡ wiped work)))
 
--- a refusal with its number and line has no states beside it
-abbrev pub refusal : ℕ → ℕ → Game
-refusal n l = record { answer = Refused n l; states = replicate limit.listed 0; moves = replicate limit.listed 0; count = 0 }
-
--- THE ANSWER g: the game is told, which leaves these bytes zero too, or refused "with line 0"
-abbrev pub Answers : Program → Question → List ℕ → List ℕ → List ℕ → Game → List ℕ → Answer → Type 0
-Answers P Q A B work g work' Told = (faulted P A B ≡ false) × (Crowded P → ⊥) × Telling P Q A B g × (work' ≡ wiped work)
-Answers P Q A B work g work' (Refused n l) = Refusing P Q A B n work work' × (l ≡ 0) × (g ≡ refusal n l)
-
-abbrev pub Settles : Program → Question → List ℕ → List ℕ → List ℕ → Game → List ℕ → Type 0
-Settles P Q A B work g work' = Answers P Q A B work g work' g.answer
+-- THE ANSWER r: the game is told, which leaves these bytes zero too, or refused "with line 0"
+abbrev pub Settles : Program → Question → List ℕ → List ℕ → List ℕ → Result Game Refusal → List ℕ → Type 0
+Settles P Q A B work (Ok g) work' = (faulted P A B ≡ false) × (Crowded P → ⊥) × Telling P Q A B g × (work' ≡ wiped work)
+Settles P Q A B work (Err x) work' = Refusing P Q A B (number_of x.row) work work' × (x.line ≡ 0)

@@ -8,49 +8,55 @@ ghost use Rattle.model.specs.declared.Action.TheVariants as action;
 ghost use Rattle.model.specs.Records.{program_of};
 ghost use Rattle.model.specs.WellFormed.{WellFormed};
 ghost use Rattle.search_states.specs.States.{row, Proper};
-ghost use Rattle.search_ways.specs.Moves.{table_bytes, matrix_bytes, Marks, With, CanTake};
+ghost use Rattle.search_ways.specs.Moves.{Marks, With, CanTake};
 ghost use Rattle.game_moves.specs.Own.{Own as OwnMoves, Goes};
 
 use facts_bits::WIDTH;
 use model::{Action, Clause, Model};
 use search_states::States;
-use search_ways::MATRIX;
+use search_ways::{MATRIX, TABLE};
 
 // Marks where a `next` clause leads from each slot of its row of the table; a state without a slot is the empty one, whose slot is the one behind the last.
-fn lead(states: &[u32], plus: u32, minus: u32, table: &[u8], i: usize, moves: &mut [u8])
-    requires { (length states.now ≤ limit.atomic) × (i < limit.clauses) × (length table.now ≡ table_bytes) × (length moves.old ≡ matrix_bytes) }
+fn lead(
+    states: &[u32],
+    plus: u32,
+    minus: u32,
+    table: &[u8; TABLE],
+    i: usize,
+    moves: &mut [u8; MATRIX],
+)
+    requires { (length states.now ≤ limit.atomic) × (i < limit.clauses) }
     ensures { Marks moves.new (With moves.old (Goes table.now i states.now (action.Next plus minus))) }
 {
     for (e, state) in states.iter().enumerate() {
         if facts_bits::get(table, i * WIDTH + e) {
-            let t = search_states::seek(states, states.len(), labels::relabel(*state, plus, minus));
+            let led = labels::relabel(*state, plus, minus);
+            let t = search_states::seek(states, led).unwrap_or(states.len());
             facts_bits::put(moves, e * WIDTH + t);
         }
     }
 }
 
 // Marks where a clause leads.
-fn lead_clause(states: &[u32], c: Clause, table: &[u8], i: usize, moves: &mut [u8])
-    requires { (length states.now ≤ limit.atomic) × (i < limit.clauses) × (length table.now ≡ table_bytes) × (length moves.old ≡ matrix_bytes) }
+fn lead_clause(states: &[u32], c: Clause, table: &[u8; TABLE], i: usize, moves: &mut [u8; MATRIX])
+    requires { (length states.now ≤ limit.atomic) × (i < limit.clauses) }
     ensures { Marks moves.new (With moves.old (Goes table.now i states.now c.action)) }
 {
-    match c.action {
-        Action::Rule { .. } => {}
-        Action::New { .. } => {}
-        Action::Next { plus, minus } => lead(states, plus, minus, table, i, moves),
+    if let Action::Next { plus, minus } = c.action {
+        lead(states, plus, minus, table, i, moves);
     }
 }
 
 // The moves of a side that has the lines of a list.
-pub fn own(m: Model, s: States, table: &[u8], list: &[u32]) -> [u8; MATRIX]
-    requires { WellFormed m × Proper s × Whole (program_of m) (row s) × (length table.now ≡ table_bytes) × Marks table.now (CanTake m s) }
+pub fn own(m: Model, s: States, table: &[u8; TABLE], list: &[u32]) -> [u8; MATRIX]
+    requires { WellFormed m × Proper s × Whole (program_of m) (row s) × Marks table.now (CanTake m s) }
     ensures { Marks result (OwnMoves (program_of m) (row s) list.now) }
 {
     let states = &s.states[..s.count];
     let mut moves = [0u8; MATRIX];
     for i in 0..m.clausecount {
         let c = m.clauses[i];
-        if search_states::among(list, list.len(), c.line) {
+        if list.contains(&c.line) {
             lead_clause(states, c, table, i, &mut moves);
         }
     }

@@ -32,8 +32,6 @@ Inside w n = (e t : ℕ) → t < width.slots → in_row w e t ≡ true → (e < 
 
 pub record Fits (A B M : List ℕ) (n : ℕ) : Type 0 where
   pub few : n ≤ limit.atomic
-  pub first : length A ≡ limit.listed * width.bytes
-  pub second : length B ≡ limit.listed * width.bytes
   pub ours : Inside A n
   pub theirs : Inside B n
   -- and the empty state does not meet the question

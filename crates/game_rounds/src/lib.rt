@@ -1,14 +1,17 @@
 // The game by rounds: the numbers of a board's positions, round by round, until a round gives none.
 #![tactic(auto)]
 
-ghost use Rattle.std.specs.Prelude.{◌≡◌, suc, ◌*◌, ◌≤◌, length};
+ghost use Rattle.std.specs.Prelude.{◌≡◌, suc, ◌≤◌};
 ghost use Rattle.limits.specs.Limits as limit;
-ghost use Rattle.facts_bits.specs.Width as width;
 ghost use Rattle.games.specs.Rounds.{any, every, before};
 ghost use Rattle.game_rounds.specs.Board.{slots, Inside, Fits, rank_of, sooner, ready_by, side_of, Turned, Begun, Solves};
 
 use facts_bits::{BYTES, WIDTH};
 use limits::LISTED;
+
+// The bytes of a matrix of moves, with a row for each slot of a search.
+// The size stays here beside that of search_ways: a board is played without a search, whose crates are not named here.
+const MATRIX: usize = LISTED * BYTES;
 
 // Is the number one of a round before?
 fn sooner(rank: Option<u32>, round: u32) -> bool
@@ -21,24 +24,46 @@ fn sooner(rank: Option<u32>, round: u32) -> bool
 }
 
 // Has some slot of row e a number below the round's?
-fn some_sooner(moves: &[u8], e: usize, n: usize, ranks: &[Option<u32>], round: u32) -> bool
-    requires { (n ≤ limit.atomic) × (e ≤ n) × (length moves.now ≡ limit.listed * width.bytes) × (length ranks.now ≡ limit.listed) }
+// The facts on n and e stay clauses: e counts up to n within a turn, so that a struct of both would be made anew for each slot.
+// The parameters stay: a turn lends the moves of one side and the numbers of the other, which change places from turn to turn.
+fn some_sooner(
+    moves: &[u8; MATRIX],
+    e: usize,
+    n: usize,
+    ranks: &[Option<u32>; LISTED],
+    round: u32,
+) -> bool
+    requires { (n ≤ limit.atomic) × (e ≤ n) }
     ensures { result ≡ any (sooner ranks.now round) (slots moves.now e (suc n)) }
 {
     (0..n + 1).any(|t| facts_bits::get(moves, e * WIDTH + t) && sooner(ranks[t], round))
 }
 
 // Has each slot of row e a number below the round's?
-fn all_sooner(moves: &[u8], e: usize, n: usize, ranks: &[Option<u32>], round: u32) -> bool
-    requires { (n ≤ limit.atomic) × (e ≤ n) × (length moves.now ≡ limit.listed * width.bytes) × (length ranks.now ≡ limit.listed) }
+fn all_sooner(
+    moves: &[u8; MATRIX],
+    e: usize,
+    n: usize,
+    ranks: &[Option<u32>; LISTED],
+    round: u32,
+) -> bool
+    requires { (n ≤ limit.atomic) × (e ≤ n) }
     ensures { result ≡ every (sooner ranks.now round) (slots moves.now e (suc n)) }
 {
     (0..n + 1).all(|t| !facts_bits::get(moves, e * WIDTH + t) || sooner(ranks[t], round))
 }
 
 // Can the side get a number at slot e in this round? A side without a move passes.
-fn ready(attacks: bool, moves: &[u8], e: usize, n: usize, ranks: &[Option<u32>], round: u32) -> bool
-    requires { (n ≤ limit.atomic) × (e ≤ n) × (length moves.now ≡ limit.listed * width.bytes) × (length ranks.now ≡ limit.listed) × Inside moves.now n }
+// The flag `attacks` stays: it is asked here alone, and an enum of two sides would be asked by the same `if`.
+fn ready(
+    attacks: bool,
+    moves: &[u8; MATRIX],
+    e: usize,
+    n: usize,
+    ranks: &[Option<u32>; LISTED],
+    round: u32,
+) -> bool
+    requires { (n ≤ limit.atomic) × (e ≤ n) × Inside moves.now n }
     ensures { result ≡ ready_by (side_of attacks) moves.now e n ranks.now round }
 {
     if facts_bits::vacant(facts_bits::row(moves, e)) {
@@ -51,15 +76,16 @@ fn ready(attacks: bool, moves: &[u8], e: usize, n: usize, ranks: &[Option<u32>],
 }
 
 // One side's part of a round: each slot without a number that can get one gets the round's. Whether one did.
+// The flag `attacks` stays: it is only handed on.
 fn turn(
     attacks: bool,
-    moves: &[u8],
+    moves: &[u8; MATRIX],
     n: usize,
-    ranks: &mut [Option<u32>],
-    others: &[Option<u32>],
+    ranks: &mut [Option<u32>; LISTED],
+    others: &[Option<u32>; LISTED],
     round: u32,
 ) -> bool
-    requires { (n ≤ limit.atomic) × (length moves.now ≡ limit.listed * width.bytes) × (length ranks.old ≡ limit.listed) × (length others.now ≡ limit.listed) × Inside moves.now n }
+    requires { (n ≤ limit.atomic) × Inside moves.now n }
     ensures { Turned (side_of attacks) moves.now n ranks.old others.now round ranks.new result }
 {
     let mut changed = false;
@@ -72,7 +98,7 @@ fn turn(
     changed
 }
 
-// Before the first round: 0 where the question is met, and no number elsewhere.
+// Before the first round: the number 0 for the slots that meet the question.
 fn outset(met: [u8; BYTES], n: usize) -> [Option<u32>; LISTED]
     requires { n ≤ limit.atomic }
     ensures { Begun met n result }
@@ -87,13 +113,19 @@ fn outset(met: [u8; BYTES], n: usize) -> [Option<u32>; LISTED]
 }
 
 // The attacker's numbers on a board, for the slots 0 to n: rounds until one gives no number.
-pub fn solve(ours: &[u8], theirs: &[u8], met: [u8; BYTES], n: usize) -> [Option<u32>; LISTED]
+pub fn solve(
+    ours: &[u8; MATRIX],
+    theirs: &[u8; MATRIX],
+    met: [u8; BYTES],
+    n: usize,
+) -> [Option<u32>; LISTED]
     requires { Fits ours.now theirs.now met n }
     ensures { Solves ours.now theirs.now met n result }
 {
     let mut first = outset(met, n);
     let mut second = first;
     let mut round: u32 = 1;
+    // The loop stays: it ends when a round gives no number, after no number of rounds that is known before.
     loop {
         let moved = turn(true, ours, n, &mut first, &second, round);
         let answered = turn(false, theirs, n, &mut second, &first, round);

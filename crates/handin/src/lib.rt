@@ -1,145 +1,178 @@
 // Hand-ins: every byte list says no, or yes with a run, or is unreadable at a line.
 #![tactic(auto)]
 
-ghost use Rattle.std.specs.Prelude.{◌≡◌, true, false, List, [], ◌++◌, map, ℕ, ◌+◌, ◌≤◌, ◌<◌, length, drop};
+ghost use Rattle.std.specs.Prelude.{◌≡◌, true, false, List, [], ◌++◌, map, ℕ, ◌+◌, ◌≤◌, length, drop};
+ghost use Rattle.std.specs.Iterator.{at_most};
 ghost use Rattle.limits.specs.Limits as limit;
 ghost use Rattle.semantics.specs.Runs.{Place};
 ghost use Rattle.model.specs.Places.{number_of};
 ghost use Rattle.grammar.specs.Bytes.{lines};
 ghost use Rattle.handin.specs.Handins.{says-yes, onwards, preface, reading};
-ghost use Rattle.handin.specs.Answers.{told, LineEnd, PrefaceEnd};
+ghost use Rattle.handin.specs.Answers.{told, first_length, Gives, PrefaceEnd};
 
 use handin_lines::{read_place, read_verdict, says_nothing};
 use limits::{HANDIN, RUN};
 
-// What a hand-in says: no; or yes, with so many places, the first on line `first`; or it is unreadable at a line.
+// The run of a hand-in that says yes: so many places, the first on line `first`.
 #[derive(Clone, Copy)]
-pub enum Handin {
-    No,
-    Yes { first: u32, places: usize },
-    Unreadable { line: u32 },
+pub struct Run {
+    pub first: u32,
+    pub places: usize,
 }
 
-// Where a line begins, and its number.
+// A hand-in that is unreadable at a line.
 #[derive(Clone, Copy)]
-struct Start {
-    at: usize,
+pub struct Unreadable {
+    pub line: u32,
+}
+
+// The lines of the bytes that are left, each without its byte 10.
+#[derive(Clone, Copy)]
+struct Lines<'a> {
+    left: &'a [u8],
+}
+
+impl<'a> Iterator for Lines<'a> {
+    type Item = &'a [u8];
+
+    ghost next_gives = { Gives };
+
+    ghost remaining = { λ s. at_most (length s.left.now) };
+
+    fn next(&mut self) -> Option<&'a [u8]> {
+        let left = self.left;
+        if left.is_empty() {
+            return None;
+        }
+        let end = line_end(left);
+        self.left = behind(left, end);
+        Some(&left[..end])
+    }
+}
+
+// The bytes from where a line begins, and its number.
+#[derive(Clone, Copy)]
+struct Start<'a> {
+    left: &'a [u8],
     line: u32,
 }
 
-// Where the line that is next ends.
-fn line_end(handin: &[u8], at: usize) -> usize
-    requires { at < length handin.now }
-    ensures { LineEnd handin.now at result }
+// Where the first line ends.
+fn line_end(left: &[u8]) -> usize
+    ensures { result ≡ first_length left.now }
 {
-    for i in at..handin.len() {
-        if handin[i] == b'\n' {
-            return i;
-        }
+    left.iter().position(|b| *b == b'\n').unwrap_or(left.len())
+}
+
+// The bytes behind the line that ends there.
+fn behind(left: &[u8], end: usize) -> &[u8]
+    ensures { result.now ≡ drop (end + 1) left.now }
+{
+    if end < left.len() {
+        &left[end + 1..]
+    } else {
+        &[]
     }
-    handin.len()
 }
 
 // Past the lines that say nothing, from line 2 on.
-fn preface_end(handin: &[u8], at: usize) -> Start
-    requires { (length handin.now ≤ limit.handin) × (1 ≤ at) × (at ≤ length handin.now + 1) }
-    ensures { PrefaceEnd handin.now at result }
+// The walk stays a `while`: the line that ends it is read again, and a `for` would have taken it.
+fn preface_end(left: &[u8]) -> Start<'_>
+    requires { length left.now ≤ limit.handin }
+    ensures { PrefaceEnd left.now result }
 {
-    let mut i = at;
-    let mut line = 2;
-    while i < handin.len() {
-        let e = line_end(handin, i);
-        if !says_nothing(&handin[i..e]) {
-            return Start { at: i, line };
+    let mut lines = Lines { left };
+    let mut start = Start { left, line: 2 };
+    while let Some(said) = lines.next() {
+        if !says_nothing(said) {
+            return start;
         }
-        i = e + 1;
-        line += 1;
+        start = Start {
+            left: lines.left,
+            line: start.line + 1,
+        };
     }
-    Start { at: i, line }
+    start
 }
 
 // The places from line `first` on.
-fn read_places(handin: &[u8], at: usize, first: u32) -> Handin
-    requires { (length handin.now ≤ limit.handin) × (at ≤ length handin.now + 1) × (first ≤ at + 1) }
-    ensures { result ≡ told (onwards first [] (lines (drop at handin.now))) }
+fn read_places(left: &[u8], first: u32) -> Result<Option<Run>, Unreadable>
+    requires { first ≤ limit.handin + 2 }
+    ensures { result ≡ told (onwards first [] (lines left.now)) }
 {
-    let mut i = at;
+    let lines = Lines { left };
     let mut places = 0;
-    while i < handin.len() {
+    for line in lines {
         if places == RUN {
-            return Handin::Unreadable {
+            return Err(Unreadable {
                 line: first + places as u32,
-            };
+            });
         }
-        let e = line_end(handin, i);
-        let Some(_) = read_place(&handin[i..e]) else {
-            return Handin::Unreadable {
+        let Some(_) = read_place(line) else {
+            return Err(Unreadable {
                 line: first + places as u32,
-            };
+            });
         };
         places += 1;
-        i = e + 1;
     }
-    Handin::Yes { first, places }
+    Ok(Some(Run { first, places }))
 }
 
-// The lines from `at` on, after a yes.
-fn after_yes(handin: &[u8], at: usize) -> Handin
-    requires { (length handin.now ≤ limit.handin) × (1 ≤ at) × (at ≤ length handin.now + 1) }
-    ensures { result ≡ told (preface true 2 (lines (drop at handin.now))) }
+// The lines after a yes.
+fn after_yes(left: &[u8]) -> Result<Option<Run>, Unreadable>
+    requires { length left.now ≤ limit.handin }
+    ensures { result ≡ told (preface true 2 (lines left.now)) }
 {
-    let s = preface_end(handin, at);
-    read_places(handin, s.at, s.line)
+    let s = preface_end(left);
+    read_places(s.left, s.line)
 }
 
-// The lines from `at` on, after a no.
-fn after_no(handin: &[u8], at: usize) -> Handin
-    requires { (length handin.now ≤ limit.handin) × (1 ≤ at) × (at ≤ length handin.now + 1) }
-    ensures { result ≡ told (preface false 2 (lines (drop at handin.now))) }
+// The lines after a no.
+fn after_no(left: &[u8]) -> Result<Option<Run>, Unreadable>
+    requires { length left.now ≤ limit.handin }
+    ensures { result ≡ told (preface false 2 (lines left.now)) }
 {
-    let s = preface_end(handin, at);
-    if s.at < handin.len() {
-        Handin::Unreadable { line: s.line }
+    let s = preface_end(left);
+    if s.left.is_empty() {
+        Ok(None)
     } else {
-        Handin::No
+        Err(Unreadable { line: s.line })
     }
 }
 
-// Reads a hand-in: its size, its first line, and the others.
-pub fn read(handin: &[u8]) -> Handin
+// Reads a hand-in, its size, its first line, and the others: none says no.
+pub fn read(handin: &[u8]) -> Result<Option<Run>, Unreadable>
     ensures { result ≡ told (reading handin.now) }
 {
     if HANDIN < handin.len() {
-        return Handin::Unreadable { line: 0 };
+        return Err(Unreadable { line: 0 });
     }
-    if handin.is_empty() {
-        return Handin::Unreadable { line: 1 };
-    }
-    let e = line_end(handin, 0);
-    match read_verdict(&handin[..e]) {
-        Some(true) => after_yes(handin, e + 1),
-        Some(false) => after_no(handin, e + 1),
-        None => Handin::Unreadable { line: 1 },
+    let mut lines = Lines { left: handin };
+    let Some(first) = lines.next() else {
+        return Err(Unreadable { line: 1 });
+    };
+    match read_verdict(first) {
+        Some(true) => after_yes(lines.left),
+        Some(false) => after_no(lines.left),
+        None => Err(Unreadable { line: 1 }),
     }
 }
 
-// Writes the numbers of the places from `at` on into the table.
-fn write_places(handin: &[u8], at: usize, run: &mut [u32])
-    requires { (length handin.now ≤ limit.handin) × (at ≤ length handin.now + 1) × (limit.run ≤ length run.old)
-        × ((n first : ℕ) × (ps : List Place) × (onwards n [] (lines (drop at handin.now)) ≡ says-yes first ps)) }
-    ensures { (n first : ℕ) (ps : List Place) → onwards n [] (lines (drop at handin.now)) ≡ says-yes first ps
+// Writes the numbers of the places into the table.
+fn write_places(left: &[u8], run: &mut [u32])
+    requires { (limit.run ≤ length run.old)
+        × ((n first : ℕ) × (ps : List Place) × (onwards n [] (lines left.now) ≡ says-yes first ps)) }
+    ensures { (n first : ℕ) (ps : List Place) → onwards n [] (lines left.now) ≡ says-yes first ps
         → run.new ≡ map number_of ps ++ drop (length ps) run.old }
 {
-    let mut i = at;
+    let lines = Lines { left };
     let mut k = 0;
-    while i < handin.len() {
-        let e = line_end(handin, i);
-        let Some(number) = read_place(&handin[i..e]) else {
+    for line in lines {
+        let Some(number) = read_place(line) else {
             return;
         };
         run[k] = number;
         k += 1;
-        i = e + 1;
     }
 }
 
@@ -149,7 +182,10 @@ pub fn write(handin: &[u8], run: &mut [u32])
     ensures { (first : ℕ) (ps : List Place) → reading handin.now ≡ says-yes first ps
         → run.new ≡ map number_of ps ++ drop (length ps) run.old }
 {
-    let e = line_end(handin, 0);
-    let s = preface_end(handin, e + 1);
-    write_places(handin, s.at, run);
+    let mut lines = Lines { left: handin };
+    let Some(_) = lines.next() else {
+        return;
+    };
+    let s = preface_end(lines.left);
+    write_places(s.left, run);
 }

@@ -1,27 +1,30 @@
 -- Laws of the shapes of a line: steps, meetings, and the first words.
-use mathlib.Core.Path.{◌≡◌, refl, sym, ◌∙◌}
-use mathlib.Core.Bool.{true, false, cond}
-use mathlib.Core.List.{List, [], ◌∷◌, append-nil}
-use mathlib.Core.Option.{Option, none, some, none-ne-some}
-use Prim.Native.Nat.{ℕ, suc, ◌<◌}
+use mathlib.Core.Path.{◌≡◌, refl, sym, ap, ◌∙◌}
+use mathlib.Core.Logic.{⊎_elim}
+use mathlib.Core.Bool.{Bool, true, false, cond}
+use mathlib.Core.List.{List, [], ◌∷◌, ◌++◌, append-nil}
+use mathlib.Core.Option.{Option, none, some, none-ne-some, get_or}
+use Prim.Native.Nat.{ℕ, suc}
 use native.Mathlib.Omega.{arith}
-use lib.ListN.{drop}
+use lib.Dec.{eqb}
+use lib.ListN.{length, drop}
+use borrow.Author.Tests.{eqb-true}
 use Rattle.semantics.specs.Runs as runs
 use Rattle.semantics.specs.Runs.{step, meet}
 use Rattle.model.specs.Places.{number_of, numeral}
 use Rattle.model.specs.declared.Place.TheVariants.{Step, Meeting}
-use Rattle.grammar.specs.Bytes.{bytes, same}
-use Rattle.grammar.specs.Shapes.{Read, ◌>>=◌, after, rest, whole}
+use Rattle.grammar.specs.Bytes.{bytes, Word, same}
+use Rattle.grammar.specs.Shapes.{Read, ◌>>=◌, after, whether, rest, whole}
+use Rattle.grammar.proofs.Tests.{either}
 use Rattle.grammar.proofs.Reading.{onto, onto-nothing, onto-more, rest-closes, rest-ends, rest-fails, rest-item}
-use Rattle.handin_lines.specs.Lines.{verdict, below, Said, place, states_rest, atomic_rest, step_rest, meet_rest, line, said_by}
-use Rattle.handin_lines.specs.Found.{BelowAt, object, last, met, answer, clear}
+use Rattle.handin_lines.specs.Lines.{verdict, number, below, letters, Said, nothing, place, states_rest, atomic_rest, step_rest, meet_rest, line, said_by}
+use Rattle.handin_lines.specs.Found.{BelowAt, object, last, met, is_silent, number_said, clear}
 use Rattle.handin_lines.specs.declared.Number.{Number}
-use Rattle.handin_lines.specs.declared.Said.TheVariants.{Place}
 use Rattle.std.specs.Prelude.{Some, None}
 use Rattle.handin_lines.proofs.Laws.{space-open}
 
 -- A PLACE, if the line ends with the bracket that is next
-end-place : (p : runs.Place) (o : Option (List ℕ)) → cond (last o) (Some (Place (number_of p))) None ≡ answer (whole (o >>= λ t. some (place p, t)))
+end-place : (p : runs.Place) (o : Option (List ℕ)) → cond (last o) (Some (number_of p)) None ≡ number_said (whole (o >>= λ t. some (place p, t)))
 end-place p none = refl
 end-place p (some []) = refl
 end-place p (some (b ∷ s)) = refl
@@ -32,25 +35,25 @@ object-then : {B : Type 0} (f : ℕ × List ℕ → Option B) (o : Option (List 
 object-then f none = refl
 object-then f (some t) = refl
 
-pub step-lineless : (s : List ℕ) → below 8388608 s ≡ none → None ≡ answer (whole (step_rest s))
+pub step-lineless : (s : List ℕ) → below 8388608 s ≡ none → None ≡ number_said (whole (step_rest s))
 unfolding step_rest
 step-lineless s z = rw z
 
-module _ {text : List ℕ} {at : ℕ} {n : Number} (stepped : BelowAt text at 8388608 (below 8388608 (drop at text)) n) where
+module _ (l : List ℕ) {n : Number} (stepped : BelowAt 8388608 (below 8388608 l) n) where
   abbrev rest_of : ℕ × List ℕ → Read Said
   rest_of p = after (bytes ")") p.1 >>= λ z. some (place (step n.value p.0), z)
 
-  step-read : step_rest (drop at text) ≡ (object (drop n.end text) >>= rest_of)
+  step-read : step_rest l ≡ (object n.rest.now >>= rest_of)
   unfolding step_rest
-  step-read = rw stepped.found (object-then rest_of (after (bytes " ") (drop n.end text)))
+  step-read = rw stepped.found (object-then rest_of (after (bytes " ") n.rest.now))
 
-  pub step-objectless : object (drop n.end text) ≡ none → None ≡ answer (whole (step_rest (drop at text)))
+  pub step-objectless : object n.rest.now ≡ none → None ≡ number_said (whole (step_rest l))
   step-objectless z = rw (step-read, z)
 
-  pub step-found : {o : Number} → BelowAt text n.end 255 (object (drop n.end text)) o → met text o.end (numeral (Step n.value o.value)) ≡ answer (whole (step_rest (drop at text)))
+  pub step-found : {o : Number} → BelowAt 255 (object n.rest.now) o → met o.rest.now (numeral (Step n.value o.value)) ≡ number_said (whole (step_rest l))
   step-found {o} moved =
       let e : numeral (Step n.value o.value) ≡ number_of (step n.value o.value) = omega (arith, stepped.small, moved.small) in
-      rw (step-read, moved.found, e) (end-place (step n.value o.value) (after (bytes ")") (drop o.end text)))
+      rw (step-read, moved.found, e) (end-place (step n.value o.value) (after (bytes ")") o.rest.now))
 
 -- MEETINGS
 -- one object more
@@ -72,53 +75,122 @@ object-none k s e = go (after (bytes ")") s) refl (after (bytes " ") s) refl
 
 -- the objects xs are read, and the bracket ends
 met-end : (i : ℕ) (xs : List ℕ) (o : Option (List ℕ))
-    → cond (last o) (Some (Place (number_of (meet i xs)))) None ≡ answer (whole (onto xs (o >>= λ t. some ([], t)) >>= λ p. some (place (meet i p.0), p.1)))
+    → cond (last o) (Some (number_of (meet i xs))) None ≡ number_said (whole (onto xs (o >>= λ t. some ([], t)) >>= λ p. some (place (meet i p.0), p.1)))
 met-end i xs none = refl
 met-end i xs (some []) = rw append-nil
 met-end i xs (some (b ∷ s)) = refl
 
-pub meet-stageless : (s : List ℕ) → below 128 s ≡ none → None ≡ answer (whole (meet_rest s))
+pub meet-stageless : (s : List ℕ) → below 128 s ≡ none → None ≡ number_said (whole (meet_rest s))
 unfolding meet_rest
 meet-stageless s z = rw z
 
-module _ {text : List ℕ} {at : ℕ} {n : Number} (staged : BelowAt text at 128 (below 128 (drop at text)) n) where
+module _ (l : List ℕ) {n : Number} (staged : BelowAt 128 (below 128 l) n) where
   -- the objects xs are read up to e, and no more follow
-  met-there : (xs : List ℕ) (k e number : ℕ) → number ≡ number_of (meet n.value xs) → rest (below 255) 3 (drop n.end text) ≡ onto xs (rest (below 255) k (drop e text))
-      → rest (below 255) k (drop e text) ≡ (after (bytes ")") (drop e text) >>= λ t. some ([], t)) → met text e number ≡ answer (whole (meet_rest (drop at text)))
+  met-there : (xs : List ℕ) (k : ℕ) (e : List ℕ) (number : ℕ) → number ≡ number_of (meet n.value xs) → rest (below 255) 3 n.rest.now ≡ onto xs (rest (below 255) k e)
+      → rest (below 255) k e ≡ (after (bytes ")") e >>= λ t. some ([], t)) → met e number ≡ number_said (whole (meet_rest l))
   unfolding meet_rest
-  met-there xs k e number z r s = rw (staged.found, r, s, z) (met-end n.value xs (after (bytes ")") (drop e text)))
+  met-there xs k e number z r s = rw (staged.found, r, s, z) (met-end n.value xs (after (bytes ")") e))
 
-  pub meet-none : object (drop n.end text) ≡ none → met text n.end (numeral (Meeting n.value 255 255 255)) ≡ answer (whole (meet_rest (drop at text)))
+  pub meet-none : object n.rest.now ≡ none → met n.rest.now (numeral (Meeting n.value 255 255 255)) ≡ number_said (whole (meet_rest l))
   meet-none z =
-      met-there [] 3 n.end (numeral (Meeting n.value 255 255 255)) (omega (arith, staged.small))
-      (sym (onto-nothing (rest (below 255) 3 (drop n.end text)))) (object-none 3 (drop n.end text) z)
+      met-there [] 3 n.rest.now (numeral (Meeting n.value 255 255 255)) (omega (arith, staged.small))
+      (sym (onto-nothing (rest (below 255) 3 n.rest.now))) (object-none 3 n.rest.now z)
 
-  module _ {a : Number} (one : BelowAt text n.end 255 (object (drop n.end text)) a) where
-    first : rest (below 255) 3 (drop n.end text) ≡ onto (a.value ∷ []) (rest (below 255) 2 (drop a.end text))
-    first = object-more 2 (drop n.end text) one.found
+  module _ {a : Number} (one : BelowAt 255 (object n.rest.now) a) where
+    first : rest (below 255) 3 n.rest.now ≡ onto (a.value ∷ []) (rest (below 255) 2 a.rest.now)
+    first = object-more 2 n.rest.now one.found
 
-    pub meet_one : object (drop a.end text) ≡ none → met text a.end (numeral (Meeting n.value a.value 255 255)) ≡ answer (whole (meet_rest (drop at text)))
+    pub meet_one : object a.rest.now ≡ none → met a.rest.now (numeral (Meeting n.value a.value 255 255)) ≡ number_said (whole (meet_rest l))
     meet_one z =
-        met-there (a.value ∷ []) 2 a.end (numeral (Meeting n.value a.value 255 255)) (omega (arith, staged.small, one.small))
-        first (object-none 2 (drop a.end text) z)
+        met-there (a.value ∷ []) 2 a.rest.now (numeral (Meeting n.value a.value 255 255)) (omega (arith, staged.small, one.small))
+        first (object-none 2 a.rest.now z)
 
-    module _ {b : Number} (two : BelowAt text a.end 255 (object (drop a.end text)) b) where
-      second : rest (below 255) 3 (drop n.end text) ≡ onto (a.value ∷ b.value ∷ []) (rest (below 255) 1 (drop b.end text))
-      second = first ∙ rw (object-more 1 (drop a.end text) two.found) (onto-more (a.value ∷ []) b.value (rest (below 255) 1 (drop b.end text)))
+    module _ {b : Number} (two : BelowAt 255 (object a.rest.now) b) where
+      second : rest (below 255) 3 n.rest.now ≡ onto (a.value ∷ b.value ∷ []) (rest (below 255) 1 b.rest.now)
+      second = first ∙ rw (object-more 1 a.rest.now two.found) (onto-more (a.value ∷ []) b.value (rest (below 255) 1 b.rest.now))
 
-      pub meet-two : object (drop b.end text) ≡ none → met text b.end (numeral (Meeting n.value a.value b.value 255)) ≡ answer (whole (meet_rest (drop at text)))
+      pub meet-two : object b.rest.now ≡ none → met b.rest.now (numeral (Meeting n.value a.value b.value 255)) ≡ number_said (whole (meet_rest l))
       meet-two z =
-          met-there (a.value ∷ b.value ∷ []) 1 b.end (numeral (Meeting n.value a.value b.value 255)) (omega (arith, staged.small, one.small, two.small))
-          second (object-none 1 (drop b.end text) z)
+          met-there (a.value ∷ b.value ∷ []) 1 b.rest.now (numeral (Meeting n.value a.value b.value 255)) (omega (arith, staged.small, one.small, two.small))
+          second (object-none 1 b.rest.now z)
 
-      pub meet-three : {c : Number} → BelowAt text b.end 255 (object (drop b.end text)) c → met text c.end (numeral (Meeting n.value a.value b.value c.value)) ≡ answer (whole (meet_rest (drop at text)))
+      pub meet-three : {c : Number} → BelowAt 255 (object b.rest.now) c → met c.rest.now (numeral (Meeting n.value a.value b.value c.value)) ≡ number_said (whole (meet_rest l))
       unfolding rest
       meet-three {c} three =
-          met-there (a.value ∷ b.value ∷ c.value ∷ []) 0 c.end (numeral (Meeting n.value a.value b.value c.value))
+          met-there (a.value ∷ b.value ∷ c.value ∷ []) 0 c.rest.now (numeral (Meeting n.value a.value b.value c.value))
           (omega (arith, staged.small, one.small, two.small, three.small))
-          (second ∙ rw (object-more 0 (drop b.end text) three.found) (onto-more (a.value ∷ b.value ∷ []) c.value (rest (below 255) 0 (drop c.end text)))) refl
+          (second ∙ rw (object-more 0 b.rest.now three.found) (onto-more (a.value ∷ b.value ∷ []) c.value (rest (below 255) 0 c.rest.now))) refl
+
+-- STEPS AND MEETINGS say a place, and the others none
+said-place : (p : runs.Place) (o : Option (List ℕ)) → is_silent (whole (o >>= λ t. some (place p, t))) ≡ false
+said-place p none = refl
+said-place p (some []) = refl
+said-place p (some (b ∷ s)) = refl
+
+step-said : (s : List ℕ) → is_silent (whole (step_rest s)) ≡ false
+unfolding step_rest
+step-said s = go (below 8388608 s)
+  where
+    last-of : (ℓ : ℕ) (r : Read ℕ) → is_silent (whole (r >>= λ p. after (bytes ")") p.1 >>= λ z. some (place (step ℓ p.0), z))) ≡ false
+    last-of ℓ none = refl
+    last-of ℓ (some p) = said-place (step ℓ p.0) (after (bytes ")") p.1)
+
+    object-of : (ℓ : ℕ) (o : Option (List ℕ)) → is_silent (whole (o >>= λ u. below 255 u >>= λ p. after (bytes ")") p.1 >>= λ z. some (place (step ℓ p.0), z))) ≡ false
+    object-of ℓ none = refl
+    object-of ℓ (some u) = last-of ℓ (below 255 u)
+
+    go : (r : Read ℕ) → is_silent (whole (r >>= λ q. after (bytes " ") q.1 >>= λ u. below 255 u >>= λ p. after (bytes ")") p.1 >>= λ z. some (place (step q.0 p.0), z))) ≡ false
+    go none = refl
+    go (some q) = object-of q.0 (after (bytes " ") q.1)
+
+meet-said : (s : List ℕ) → is_silent (whole (meet_rest s)) ≡ false
+unfolding meet_rest
+meet-said s = go (below 128 s)
+  where
+    last-of : (i : ℕ) (r : Read (List ℕ)) → is_silent (whole (r >>= λ p. some (place (meet i p.0), p.1))) ≡ false
+    last-of i none = refl
+    last-of i (some (os, [])) = refl
+    last-of i (some (os, b ∷ u)) = refl
+
+    go : (r : Read ℕ) → is_silent (whole (r >>= λ q. rest (below 255) 3 q.1 >>= λ p. some (place (meet q.0 p.0), p.1))) ≡ false
+    go none = refl
+    go (some q) = last-of q.0 (rest (below 255) 3 q.1)
+
+states-said : (s : List ℕ) → number_said (whole (states_rest s)) ≡ None
+unfolding states_rest
+states-said s = go (number s)
+  where
+    last-of : (o : Option (List ℕ)) → number_said (whole (o >>= λ u. some (nothing, u))) ≡ None
+    last-of none = refl
+    last-of (some []) = refl
+    last-of (some (b ∷ u)) = refl
+
+    go : (r : Read ℕ) → number_said (whole (r >>= λ q. after (bytes ")") q.1 >>= λ u. some (nothing, u))) ≡ None
+    go none = refl
+    go (some q) = last-of (after (bytes ")") q.1)
+
+atomic-said : (s : List ℕ) → number_said (whole (atomic_rest s)) ≡ None
+unfolding atomic_rest
+atomic-said s = go (rest letters (length s) s)
+  where
+    go : (r : Read (List Word)) → number_said (whole (r >>= λ p. some (nothing, p.1))) ≡ None
+    go none = refl
+    go (some (ws, [])) = refl
+    go (some (ws, b ∷ u)) = refl
 
 -- BY ITS FIRST WORD
+front : (w s : List ℕ) {t : List ℕ} → after w s ≡ some t → s ≡ w ++ t
+front [] s {t} e = ap (λ (o : Option (List ℕ)). get_or o s) e
+front (b ∷ w) [] e = absurd (none-ne-some _ e)
+front (b ∷ w) (c ∷ s) {t} e = ⊎_elim
+    (λ (q : eqb b c ≡ true). let z = eqb-true b c q in let y = front w s (rw q at e) in cc)
+    (λ (q : eqb b c ≡ false). absurd (none-ne-some _ (rw q at e))) (either (eqb b c))
+
+-- a line that says nothing
+pub silent-same : {r : Bool} {o : Option Said} → o ≡ cond r (some nothing) none → r ≡ is_silent o
+silent-same {r = true} e = rw e
+silent-same {r = false} e = rw e
+
 module _ (text : List ℕ) where
   pub line-states : after (bytes "(states ") text ≡ some (drop 8 text) → said_by text ≡ whole (states_rest (drop 8 text))
   unfolding said_by line
@@ -129,19 +201,32 @@ module _ (text : List ℕ) where
     unfolding said_by line
     line-atomic e = rw (n, e)
 
-    module _ (a : after (bytes "(atomic") text ≡ none) where
-      pub line_step : after (bytes "(step ") text ≡ some (drop 6 text) → said_by text ≡ whole (step_rest (drop 6 text))
-      unfolding said_by line
-      line_step e = rw (n, a, e)
+    pub line-loud : after (bytes "(atomic") text ≡ none → false ≡ is_silent (said_by text)
+    unfolding said_by line
+    line-loud a = rw (n, a) (sym (go (after (bytes "(step ") text) (after (bytes "(meet ") text)))
+      where
+        go : (o p : Option (List ℕ)) → is_silent (whole (whether o step_rest (p >>= meet_rest))) ≡ false
+        go none none = refl
+        go none (some t) = meet-said t
+        go (some t) p = step-said t
 
-      module _ (s : after (bytes "(step ") text ≡ none) where
-        pub line-meet : after (bytes "(meet ") text ≡ some (drop 6 text) → said_by text ≡ whole (meet_rest (drop 6 text))
-        unfolding said_by line
-        line-meet e = rw (n, a, s, e)
+-- a line that says a place
+pub line_step : (text : List ℕ) {t : List ℕ} → after (bytes "(step ") text ≡ some t → said_by text ≡ whole (step_rest t)
+unfolding said_by line
+line_step text e = let z = front (bytes "(step ") text e in rw z
 
-        pub line-none : after (bytes "(meet ") text ≡ none → said_by text ≡ none
-        unfolding said_by line
-        line-none e = rw (n, a, s, e)
+pub line-meet : (text : List ℕ) {t : List ℕ} → after (bytes "(meet ") text ≡ some t → said_by text ≡ whole (meet_rest t)
+unfolding said_by line
+line-meet text e = let z = front (bytes "(meet ") text e in rw z
+
+pub line-placeless : (text : List ℕ) → after (bytes "(step ") text ≡ none → after (bytes "(meet ") text ≡ none → None ≡ number_said (said_by text)
+unfolding said_by line
+line-placeless text s m = rw (s, m) (sym (go (after (bytes "(states ") text) (after (bytes "(atomic") text)))
+  where
+    go : (o p : Option (List ℕ)) → number_said (whole (whether o states_rest (whether p atomic_rest none))) ≡ None
+    go none none = refl
+    go none (some t) = atomic-said t
+    go (some t) p = states-said t
 
 -- THE FIRST LINE
 module _ (text : List ℕ) where

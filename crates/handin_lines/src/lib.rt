@@ -1,4 +1,4 @@
-// One line of a hand-in, without its byte 10. Each reader takes the line and a place in it.
+// One line of a hand-in, without its byte 10. Each reader takes what is left of the line.
 #![tactic(auto)]
 
 ghost use Rattle.std.specs.Prelude.{◌≡◌, cond, ◌+◌, ◌-◌, ◌*◌, ◌≤◌, ◌<◌, length, drop};
@@ -9,55 +9,43 @@ ghost use Rattle.model.specs.Places.{numeral};
 ghost use Rattle.grammar.specs.Bytes.{bytes};
 ghost use Rattle.grammar.specs.Shapes.{after, whole};
 ghost use Rattle.handin_lines.specs.Lines.{verdict, below, nothing, states_rest, atomic_rest, step_rest, meet_rest, said_by};
-ghost use Rattle.handin_lines.specs.Found.{cut, DigitsEnd, NumberEnd, BelowEnd, object, last, met, answer, is_silent, number_said, clear};
+ghost use Rattle.handin_lines.specs.Found.{cut, DigitsEnd, NumberEnd, BelowEnd, object, last, met, is_silent, number_said, clear};
 
 use limits::NONE;
 use model::{Place, number_of};
 use text_scan::{at_byte, at_bytes, same_words, word_end};
 
-// What a line after the first says: nothing, or the place with this number.
+// A number, and what is left of the line behind it.
 #[derive(Clone, Copy)]
-enum Said {
-    Nothing,
-    Place { number: u32 },
-}
-
-// A number, and where it ends.
-#[derive(Clone, Copy)]
-struct Number {
+struct Number<'a> {
     value: u32,
-    end: usize,
+    rest: &'a [u8],
 }
 
 // From this number on all are alike.
 const LARGE: u32 = 8_388_608;
 
 // Whether the line ends with the bracket that is next.
-fn ends(line: &[u8], at: usize) -> bool
-    requires { at ≤ length line.now }
-    ensures { result ≡ last (after (bytes ")") (drop at line.now)) }
+fn ends(line: &[u8]) -> bool
+    ensures { result ≡ last (after (bytes ")") line.now) }
 {
-    at_byte(line, at, b')') && line.len() == at + 1
+    at_byte(line, 0, b')') && line.len() == 1
 }
 
 // Whether words are next, up to the end of the line.
-fn is_words(line: &[u8], at: usize) -> bool
-    requires { at ≤ length line.now }
-    ensures { whole (atomic_rest (drop at line.now)) ≡ cond result (some nothing) none }
+// The walk stays a `while`: each word begins where the one before it ends.
+fn is_words(line: &[u8]) -> bool
+    ensures { whole (atomic_rest line.now) ≡ cond result (some nothing) none }
 {
-    let mut i = at;
-    while i < line.len() {
-        if at_byte(line, i, b' ') {
-            let e = word_end(line, i + 1);
-            if e == i + 1 {
-                return false;
-            }
-            i = e;
-        } else {
-            return ends(line, i);
+    let mut left = line;
+    while at_byte(left, 0, b' ') {
+        let e = word_end(left, 1);
+        if e == 1 {
+            return false;
         }
+        left = &left[e..];
     }
-    false
+    ends(left)
 }
 
 // One digit more.
@@ -69,94 +57,84 @@ fn add_digit(value: u32, b: u8) -> u32
 }
 
 // The digits that are next.
-fn read_digits(line: &[u8], at: usize) -> Number
-    requires { at ≤ length line.now }
-    ensures { DigitsEnd line.now at result }
+fn read_digits(line: &[u8]) -> Number<'_>
+    ensures { DigitsEnd line.now result }
 {
     let mut value = 0;
-    for i in at..line.len() {
+    for i in 0..line.len() {
         match line[i] {
             b @ b'0'..=b'9' => value = add_digit(value, b),
-            _ => return Number { value, end: i },
+            _ => {
+                return Number {
+                    value,
+                    rest: &line[i..],
+                };
+            }
         }
     }
-    Number {
-        value,
-        end: line.len(),
-    }
+    Number { value, rest: &[] }
 }
 
 // The numeral that is next: none of more than one digit begins with 0.
-fn read_number(line: &[u8], at: usize) -> Option<Number>
-    requires { at ≤ length line.now }
-    ensures { NumberEnd line.now at result }
+fn read_number(line: &[u8]) -> Option<Number<'_>>
+    ensures { NumberEnd line.now result }
 {
-    let r = read_digits(line, at);
-    if r.end == at {
+    let r = read_digits(line);
+    let digits = line.len() - r.rest.len();
+    if digits == 0 {
         return None;
     }
-    if r.end != at + 1 && line[at] == b'0' {
+    if digits != 1 && line[0] == b'0' {
         return None;
     }
     Some(r)
 }
 
 // The number below n that is next.
-fn read_below(line: &[u8], at: usize, n: u32) -> Option<Number>
-    requires { (at ≤ length line.now) × (n ≤ 8388608) }
-    ensures { BelowEnd line.now at n (below n (drop at line.now)) result }
+fn read_below(line: &[u8], n: u32) -> Option<Number<'_>>
+    requires { n ≤ 8388608 }
+    ensures { BelowEnd n (below n line.now) result }
 {
-    let r = read_number(line, at)?;
+    let r = read_number(line)?;
     if r.value < n { Some(r) } else { None }
 }
 
 // The object that is next in a bracket.
-fn read_object(line: &[u8], at: usize) -> Option<Number>
-    requires { at ≤ length line.now }
-    ensures { BelowEnd line.now at limit.objects (object (drop at line.now)) result }
+fn read_object(line: &[u8]) -> Option<Number<'_>>
+    ensures { BelowEnd limit.objects (object line.now) result }
 {
-    if at_byte(line, at, b' ') {
-        read_below(line, at + 1, NONE)
+    if at_byte(line, 0, b' ') {
+        read_below(&line[1..], NONE)
     } else {
         None
     }
 }
 
 // What is left of a `states` line after its first word.
-fn is_number(line: &[u8], at: usize) -> bool
-    requires { at ≤ length line.now }
-    ensures { whole (states_rest (drop at line.now)) ≡ cond result (some nothing) none }
+fn is_number(line: &[u8]) -> bool
+    ensures { whole (states_rest line.now) ≡ cond result (some nothing) none }
 {
-    match read_number(line, at) {
-        Some(n) => ends(line, n.end),
+    match read_number(line) {
+        Some(n) => ends(n.rest),
         None => false,
     }
 }
 
-// The place, if the line ends with the bracket that is next.
-fn end_place(line: &[u8], at: usize, p: Place) -> Option<Said>
-    requires { at ≤ length line.now }
-    ensures { result ≡ met line.now at (numeral p) }
+// The number of the place, if the line ends with the bracket that is next.
+fn end_place(line: &[u8], p: Place) -> Option<u32>
+    ensures { result ≡ met line.now (numeral p) }
 {
-    if ends(line, at) {
-        Some(Said::Place {
-            number: number_of(p),
-        })
-    } else {
-        None
-    }
+    if ends(line) { Some(number_of(p)) } else { None }
 }
 
-// What is left of a `step` line after its first word.
-fn read_step(line: &[u8], at: usize) -> Option<Said>
-    requires { at ≤ length line.now }
-    ensures { result ≡ answer (whole (step_rest (drop at line.now))) }
+// The number of the place that is left of a `step` line after its first word.
+fn read_step(line: &[u8]) -> Option<u32>
+    ensures { result ≡ number_said (whole (step_rest line.now)) }
 {
-    let n = read_below(line, at, LARGE)?;
-    let o = read_object(line, n.end)?;
+    let n = read_below(line, LARGE)?;
+    let o = read_object(n.rest)?;
     end_place(
-        line,
-        o.end,
+        o.rest,
         Place::Step {
             line: n.value,
             object: o.value,
@@ -164,21 +142,12 @@ fn read_step(line: &[u8], at: usize) -> Option<Said>
     )
 }
 
-// The meeting of these objects, if the line ends with the bracket that is next.
-fn end_meeting(
-    line: &[u8],
-    at: usize,
-    stage: u32,
-    first: u32,
-    second: u32,
-    third: u32,
-) -> Option<Said>
-    requires { at ≤ length line.now }
-    ensures { result ≡ met line.now at (numeral (Meeting stage first second third)) }
+// The number of the meeting of these objects, if the line ends with the bracket that is next.
+fn end_meeting(line: &[u8], stage: u32, first: u32, second: u32, third: u32) -> Option<u32>
+    ensures { result ≡ met line.now (numeral (Meeting stage first second third)) }
 {
     end_place(
         line,
-        at,
         Place::Meeting {
             stage,
             first,
@@ -188,65 +157,48 @@ fn end_meeting(
     )
 }
 
-// What is left of a `meet` line after its first word.
-fn read_meeting(line: &[u8], at: usize) -> Option<Said>
-    requires { at ≤ length line.now }
-    ensures { result ≡ answer (whole (meet_rest (drop at line.now))) }
+// The number of the place that is left of a `meet` line after its first word.
+// 255 stays for no object: the place's number is written into the run table that C lends.
+fn read_meeting(line: &[u8]) -> Option<u32>
+    ensures { result ≡ number_said (whole (meet_rest line.now)) }
 {
-    let n = read_below(line, at, 128)?;
-    let Some(a) = read_object(line, n.end) else {
-        return end_meeting(line, n.end, n.value, NONE, NONE, NONE);
+    let n = read_below(line, 128)?;
+    let Some(a) = read_object(n.rest) else {
+        return end_meeting(n.rest, n.value, NONE, NONE, NONE);
     };
-    let Some(b) = read_object(line, a.end) else {
-        return end_meeting(line, a.end, n.value, a.value, NONE, NONE);
+    let Some(b) = read_object(a.rest) else {
+        return end_meeting(a.rest, n.value, a.value, NONE, NONE);
     };
-    let Some(c) = read_object(line, b.end) else {
-        return end_meeting(line, b.end, n.value, a.value, b.value, NONE);
+    let Some(c) = read_object(b.rest) else {
+        return end_meeting(b.rest, n.value, a.value, b.value, NONE);
     };
-    end_meeting(line, c.end, n.value, a.value, b.value, c.value)
-}
-
-// Nothing, if the line is one that says so.
-fn nothing_if(known: bool) -> Option<Said>
-    ensures { result ≡ answer (cond known (some nothing) none) }
-{
-    known.then_some(Said::Nothing)
-}
-
-// A line after the first, if it can be read.
-fn read_line(line: &[u8]) -> Option<Said>
-    ensures { result ≡ answer (said_by line.now) }
-{
-    if at_bytes(line, 0, b"(states ") {
-        return nothing_if(is_number(line, 8));
-    }
-    if at_bytes(line, 0, b"(atomic") {
-        return nothing_if(is_words(line, 7));
-    }
-    if at_bytes(line, 0, b"(step ") {
-        return read_step(line, 6);
-    }
-    if at_bytes(line, 0, b"(meet ") {
-        return read_meeting(line, 6);
-    }
-    None
+    end_meeting(c.rest, n.value, a.value, b.value, c.value)
 }
 
 // Whether a line after the first says nothing.
 pub fn says_nothing(line: &[u8]) -> bool
     ensures { result ≡ is_silent (said_by line.now) }
 {
-    matches!(read_line(line), Some(Said::Nothing))
+    if at_bytes(line, 0, b"(states ") {
+        return is_number(&line[8..]);
+    }
+    if at_bytes(line, 0, b"(atomic") {
+        return is_words(&line[7..]);
+    }
+    false
 }
 
 // The number of the place that a line after the first says.
 pub fn read_place(line: &[u8]) -> Option<u32>
     ensures { result ≡ number_said (said_by line.now) }
 {
-    match read_line(line) {
-        Some(Said::Place { number }) => Some(number),
-        _ => None,
+    if at_bytes(line, 0, b"(step ") {
+        return read_step(&line[6..]);
     }
+    if at_bytes(line, 0, b"(meet ") {
+        return read_meeting(&line[6..]);
+    }
+    None
 }
 
 // Whether the first line says yes, if it can be read.

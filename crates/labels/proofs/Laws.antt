@@ -2,11 +2,11 @@
 use mathlib.Core.Path.{◌≡◌, refl, sym, ap, ◌∙◌}
 use mathlib.Core.Logic.{⊎_elim, ◌≢◌}
 use mathlib.Core.Bool.{Bool, true, false, ◌&&◌, ◌||◌, false≢true}
-use Prim.Native.Nat.{ℕ, ◌+◌, ◌*◌, ◌/◌, ◌%◌, ◌^◌, ◌≤◌, ◌<◌}
-use native.Mathlib.Nat.{one-mul, div-eq_of_lt, div-lt_iff_lt-mul}
+use Prim.Native.Nat.{ℕ, ◌+◌, ◌*◌, ◌%◌, ◌^◌, ◌≤◌, ◌<◌}
+use native.Mathlib.Nat.{one-mul}
 use native.Mathlib.Omega.{arith}
-use lib.Dec.{eqb, ltb}
-use lib.Pow.{pow_pos, shl_exact}
+use lib.Dec.{ltb}
+use lib.Pow.{shl_exact}
 use borrow.Author.Tests.{eq-eqb, ne_eqb, lt-ltb, le-ltb, ltb-true, ltb-false}
 use Rattle.semantics.specs.Labels.{has, union, relabel}
 use Rattle.semantics.proofs.Tools.{either, same?}
@@ -50,18 +50,6 @@ module _ (t n u : ℕ) (d : Done t n u) where
 -- the bit of a relation, by a shift
 pub shl_one : (r : ℕ) → r < 32 → (1 * 2 ^ r) % 4294967296 ≡ 2 ^ r
 shl_one r h = shl_exact 1 r 32 (omega arith) (omega arith) ∙ one-mul (2 ^ r)
-
--- a shift leaves nothing exactly if there is no relation from there on
-pub shr-none : (s r : ℕ) → eqb (s / 2 ^ r) 0 ≡ ltb s (2 ^ r)
-shr-none s r = ⊎_elim
-    (λ (q : ltb s (2 ^ r) ≡ true). eq-eqb (s / 2 ^ r) 0 (div-eq_of_lt (ltb-true s (2 ^ r) q)) ∙ sym q)
-    (λ (q : ltb s (2 ^ r) ≡ false). ne_eqb (s / 2 ^ r) 0 (λ e. below q e) ∙ sym q)
-    (either (ltb s (2 ^ r)))
-  where
-    below : ltb s (2 ^ r) ≡ false → s / 2 ^ r ≡ 0 → ⊥
-    below q e =
-        let l : s < 1 * 2 ^ r = (div-lt_iff_lt-mul (pow_pos r)).0 (rw e (omega arith)) in
-        let m = ltb-false s (2 ^ r) q in omega (arith, one-mul (2 ^ r))
 
 -- where the test of the code says so, neither of two numbers has one
 pub none_left : (s t m : ℕ) → (ltb s m && ltb t m) ≡ true → (s < m) × (t < m)

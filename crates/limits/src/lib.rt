@@ -45,6 +45,7 @@ pub const HANDIN: usize = 524_288;
 pub const OBJECTS: usize = 255;
 
 // Stands for no object.
+// 255 stays for no object: these words are the run table that C lends.
 pub const NONE: u32 = 255;
 
 // The reachable atomic states that are not empty.

@@ -12,10 +12,8 @@ use Rattle.model.specs.declared.Clause.{Clause}
 use Rattle.model.specs.declared.Model.{Model}
 use Rattle.model.specs.Records.{clause_body, line_of, clause_line, program_of}
 use Rattle.grammar.specs.Texts.{outcome}
-use Rattle.text.specs.declared.Acceptance.TheVariants.{Accepted, Refused}
-use Rattle.text.specs.declared.Reading.{Reading}
-use Rattle.text.specs.Reading.{Reads}
-use Rattle.text.proofs.Laws.{is-accepted, is-refused, read-represents, read-well-formed, read-program}
+use Rattle.text.specs.Reading.{Accepts}
+use Rattle.text.proofs.Laws.{read-well-formed}
 use Rattle.lines.specs.Lines.{kind, described, line_at, kind_of, recorded, nothing}
 
 same_kind : (a : Action) (b : Body) → kind (line_of a b) ≡ kind_of a
@@ -35,29 +33,18 @@ pub clause-recorded : (m : Model) (i : ℕ) → i < m.clausecount → i < length
 unfolding program_of
 clause-recorded m i h l = sym (at m.literals m.clausecount m.clauses i h l)
 
--- THE ANSWER, from the reading r of the text
-module _ (text : List ℕ) (r : Reading) (h : Reads (outcome text) text r) (i : ℕ) where
-  pub refused-line : (n l : ℕ) → r.answer ≡ Refused n l → 0 ≡ line_at (outcome text) i
-  unfolding line_at
-  refused-line n l e = rw (is-refused text r (outcome text) n l h e)
+-- THE ANSWER for an accepted text, whose record is m
+module _ (text : List ℕ) (m : Model) (a : Accepts (outcome text) text m) (i : ℕ) where
+  pub few-clauses : m.clausecount ≤ 64
+  few-clauses = (read-well-formed text m a).clauses
 
-  pub few-clauses : r.answer ≡ Accepted → r.model.clausecount ≤ 64
-  few-clauses e =
-      let (D, P, Q, o) = is-accepted text r (outcome text) h e in
-      (read-well-formed text D P Q r o h).clauses
-
-  pub clause-line : r.answer ≡ Accepted → i < r.model.clausecount → recorded (get_or r.model.clauses i nothing) ≡ line_at (outcome text) i
+  pub clause-line : i < m.clausecount → recorded (get_or m.clauses i nothing) ≡ line_at (outcome text) i
   unfolding line_at
-  clause-line e l =
-      let (D, P, Q, o) = is-accepted text r (outcome text) h e in
-      let m = read-represents text D P Q r o h in
-      let same = read-program text D P Q r o h in
-      let w = (read-well-formed text D P Q r o h).clauses in
-      rw (o, lt-ltb i (length P) (let c = m.clauses in omega arith), sym same) (clause-recorded r.model i l (let c = m.row in omega arith))
+  clause-line l =
+      let r = a.represents in
+      let w = few-clauses in
+      rw (a.says, lt-ltb i (length (program_of m)) (let c = r.clauses in omega arith)) (clause-recorded m i l (let c = r.row in omega arith))
 
-  pub no_line : r.answer ≡ Accepted → r.model.clausecount ≤ i → 0 ≡ line_at (outcome text) i
+  pub no_line : m.clausecount ≤ i → 0 ≡ line_at (outcome text) i
   unfolding line_at
-  no_line e l =
-      let (D, P, Q, o) = is-accepted text r (outcome text) h e in
-      let m = read-represents text D P Q r o h in
-      rw (o, le-ltb i (length P) (let c = m.clauses in omega arith))
+  no_line l = let r = a.represents in rw (a.says, le-ltb i (length (program_of m)) (let c = r.clauses in omega arith))

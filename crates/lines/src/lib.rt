@@ -7,9 +7,9 @@ ghost use Rattle.grammar.specs.Texts.{outcome};
 ghost use Rattle.lines.specs.Lines.{nothing, recorded, line_at};
 
 use model::{Action, Clause, Model};
-use text::Acceptance;
 
 // The line of a clause and what stands on it: line × 4, and 1 for a rule, 2 for a `new` line, 3 for a `next` line.
+// The kinds stay numbers: they are a part of the word that C is told.
 fn describe(c: Clause) -> u64
     ensures { result ≡ recorded c }
 {
@@ -38,15 +38,12 @@ fn clause(m: &Model, i: usize) -> u64
 }
 
 // Clause i of an accepted text, from 0: its line and what stands on it; 0 where there is none.
+// 0 stays for no clause: this is the word that C is told.
 pub fn line(text: &[u8], i: usize) -> u64
     ensures { result ≡ line_at (outcome text.now) i }
 {
-    let reading = text::read(text);
-    if let Acceptance::Refused { .. } = reading.answer {
-        return 0;
+    match text::read(text) {
+        Ok(m) => { if i < m.clausecount { clause(&m, i) } else { 0 } }
+        Err(_) => 0,
     }
-    if i < reading.model.clausecount {
-        return clause(&reading.model, i);
-    }
-    0
 }

@@ -26,6 +26,7 @@ fn put_summary(out: &mut [u8], reached: bool, n: u32) -> usize
 }
 
 // Writes the line of an atomic state from place `at` on.
+// The text and the model stay beside the slice: both are read only to find a name, and the slice is borrowed anew for each line.
 fn put_state(out: &mut [u8], at: usize, text: &[u8], m: &Model, set: u32) -> usize
     requires { GoodRelations m.now × Named text.now m.now × (at + longest ≤ length out.old) }
     ensures { Writes out.old at (atomic_line text.now m.now set) result out.new × (result ≤ at + longest) }
@@ -86,6 +87,7 @@ pub fn put_listing(
 }
 
 // Writes the line of a refusal, and says how many bytes it has.
+// The number stays in place of the row: it is printed, and the analyzer's answer has no row.
 pub fn put_refusal(out: &mut [u8], number: u32, line: u32) -> usize
     requires { size ≤ length out.old }
     ensures { WritesLine out.old (refused_line number line) result out.new }

@@ -1,5 +1,5 @@
 -- WHAT A HAND-IN SAYS, by the answer to it; and of a yes, on which line its run begins at the latest, and that the numbers of its places stand for them.
-use mathlib.Core.Path.{◌≡◌, refl, ap, ap₂}
+use mathlib.Core.Path.{◌≡◌, refl, sym, ap, ap₂}
 use mathlib.Core.Logic.{⊎_elim}
 use mathlib.Core.Bool.{Bool, true, false, cond}
 use mathlib.Core.List.{List, [], ◌∷◌, ◌++◌, map}
@@ -18,26 +18,30 @@ use Rattle.model.proofs.Places.{place-of-number}
 use Rattle.replay_session.specs.Replays.{Decodes}
 use Rattle.handin_lines.specs.Lines as line
 use Rattle.handin_lines.specs.Lines.{nothing, place, said_by, verdict}
-use Rattle.handin.specs.declared.Handin.TheVariants.{No, Yes, Unreadable}
+use Rattle.std.specs.Prelude.{Some, None, Ok, Err}
+use Rattle.handin.specs.declared.Run.{Run}
+use Rattle.handin.specs.declared.Unreadable.{Unreadable}
 use Rattle.handin.specs.Handins.{Handin, says-no, says-yes, unreadable, content, onwards, follows, preface, read_lines, reading}
 use Rattle.handin.specs.Answers.{told}
 use Rattle.handin.proofs.Runs.{Numerables}
 
 -- BY THE ANSWER
-pub told-yes : (h : Handin) (first places : ℕ) → told h ≡ Yes first places → (ps : List Place) × (h ≡ says-yes first ps) × (places ≡ length ps)
-told-yes says-no first places e = absurd (let z : ◌≡◌ {A = ℕ} 0 1 = cc in omega arith)
-told-yes (says-yes n ps) first places e = let q : n ≡ first = cc in (ps, ap (λ (k : ℕ). says-yes k ps) q, (cc))
-told-yes (unreadable n) first places e = absurd (let z : ◌≡◌ {A = ℕ} 0 1 = cc in omega arith)
+pub told-yes : (h : Handin) (r : Run) → told h ≡ Ok (Some r) → (ps : List Place) × (h ≡ says-yes r.first ps) × (r.places ≡ length ps)
+told-yes says-no r e = absurd (let z : ◌≡◌ {A = ℕ} 0 1 = cc in omega arith)
+told-yes (says-yes n ps) r e =
+    let q : ◌≡◌ {A = Run} (record { first = n; places = length ps }) r = cc in
+    (ps, ap (λ (s : Run). says-yes s.first ps) q, sym (ap (λ (s : Run). s.places) q))
+told-yes (unreadable n) r e = absurd (let z : ◌≡◌ {A = ℕ} 0 1 = cc in omega arith)
 
-pub told-no : (h : Handin) → told h ≡ No → h ≡ says-no
+pub told-no : (h : Handin) → told h ≡ Ok None → h ≡ says-no
 told-no says-no e = refl
 told-no (says-yes n ps) e = absurd (let z : ◌≡◌ {A = ℕ} 0 1 = cc in omega arith)
 told-no (unreadable n) e = absurd (let z : ◌≡◌ {A = ℕ} 0 1 = cc in omega arith)
 
-pub told-unreadable : (h : Handin) (at : ℕ) → told h ≡ Unreadable at → h ≡ unreadable at
-told-unreadable says-no at e = absurd (let z : ◌≡◌ {A = ℕ} 0 1 = cc in omega arith)
-told-unreadable (says-yes n ps) at e = absurd (let z : ◌≡◌ {A = ℕ} 0 1 = cc in omega arith)
-told-unreadable (unreadable n) at e = ap unreadable (cc)
+pub told-unreadable : (h : Handin) (u : Unreadable) → told h ≡ Err u → h ≡ unreadable u.line
+told-unreadable says-no u e = absurd (let z : ◌≡◌ {A = ℕ} 0 1 = cc in omega arith)
+told-unreadable (says-yes n ps) u e = absurd (let z : ◌≡◌ {A = ℕ} 0 1 = cc in omega arith)
+told-unreadable (unreadable n) u e = let q : ◌≡◌ {A = Unreadable} (record { line = n }) u = cc in ap (λ (s : Unreadable). unreadable s.line) q
 
 no-yes : {A : Type 0} (n first : ℕ) (ps : List Place) → unreadable n ≡ says-yes first ps → A
 no-yes n first ps e = absurd (let z : ◌≡◌ {A = ℕ} 0 1 = cc in omega arith)

@@ -1,5 +1,7 @@
 -- THE MARK OF A HAND-IN TO A TEXT: what the call answers, and what the work area and the two tables then have, for all inputs.
-use Rattle.std.specs.Prelude.{◌≡◌, Bool, false, ◌||◌, List, [], ◌++◌, map, ℕ, ltb, length, drop}
+use Rattle.std.specs.Prelude.{◌≡◌, Bool, false, ◌||◌, List, [], ◌++◌, map, ℕ, ltb, length, drop, Result}
+use Rattle.rows.specs.Rows.{Refuses}
+use Rattle.rows.specs.declared.Refusal.{Refusal}
 use Rattle.limits.specs.Limits as limit
 use Rattle.semantics.specs.Models.{Program, Question}
 use Rattle.semantics.specs.Runs.{start}
@@ -10,7 +12,6 @@ use Rattle.calls.specs.Wiping.{wiped}
 use Rattle.replay_session.specs.Notes.{Notes}
 use Rattle.handin.specs.Handins.{Handin, says-no, says-yes, unreadable, reading}
 use Rattle.marker_worth.specs.declared.Mark.{Mark}
-use Rattle.marker_worth.specs.declared.Mark.TheVariants.{Refused}
 use Rattle.marker_worth.specs.Worth.{Worth}
 
 -- row 12, of the work area and of both tables: the one for the run, and the one for those who stood by
@@ -26,10 +27,10 @@ Leaves P Q (says-yes first ps) work run stood work' run' stood' =
     (work' ≡ wiped work) × (run' ≡ map number_of ps ++ drop (length ps) run) × Notes P Q (start []) (map number_of ps) stood stood'
 
 -- THE MARK r, by the table's answer to the text: a refusal of its lines leaves the buffers, whatever the hand-in says; 15 "follows all checks of lines"
-abbrev pub Marked : Outcome → Handin → List ℕ → List ℕ → List ℕ → Mark → List ℕ → List ℕ → List ℕ → Type 0
-Marked (refused n l) h work run stood r work' run' stood' = (r ≡ Refused n l) × (work' ≡ work) × (run' ≡ run) × (stood' ≡ stood)
+abbrev pub Marked : Outcome → Handin → List ℕ → List ℕ → List ℕ → Result Mark Refusal → List ℕ → List ℕ → List ℕ → Type 0
+Marked (refused n l) h work run stood r work' run' stood' = Refuses n l r × (work' ≡ work) × (run' ≡ run) × (stood' ≡ stood)
 Marked (accepted D P Q) h work run stood r work' run' stood' = Worth P Q h r × Leaves P Q h work run stood work' run' stood'
 
 -- THE CALL. Row 14 speaks of a run that is lent; that of a hand-in is never too long.
-abbrev pub Marks : List ℕ → List ℕ → List ℕ → List ℕ → List ℕ → Mark → List ℕ → List ℕ → List ℕ → Type 0
+abbrev pub Marks : List ℕ → List ℕ → List ℕ → List ℕ → List ℕ → Result Mark Refusal → List ℕ → List ℕ → List ℕ → Type 0
 Marks text handin work run stood = Marked (called text (narrow (length work) (length run) (length stood)) false) (reading handin) work run stood

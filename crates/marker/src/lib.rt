@@ -10,11 +10,11 @@ ghost use Rattle.handin.specs.Handins.{says-yes, reading};
 ghost use Rattle.marker_worth.specs.Worth.{Worth};
 ghost use Rattle.marker.specs.Marking.{narrow, Leaves, Marks};
 
-use handin::Handin;
+use handin::Unreadable;
 use limits::RUN;
 use marker_worth::Mark;
 use model::Model;
-use text::Acceptance;
+use rows::Refusal;
 
 // Is the work area too short, or one of the two tables?
 fn short(bytes: usize, places: usize, standing: usize) -> bool
@@ -24,6 +24,7 @@ fn short(bytes: usize, places: usize, standing: usize) -> bool
 }
 
 // The mark of a yes: its run is written into the table, and replayed.
+// The hand-in and the three buffers stay apart, since C lends them so.
 fn mark_yes(
     m: Model,
     handin: &[u8],
@@ -32,7 +33,7 @@ fn mark_yes(
     work: &mut [u8],
     run: &mut [u32],
     stood: &mut [u32],
-) -> Mark
+) -> Result<Mark, Refusal>
     requires { WellFormed m × (limit.work ≤ length work.old) × (limit.run ≤ length run.old) × (limit.run ≤ length stood.old) × ((ps : List Place) × (reading handin.now ≡ says-yes first ps) × (places ≡ length ps)) }
     ensures { Worth (program_of m) (question_of m) (reading handin.now) result × Leaves (program_of m) (question_of m) (reading handin.now) work.old run.old stood.old work.new run.new stood.new }
 {
@@ -41,35 +42,35 @@ fn mark_yes(
 }
 
 // The mark over a model, by what the hand-in says.
-fn mark_model(m: Model, handin: &[u8], work: &mut [u8], run: &mut [u32], stood: &mut [u32]) -> Mark
+fn mark_model(
+    m: Model,
+    handin: &[u8],
+    work: &mut [u8],
+    run: &mut [u32],
+    stood: &mut [u32],
+) -> Result<Mark, Refusal>
     requires { WellFormed m × (limit.work ≤ length work.old) × (limit.run ≤ length run.old) × (limit.run ≤ length stood.old) }
     ensures { Worth (program_of m) (question_of m) (reading handin.now) result × Leaves (program_of m) (question_of m) (reading handin.now) work.old run.old stood.old work.new run.new stood.new }
 {
     let said = handin::read(handin);
     match said {
-        Handin::Yes { first, places } => mark_yes(m, handin, first, places, work, run, stood),
-        Handin::No => marker_worth::mark_no(m, work),
-        Handin::Unreadable { line } => Mark::Unreadable { line },
+        Ok(Some(yes)) => mark_yes(m, handin, yes.first, yes.places, work, run, stood),
+        Ok(None) => marker_worth::mark_no(m, work),
+        Err(Unreadable { line }) => Ok(Mark::Unreadable { line }),
     }
 }
 
 // Reads a text, and marks a hand-in to it; a refusal other than 15 and an unreadable hand-in leave the buffers as they are.
-pub fn mark(text: &[u8], handin: &[u8], work: &mut [u8], run: &mut [u32], stood: &mut [u32]) -> Mark
+pub fn mark(
+    text: &[u8],
+    handin: &[u8],
+    work: &mut [u8],
+    run: &mut [u32],
+    stood: &mut [u32],
+) -> Result<Mark, Refusal>
     ensures { Marks text.now handin.now work.old run.old stood.old result work.new run.new stood.new }
 {
     let short = short(work.len(), run.len(), stood.len());
-    let row = calls::early(text.len(), short, false);
-    if row != 0 {
-        return Mark::Refused {
-            number: row,
-            line: 0,
-        };
-    }
-    let reading = text::read(text);
-    let acceptance = reading.answer;
-    if let Acceptance::Refused { number, line } = acceptance {
-        return Mark::Refused { number, line };
-    }
-    let m = reading.model;
+    let m = text::accept(text, short, false)?;
     mark_model(m, handin, work, run, stood)
 }

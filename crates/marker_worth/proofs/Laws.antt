@@ -1,22 +1,20 @@
 -- FROM THE REPLAY TO THE RUN: what is answered to the numbers of places is said of the places. FROM THE VERDICT TO THE MARK.
 use mathlib.Core.Path.{◌≡◌, refl, sym, subst}
-use mathlib.Core.Logic.{inl, inr, ⊎_elim}
+use mathlib.Core.Logic.{inl, inr}
 use mathlib.Core.Bool.{true, false}
 use mathlib.Core.List.{List, [], ◌∷◌}
 use Prim.Native.Nat.{ℕ, suc, ◌+◌, ◌≤◌}
 use native.Mathlib.Omega.{arith}
-use types.Run.{OneOf}
-use denote.Enum.Declared.{tag_of}
 use lib.ListN.{length, replicate, length-replicate}
+use Rattle.std.specs.Prelude.{Result, Ok, Err}
+use Rattle.rows.specs.declared.Refusal.{Refusal}
 use Rattle.limits.specs.Limits as limit
 use Rattle.semantics.specs.Models.{Program, Question}
 use Rattle.semantics.specs.Runs.{Place, Session, start, after, Plays}
 use Rattle.calls.specs.Wiping.{wiped}
 use Rattle.calls.proofs.Wiped.{wiped-over}
-use Rattle.replay_session.specs.declared.Answer.{Answer}
-use Rattle.replay_session.specs.declared.Answer.TheVariants.{Kept, Broken, Refused}
+use Rattle.replay_session.specs.declared.Answer.TheVariants.{Kept, Broken}
 use Rattle.replay_session.specs.Replays.{Replays, Decodes}
-use Rattle.replay_session.specs.contracts.Answer.{the_type}
 use Rattle.replay_session.proofs.Answers.{broken}
 use Rattle.handin.specs.Handins.{says-no, says-yes}
 use Rattle.marker_worth.specs.declared.Mark.{Mark}
@@ -51,27 +49,17 @@ module _ (P : Program) (Q : Question) where
   pub within : (s : Session) (ns : List ℕ) (j : ℕ) → Replays P Q s ns 0 (Broken j) → j ≤ length ns
   within s ns j h = ((broken P Q s ns 0 j).0 (subst (λ (k : ℕ). Replays P Q s ns 0 (Broken k)) (omega arith) h)).0
 
-  -- NO REFUSAL
-  no-refusal : (s : Session) (ns : List ℕ) (i number line : ℕ) → Replays P Q s ns i (Refused number line) → ⊥
-  no-refusal s [] i number line h = h
-  no-refusal s (n ∷ ns) i number line (inl (q, e, l, g)) = no-refusal (after P Q s q) ns (suc i) number line g
-  no-refusal s (n ∷ ns) i number line (inr (never, e)) = absurd (let z : ◌≡◌ {A = ℕ} 0 1 = cc in omega arith)
-
-  -- what is not broken is kept
-  pub kept-else : (s : Session) (ns : List ℕ) (i : ℕ) (a : Answer) → OneOf (0 ∷ 2 ∷ []) (tag_of the_type a) → Replays P Q s ns i a → Replays P Q s ns i Kept
-  kept-else s ns i Kept h g = g
-  kept-else s ns i (Broken j) h g = absurd (⊎_elim (λ e. omega arith) (λ e. omega arith) h)
-  kept-else s ns i (Refused number line) h g = absurd (no-refusal s ns i number line g)
-
   -- A NO
-  pub no-worth : (r : Mark) → Judged P Q (Other true) Right r → Worth P Q says-no r
-  no-worth r (inl (many, e)) = subst (Worth P Q says-no) (sym e) (many, refl, refl)
+  pub no-worth : (r : Result Mark Refusal) → Judged P Q (Other true) Right r → Worth P Q says-no r
+  no-worth (Ok a) (inl (many, e)) = absurd e
+  no-worth (Err x) (inl (many, e)) = (many, e.0, e.1)
   no-worth r (inr (few, inl (reached, e))) = subst (Worth P Q says-no) (sym e) (refl, reached, few)
   no-worth r (inr (few, inr (unreached, e))) = subst (Worth P Q says-no) (sym e) (unreached, few)
 
   -- A YES whose run breaks
-  pub broken-worth : (first place : ℕ) (ps : List Place) (r : Mark) → BreaksAt P Q (start []) ps place → Judged P Q (Breaks place (first + place)) (Other false) r → Worth P Q (says-yes first ps) r
-  broken-worth first place ps r b (inl (many, e)) = subst (Worth P Q (says-yes first ps)) (sym e) ((place, b), many, refl, refl)
+  pub broken-worth : (first place : ℕ) (ps : List Place) (r : Result Mark Refusal) → BreaksAt P Q (start []) ps place → Judged P Q (Breaks place (first + place)) (Other false) r → Worth P Q (says-yes first ps) r
+  broken-worth first place ps (Ok a) b (inl (many, e)) = absurd e
+  broken-worth first place ps (Err x) b (inl (many, e)) = ((place, b), many, e.0, e.1)
   broken-worth first place ps r b (inr (few, inl (reached, e))) = subst (Worth P Q (says-yes first ps)) (sym e) (reached, b, refl, few)
   broken-worth first place ps r b (inr (few, inr (unreached, e))) = subst (Worth P Q (says-yes first ps)) (sym e) (refl, unreached, few)
 

@@ -13,15 +13,16 @@ ghost use Rattle.replay_session.specs.Notes.{Notes};
 ghost use Rattle.marker_worth.specs.Worth.{BreaksAt, Worth};
 ghost use Rattle.marker_worth.specs.Judging.{Judged};
 
-use calls::TOO_MANY;
+use calls::CROWDED;
 use facts_heads::ROOM;
 use model::Model;
 use replay_session::Answer;
+use rows::Refusal;
 
-// The text is refused, or too many states are reachable for a verdict; the hand-in is unreadable at a line; it is right; the verdict is the other one; its run breaks at a place, which stands on a line of the hand-in.
+// The hand-in is unreadable at a line; it is right; the verdict is the other one; its run breaks at a place, which stands on a line of the hand-in.
+// It stays an enum: an unreadable hand-in is a mark and no failure of the call.
 #[derive(Clone, Copy)]
 pub enum Mark {
-    Refused { number: u32, line: u32 },
     Unreadable { line: u32 },
     Right,
     Other { reached: bool },
@@ -29,27 +30,24 @@ pub enum Mark {
 }
 
 // The mark by the verdict of a well-formed model, or the refusal where too many states are reachable for one; the search has a table of its own, and the work bytes are left zero.
-fn judge(m: Model, reached: Mark, unreached: Mark, work: &mut [u8]) -> Mark
+// `WellFormed m` stays a clause: it speaks by recursion over the model's lists, which a ghost field cannot hold, and behind an `impl Model` other crates would read a model only through a method that gives it out whole; the length of `work` stays one too, since C lends an area that may be longer.
+fn judge(m: Model, reached: Mark, unreached: Mark, work: &mut [u8]) -> Result<Mark, Refusal>
     requires { WellFormed m × (limit.work ≤ length work.old) }
     ensures { Judged (program_of m) (question_of m) reached unreached result × (work.new ≡ wiped work.old) }
 {
     let mut table = [0u8; ROOM];
-    let found = search::search(&mut table, m);
     calls::wipe(work);
-    if found.crowded {
-        return Mark::Refused {
-            number: TOO_MANY,
-            line: 0,
-        };
-    }
+    let Some(found) = search::search(&mut table, m) else {
+        return Err(CROWDED);
+    };
     if found.reached {
-        return reached;
+        return Ok(reached);
     }
-    unreached
+    Ok(unreached)
 }
 
 // The mark of a no.
-pub fn mark_no(m: Model, work: &mut [u8]) -> Mark
+pub fn mark_no(m: Model, work: &mut [u8]) -> Result<Mark, Refusal>
     requires { WellFormed m × (limit.work ≤ length work.old) }
     ensures { Worth (program_of m) (question_of m) says-no result × (work.new ≡ wiped work.old) }
 {
@@ -57,7 +55,7 @@ pub fn mark_no(m: Model, work: &mut [u8]) -> Mark
 }
 
 // The mark of a run that breaks at a place.
-fn mark_broken(m: Model, first: u32, place: usize, work: &mut [u8]) -> Mark
+fn mark_broken(m: Model, first: u32, place: usize, work: &mut [u8]) -> Result<Mark, Refusal>
     requires { WellFormed m × (first + place < 4294967296) × (limit.work ≤ length work.old) }
     ensures { ((ps : List Place) → BreaksAt (program_of m) (question_of m) (start []) ps place → Worth (program_of m) (question_of m) (says-yes first ps) result) × (work.new ≡ wiped work.old) }
 {
@@ -71,13 +69,18 @@ fn mark_broken(m: Model, first: u32, place: usize, work: &mut [u8]) -> Mark
 }
 
 // The mark of a yes with a run, whose first place stands on line `first` of the hand-in; who stood by at each kept step is noted.
-pub fn mark_run(m: Model, first: u32, run: &[u32], work: &mut [u8], stood: &mut [u32]) -> Mark
+pub fn mark_run(
+    m: Model,
+    first: u32,
+    run: &[u32],
+    work: &mut [u8],
+    stood: &mut [u32],
+) -> Result<Mark, Refusal>
     requires { WellFormed m × (first + length run.now < 4294967296) × (length run.now ≤ limit.run) × (limit.work ≤ length work.old) × (limit.run ≤ length stood.old) }
     ensures { ((ps : List Place) → Decodes run.now ps → Worth (program_of m) (question_of m) (says-yes first ps) result) × Notes (program_of m) (question_of m) (start []) run.now stood.old stood.new × (work.new ≡ wiped work.old) }
 {
-    let answer = replay_runs::replay_model(m, run, work, stood);
-    if let Answer::Broken { place } = answer {
-        return mark_broken(m, first, place, work);
+    match replay_runs::replay_model(m, run, work, stood) {
+        Answer::Kept => Ok(Mark::Right),
+        Answer::Broken { place } => mark_broken(m, first, place, work),
     }
-    Mark::Right
 }

@@ -1,9 +1,12 @@
 -- THE NUMBERS OF WHAT IS SAID OF A RUN: kind × 2^32 + value.
-use Rattle.std.specs.Prelude.{ℕ, ◌+◌, ◌*◌, ◌%◌}
+use Rattle.std.specs.Prelude.{ℕ, ◌+◌, ◌*◌, ◌%◌, Result, Ok, Err}
+use Rattle.rows.specs.Rows.{number_of}
+use Rattle.rows.specs.declared.Refusal.{Refusal}
+use Rattle.words.specs.Words.{refusal}
 use Rattle.reasons.specs.declared.Reason.{Reason}
 use Rattle.reasons.specs.declared.Reason.TheVariants.{Ends, Done, NoLine, NotNext, NoObject, OtherStage, Variables, Carried, Literal}
 use Rattle.explain.specs.declared.Explanation.{Explanation}
-use Rattle.explain.specs.declared.Explanation.TheVariants.{Refused, Kept, Broken}
+use Rattle.explain.specs.declared.Explanation.TheVariants.{Kept, Broken}
 
 -- A REASON: its number × 256, and the place of the literal to blame, of which a body has at most 8
 abbrev pub reasoned : Reason → ℕ
@@ -18,7 +21,7 @@ reasoned Carried = 1792
 reasoned (Literal k) = 2048 + k % 256
 
 -- kind 2 is a refusal, with number × 65,536 + line; kind 3 kept; kind 4 broken, with place × 65,536 + the reason, a run having fewer than 65,536 places
-abbrev pub explained : Explanation → ℕ
-explained (Refused n l) = 2 * 4294967296 + (n * 65536 + l)
-explained Kept = 3 * 4294967296
-explained (Broken place r) = 4 * 4294967296 + (place % 65536 * 65536 + reasoned r)
+abbrev pub explained : Result Explanation Refusal → ℕ
+explained (Err x) = refusal (number_of x.row) x.line
+explained (Ok Kept) = 3 * 4294967296
+explained (Ok (Broken place r)) = 4 * 4294967296 + (place % 65536 * 65536 + reasoned r)

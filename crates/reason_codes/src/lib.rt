@@ -6,6 +6,7 @@ ghost use Rattle.reason_codes.specs.Codes.{reasoned as reason_code, explained as
 
 use explain::Explanation;
 use reasons::Reason;
+use rows::Refusal;
 
 // The number of a reason, and the place of the literal that is to blame.
 fn reasoned(reason: Reason) -> u64
@@ -25,16 +26,14 @@ fn reasoned(reason: Reason) -> u64
 }
 
 // The number of what is said of a run.
-pub fn explained(x: Explanation) -> u64
+pub fn explained(x: Result<Explanation, Refusal>) -> u64
     ensures { result ≡ explanation_code x }
 {
     match x {
-        Explanation::Refused { number, line } => {
-            2 * 4_294_967_296 + (number as u64 * 65_536 + line as u64)
-        }
-        Explanation::Kept => 3 * 4_294_967_296,
-        Explanation::Broken { place, reason } => {
+        Ok(Explanation::Kept) => 3 * 4_294_967_296,
+        Ok(Explanation::Broken { place, reason }) => {
             4 * 4_294_967_296 + (place as u64 % 65_536 * 65_536 + reasoned(reason))
         }
+        Err(r) => words::refused(r),
     }
 }

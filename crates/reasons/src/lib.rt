@@ -18,9 +18,11 @@ use facts_candidates::Choice;
 use facts_find::FREE;
 use limits::{CARRIED, NONE};
 use model::{Action, Clause, Place, Stage};
+use replay_numbers::NUMBERS;
 use replay_session::Position;
 
 // Why a place of a run is not allowed: the run ended with a stage left; all stages are met; the line is no `new` or `next` line; the object is not the next one; it is not there; another stage is next; the stage has another number of variables; a carried variable stands for another object; or the literal at a place of the body is to blame.
+// The reasons stay cases of one enum: each is a reason of its own, and none is for a refusal or for nothing.
 #[derive(Clone, Copy)]
 pub enum Reason {
     Ends,
@@ -35,6 +37,7 @@ pub enum Reason {
 }
 
 // Why a step of a clause, a `new` line, is not allowed.
+// The model, the view and the states stay in the clauses alone: the code reads some parts of them. What is lent stays apart: it is handed on to `blame`, which takes it apart, and a struct would be made for one place and be taken apart again.
 fn why_new(
     literals: &[u32],
     slots: &[u8],
@@ -104,8 +107,9 @@ fn why_next(
 }
 
 // Why a step of a line and an object is not allowed.
+// What is lent stays apart: this and `why_meeting` read the numbers too, `why_new` and `why_next` do not, and a struct would be made for one place.
 fn why_step(
-    numbers: &[u32],
+    numbers: &[u32; NUMBERS],
     literals: &[u32],
     slots: &[u8],
     work: &[u8],
@@ -139,6 +143,7 @@ fn beyond(c: Choice, n: usize, objects: usize) -> bool
 }
 
 // Does a choice have another object than the carried one for the stage's variable of a number?
+// NONE stays for none: the carried object is a word of the state that C lends.
 fn swapped(g: Stage, number: u32, carried: u32, c: Choice) -> bool
     requires { g.variables ≤ limit.variables }
     ensures { Says (Swapped g number carried c) result }
@@ -155,8 +160,8 @@ fn swapped(g: Stage, number: u32, carried: u32, c: Choice) -> bool
 }
 
 // Does a choice have another object than the carried one for some carried variable?
-fn any_swapped(numbers: &[u32], g: Stage, carried: [u32; CARRIED], c: Choice) -> bool
-    requires { (g.variables ≤ limit.variables) × (552 ≤ length numbers.now) }
+fn any_swapped(numbers: &[u32; NUMBERS], g: Stage, carried: [u32; CARRIED], c: Choice) -> bool
+    requires { g.variables ≤ limit.variables }
     ensures { Says (AnySwapped numbers.now g carried c) result }
 {
     for v in 0..CARRIED {
@@ -169,7 +174,7 @@ fn any_swapped(numbers: &[u32], g: Stage, carried: [u32; CARRIED], c: Choice) ->
 
 // Why the meeting of a stage with objects, the named ones first, is not allowed.
 fn why_meeting(
-    numbers: &[u32],
+    numbers: &[u32; NUMBERS],
     literals: &[u32],
     slots: &[u8],
     work: &[u8],
@@ -218,7 +223,7 @@ fn why_meeting(
 
 // Why a place, by its number, is not allowed.
 pub fn why_place(
-    numbers: &[u32],
+    numbers: &[u32; NUMBERS],
     literals: &[u32],
     slots: &[u8],
     work: &[u8],

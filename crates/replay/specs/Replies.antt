@@ -1,16 +1,16 @@
 -- WHAT THE REPLAY ANSWERS to a text: "after every answer that is no refusal, a single place's included, the first" 65,536 "work bytes are zero and the rest untouched".
-use Rattle.std.specs.Prelude.{◌≡◌, Bool, List, [], ℕ, eqb, ltb, length}
+use Rattle.std.specs.Prelude.{◌≡◌, Bool, List, [], ℕ, eqb, ltb, length, Result}
 use Rattle.limits.specs.Limits as limit
 use Rattle.semantics.specs.Runs.{start}
 use Rattle.grammar.specs.Declarations.{count}
 use Rattle.grammar.specs.Texts.{Outcome, accepted, refused}
-use Rattle.calls.specs.Calls.{short, called}
+use Rattle.rows.specs.Rows.{Refuses}
+use Rattle.rows.specs.declared.Refusal.{Refusal}
+use Rattle.calls.specs.Calls.{short, called, Gives}
 use Rattle.calls.specs.Wiping.{wiped}
 use Rattle.replay_session.specs.declared.Answer.{Answer}
-use Rattle.replay_session.specs.declared.Answer.TheVariants.{Refused}
 use Rattle.replay_session.specs.declared.Session.{Session}
-use Rattle.replay_session.specs.declared.PlaceAnswer as place
-use Rattle.replay_session.specs.declared.PlaceAnswer.TheVariants as place_answer
+use Rattle.replay_session.specs.declared.PlaceAnswer.{PlaceAnswer}
 use Rattle.replay_session.specs.Replays.{Replays}
 use Rattle.replay_session.specs.Notes.{Notes}
 use Rattle.replay_runs.specs.Replies.{PlaceReply}
@@ -24,15 +24,15 @@ abbrev pub run_outcome : List ℕ → List ℕ → List ℕ → List ℕ → Out
 run_outcome text run work table = called text (short (length work) (length table)) (ltb limit.run (length run))
 
 -- the answer, and the work area and the table after it
-abbrev pub Replayed : Outcome → List ℕ → List ℕ → List ℕ → Answer → List ℕ → List ℕ → Type 0
-Replayed (refused n l) run work table a work' table' = (a ≡ Refused n l) × (work' ≡ work) × (table' ≡ table)
-Replayed (accepted D P Q) run work table a work' table' = Replays P Q (start []) run 0 a × Notes P Q (start []) run table table' × (work' ≡ wiped work)
+abbrev pub Replayed : Outcome → List ℕ → List ℕ → List ℕ → Result Answer Refusal → List ℕ → List ℕ → Type 0
+Replayed (refused n l) run work table a work' table' = Refuses n l a × (work' ≡ work) × (table' ≡ table)
+Replayed (accepted D P Q) run work table a work' table' = Gives (Replays P Q (start []) run 0) a × Notes P Q (start []) run table table' × (work' ≡ wiped work)
 
 -- ONE PLACE: row 14, "a place put to a lent state that has kept" 9,344
 abbrev pub place_outcome : List ℕ → Session → List ℕ → Outcome
 place_outcome text s work = called text (narrow work) (eqb s.kept limit.run)
 
 -- the answer, the state after the place, and the work area after it; "refusals leave it"
-abbrev pub Put : Outcome → Session → ℕ → List ℕ → place.PlaceAnswer → Session → List ℕ → Type 0
-Put (refused n l) s place work a t after = (a ≡ place_answer.Refused n l) × (t ≡ s) × (after ≡ work)
-Put (accepted D P Q) s place work a t after = PlaceReply (count 0 D) P Q s place a t × (after ≡ wiped work)
+abbrev pub Put : Outcome → Session → ℕ → List ℕ → Result PlaceAnswer Refusal → Session → List ℕ → Type 0
+Put (refused n l) s place work a t after = Refuses n l a × (t ≡ s) × (after ≡ work)
+Put (accepted D P Q) s place work a t after = Gives (λ b. PlaceReply (count 0 D) P Q s place b t) a × (after ≡ wiped work)

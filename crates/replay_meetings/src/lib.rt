@@ -16,6 +16,7 @@ use facts_bits::BYTES;
 use facts_candidates::Choice;
 use limits::{CARRIED, NONE};
 use model::Stage;
+use replay_numbers::NUMBERS;
 use replay_session::Position;
 use replay_steps::Outcome;
 
@@ -32,6 +33,7 @@ pub fn count(first: u32, second: u32, third: u32) -> u32
 }
 
 // The object that a choice has for the stage's variable of a number, or NONE.
+// NONE stays for none: the carried objects are words of the state that C lends, with which the answer is compared.
 fn named(g: Stage, number: u32, c: Choice) -> usize
     requires { g.variables ≤ limit.variables }
     ensures { Named g number c result }
@@ -46,6 +48,7 @@ fn named(g: Stage, number: u32, c: Choice) -> usize
 }
 
 // Whether an object may be met where another, or none, is carried.
+// NONE stays for none: both are compared as words of the state that C lends.
 fn agrees(carried: u32, object: u32) -> bool
     ensures { Says (Agrees carried object) result }
 {
@@ -53,6 +56,7 @@ fn agrees(carried: u32, object: u32) -> bool
 }
 
 // The carried object after the meeting.
+// NONE stays for none: the answer is a word of the state that C lends.
 fn carry(carried: u32, object: u32) -> u32
     ensures { result ≡ carried_on carried object }
 {
@@ -60,8 +64,8 @@ fn carry(carried: u32, object: u32) -> u32
 }
 
 // The objects that a choice has for the carried variables, NONE for one that the stage does not have.
-fn all_named(numbers: &[u32], g: Stage, c: Choice) -> [u32; CARRIED]
-    requires { (g.variables ≤ limit.variables) × (552 ≤ length numbers.now) × ((x : ℕ) → chosen c x < 256) }
+fn all_named(numbers: &[u32; NUMBERS], g: Stage, c: Choice) -> [u32; CARRIED]
+    requires { (g.variables ≤ limit.variables) × ((x : ℕ) → chosen c x < 256) }
     ensures { AllNamed numbers.now g c result }
 {
     let first = named(g, numbers[2], c);
@@ -87,7 +91,7 @@ fn carry_all(carried: [u32; CARRIED], objects: [u32; CARRIED]) -> [u32; CARRIED]
 }
 
 // The derived relations that a meeting of a stage rests on, as a row of bits.
-pub fn needs(numbers: &[u32], literals: &[u32], stage: u32) -> [u8; BYTES]
+pub fn needs(numbers: &[u32; NUMBERS], literals: &[u32], stage: u32) -> [u8; BYTES]
     requires { (m : Model) × Plain m numbers.now literals.now }
     ensures { (m : Model) → Plain m numbers.now literals.now → (os : List ℕ) → Rests m result (meet stage os) }
 {
@@ -100,7 +104,7 @@ pub fn needs(numbers: &[u32], literals: &[u32], stage: u32) -> [u8; BYTES]
 
 // The meeting of a stage with objects, the named ones first.
 pub fn meet_place(
-    numbers: &[u32],
+    numbers: &[u32; NUMBERS],
     literals: &[u32],
     slots: &[u8],
     work: &[u8],

@@ -2,7 +2,7 @@
 // Number 0 is the count of clauses, 1 that of stages, 2 and 3 the carried variables; stage i has the 8 numbers from 8 + 8 i on, clause i those from 40 + 8 i on.
 #![tactic(auto)]
 
-ghost use Rattle.std.specs.Prelude.{◌≡◌, ◌+◌, ◌^◌, ◌≤◌, ◌<◌, length, get_or};
+ghost use Rattle.std.specs.Prelude.{◌≡◌, ◌+◌, ◌^◌, ◌≤◌, ◌<◌, get_or};
 ghost use Rattle.limits.specs.Limits as limit;
 ghost use Rattle.model.specs.WellFormed.{WellFormed};
 ghost use Rattle.replay_numbers.specs.Numbers.{action_from, clause_from, stage_from, clause_place, stage_place, clause_numbers, stage_numbers, OnLine, Numbered, Written, StagesIn, ClausesIn};
@@ -33,8 +33,8 @@ fn action_of(kind: u32, left: u32, right: u32) -> Action
 }
 
 // Clause i.
-pub fn clause_at(numbers: &[u32], i: usize) -> Clause
-    requires { (i < limit.clauses) × (552 ≤ length numbers.now) }
+pub fn clause_at(numbers: &[u32; NUMBERS], i: usize) -> Clause
+    requires { i < limit.clauses }
     ensures { result ≡ clause_from numbers.now (clause_place i) }
 {
     let k = 40 + i * 8;
@@ -48,21 +48,17 @@ pub fn clause_at(numbers: &[u32], i: usize) -> Clause
 }
 
 // The clause that stands on a line.
-pub fn clause_on(numbers: &[u32], line: u32) -> Option<Clause>
-    requires { (get_or numbers.now 0 0 ≤ limit.clauses) × (552 ≤ length numbers.now) }
+pub fn clause_on(numbers: &[u32; NUMBERS], line: u32) -> Option<Clause>
+    requires { get_or numbers.now 0 0 ≤ limit.clauses }
     ensures { OnLine numbers.now line result }
 {
-    for i in 0..numbers[0] as usize {
-        if numbers[40 + i * 8 + 3] == line {
-            return Some(clause_at(numbers, i));
-        }
-    }
-    None
+    let i = (0..numbers[0] as usize).find(|i| numbers[40 + *i * 8 + 3] == line)?;
+    Some(clause_at(numbers, i))
 }
 
 // Stage i.
-pub fn stage_at(numbers: &[u32], i: usize) -> Stage
-    requires { (i < limit.stages) × (552 ≤ length numbers.now) }
+pub fn stage_at(numbers: &[u32; NUMBERS], i: usize) -> Stage
+    requires { i < limit.stages }
     ensures { result ≡ stage_from numbers.now (stage_place i) }
 {
     let k = 8 + i * 8;
@@ -111,16 +107,17 @@ fn stage_numbers(s: Stage) -> [u32; PART]
 }
 
 // Writes the numbers of a part from place k on.
-fn write(out: &mut [u32], k: usize, part: [u32; PART])
-    requires { k + 8 ≤ length out.old }
+fn write(out: &mut [u32; NUMBERS], k: usize, part: [u32; PART])
+    requires { k + 8 ≤ 552 }
     ensures { Written out.old k part 8 out.new }
 {
     out[k..k + PART].copy_from_slice(&part);
 }
 
 // Writes the numbers of the stages.
-fn write_stages(m: Model, out: &mut [u32])
-    requires { WellFormed m × (552 ≤ length out.old) }
+// That the model is well formed stays a clause: a model is a struct by value, which the reader of a text fills part by part.
+fn write_stages(m: Model, out: &mut [u32; NUMBERS])
+    requires { WellFormed m }
     ensures { StagesIn m m.stagecount out.old out.new }
 {
     for i in 0..m.stagecount {
@@ -129,8 +126,8 @@ fn write_stages(m: Model, out: &mut [u32])
 }
 
 // Writes the numbers of the clauses.
-fn write_clauses(m: Model, out: &mut [u32])
-    requires { WellFormed m × (552 ≤ length out.old) }
+fn write_clauses(m: Model, out: &mut [u32; NUMBERS])
+    requires { WellFormed m }
     ensures { ClausesIn m m.clausecount out.old out.new }
 {
     for i in 0..m.clausecount {

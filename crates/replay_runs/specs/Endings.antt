@@ -9,7 +9,7 @@ use Rattle.model.specs.declared.Model.{Model}
 use Rattle.model.specs.Records.{program_of, question_of}
 use Rattle.model.specs.Places.{place_of}
 use Rattle.replay_session.specs.declared.Answer.{Answer}
-use Rattle.replay_session.specs.declared.Answer.TheVariants.{Kept, Broken, Refused}
+use Rattle.replay_session.specs.declared.Answer.TheVariants.{Kept, Broken}
 use Rattle.replay_session.specs.declared.Session.{Session}
 use Rattle.replay_session.specs.Records.{session_of, Fits}
 
@@ -32,4 +32,3 @@ pub record Stopped (m : Model) (run : List ℕ) (k : ℕ) (s : Session) : Type 0
 abbrev pub Ends : Model → List ℕ → Answer → Session → Type 0
 Ends m run Kept s = Stopped m run (length run) s
 Ends m run (Broken k) s = Stopped m run k s
-Ends m run (Refused n l) s = Unit {0}

@@ -12,7 +12,7 @@ use Rattle.semantics.specs.Runs.{Session, start, after, Plays}
 use Rattle.semantics.specs.Building.{Leads}
 use Rattle.model.specs.Places.{place_of}
 use Rattle.replay_session.specs.declared.Answer.{Answer}
-use Rattle.replay_session.specs.declared.Answer.TheVariants.{Kept, Broken, Refused}
+use Rattle.replay_session.specs.declared.Answer.TheVariants.{Kept, Broken}
 use Rattle.replay_session.specs.Replays.{Allows, Replays, Decodes}
 
 decodes-cons : (n : ℕ) (ns : List ℕ) (p : runs.Place) (ps : List runs.Place) → place_of n ≡ some p → Decodes ns ps → Decodes (n ∷ ns) (p ∷ ps)
@@ -23,11 +23,8 @@ module _ (P : Program) (Q : Question) where
   pub unique : (s : Session) (ns : List ℕ) (i : ℕ) (a b : Answer) → Replays P Q s ns i a → Replays P Q s ns i b → a ≡ b
   unique s [] i Kept Kept g h = refl
   unique s [] i Kept (Broken j) g h = absurd (h.0 g)
-  unique s [] i Kept (Refused n l) g h = absurd h
   unique s [] i (Broken j) Kept g h = absurd (g.0 h)
   unique s [] i (Broken j) (Broken k) g h = ap Broken (g.1 ∙ sym h.1)
-  unique s [] i (Broken j) (Refused n l) g h = absurd h
-  unique s [] i (Refused n l) b g h = absurd g
   unique s (n ∷ ns) i a b (inl (p, e, l, g)) (inl (q, d, k, h)) =
       let pq : p ≡ q = some-injective p q (sym e ∙ d) in
       unique (after P Q s q) ns (suc i) a b (subst (λ (x : runs.Place). Replays P Q (after P Q s x) ns (suc i) a) pq g) h

@@ -6,7 +6,7 @@ use Rattle.semantics.specs.Runs as runs
 use Rattle.semantics.specs.Runs.{Session, Allowed, after}
 use Rattle.model.specs.Places.{place_of}
 use Rattle.replay_session.specs.declared.Answer.{Answer}
-use Rattle.replay_session.specs.declared.Answer.TheVariants.{Kept, Broken, Refused}
+use Rattle.replay_session.specs.declared.Answer.TheVariants.{Kept, Broken}
 
 module _ (P : Program) (Q : Question) where
   -- the number has one of the forms of a place, and the semantics allow that place
@@ -18,7 +18,6 @@ module _ (P : Program) (Q : Question) where
   abbrev pub Replays : Session → List ℕ → ℕ → Answer → Type 0
   Replays s [] i Kept = s.met ≡ length Q
   Replays s [] i (Broken j) = (s.met ≢ length Q) × (j ≡ i)
-  Replays s [] i (Refused number line) = ⊥
   Replays s (n ∷ ns) i a = ((p : runs.Place) × (place_of n ≡ some p) × Allowed P Q s p × Replays (after P Q s p) ns (suc i) a) ⊎ ((Allows s n → ⊥) × (a ≡ Broken i))
 
 -- the numbers are those of the places

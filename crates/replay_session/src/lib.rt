@@ -11,37 +11,41 @@ ghost use Rattle.replay_session.specs.Records.{Fits};
 use limits::{CARRIED, NONE, OBJECTS, RUN};
 use model::{Model, Relations};
 
-// The replay's answer to a run: kept, broken at a place, or a refusal with its number and line.
+// The replay's answer to a run: kept, or broken at a place.
+// It stays an enum: document 01 names the answer an enum with data, and a broken run is an answer and no failure.
 #[derive(Clone, Copy)]
 pub enum Answer {
     Kept,
     Broken { place: usize },
-    Refused { number: u32, line: u32 },
 }
 
-// The answer to one place: kept with the number of those who stood by, broken at the count of places kept, or a refusal with its number and line.
+// The answer to one place: kept with the number of those who stood by, or broken at the count of places kept.
+// It stays an enum: document 01 names the answer an enum with data, and a broken place is an answer and no failure.
 #[derive(Clone, Copy)]
 pub enum PlaceAnswer {
     Kept { stood: u32 },
     Broken { place: usize },
-    Refused { number: u32, line: u32 },
 }
 
 // The replay's state: the database, the stages met, the carried objects in the order of their variables (255 for none) and the count of places kept.
+// The count stays beside the array: memory is fixed, and the states behind it are not read.
 #[derive(Clone, Copy)]
 pub struct Session {
     pub states: [u32; OBJECTS],
     pub objects: usize,
     pub met: usize,
+    // 255 stays for no object: the carried objects are cells of EON_SESSION, which C lends.
     pub carried: [u32; CARRIED],
     pub kept: usize,
 }
 
 // The replay's state but for the states of the objects.
+// The count stays beside another array: the states are lent apart from a position.
 #[derive(Clone, Copy)]
 pub struct Position {
     pub objects: usize,
     pub met: usize,
+    // 255 stays for no object: the carried objects are cells of EON_SESSION, which C lends.
     pub carried: [u32; CARRIED],
     pub kept: usize,
 }

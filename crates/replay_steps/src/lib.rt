@@ -24,6 +24,7 @@ use facts_candidates::Choice;
 use facts_find::FREE;
 use limits::OBJECTS;
 use model::{Action, Clause};
+use replay_numbers::NUMBERS;
 use replay_session::{Position, Session};
 
 // The state that a place gives an object.
@@ -33,7 +34,8 @@ pub struct NewState {
     pub state: u32,
 }
 
-// What an allowed place makes of the state: the state that it gives an object, if it gives one; the position after it; and the number of those who stood by, which is 0 for a meeting.
+// What an allowed place makes of the state: the state that it gives an object, if it gives one; the position after it; and the number of those who stood by.
+// 0 stays for a meeting: the number is a word of the table that C lends, and document 02 has a kept meeting get 0 there.
 #[derive(Clone, Copy)]
 pub struct Outcome {
     pub given: Option<NewState>,
@@ -56,7 +58,7 @@ impl Outcome {
 }
 
 // The derived relations that a step of a line rests on, as a row of bits.
-pub fn needs(numbers: &[u32], literals: &[u32], line: u32) -> [u8; BYTES]
+pub fn needs(numbers: &[u32; NUMBERS], literals: &[u32], line: u32) -> [u8; BYTES]
     requires { (m : Model) × Plain m numbers.now literals.now }
     ensures { (m : Model) → Plain m numbers.now literals.now → (object : ℕ) → Rests m result (step line object) }
 {
@@ -67,6 +69,7 @@ pub fn needs(numbers: &[u32], literals: &[u32], line: u32) -> [u8; BYTES]
 }
 
 // The first choice that has the fixed objects and for which a body holds in a database of n objects, or that there is none.
+// The literals, the slots and the table stay apart: the slots and the table are written between two places of a run, so that a struct of the three would be made anew for each place.
 pub fn decide(
     literals: &[u32],
     slots: &[u8],
@@ -91,6 +94,7 @@ pub fn decide(
 }
 
 // The number of those who stood by: the objects that a choice has for n variables, 255 where there is none.
+// 255 stays for none: this number is a word of the table that C lends.
 fn number(n: usize, c: Choice) -> u32
     requires { (x : ℕ) → x < n → chosen c x < limit.objects }
     ensures { result ≡ standing (map (chosen c) (up_from 0 n)) }
@@ -114,6 +118,7 @@ fn onward(at: Position, objects: usize) -> Position
 }
 
 // A step of a clause, a `new` line.
+// The bound of an object stays a clause: an object is a part of a place's number. What is lent stays apart for the same reason, and the position beside it, which is another one after each place.
 fn create(
     literals: &[u32],
     slots: &[u8],
@@ -204,7 +209,7 @@ fn change(
 
 // A step of a line and an object.
 pub fn step_place(
-    numbers: &[u32],
+    numbers: &[u32; NUMBERS],
     literals: &[u32],
     states: &[u32],
     slots: &[u8],

@@ -1,6 +1,7 @@
 -- The numbers of the rows in the table of refusals.
-use Rattle.std.specs.Prelude.{ℕ, Option, Some, None}
+use Rattle.std.specs.Prelude.{◌≡◌, ℕ, Option, Some, None, Result, MatchResult}
 use Rattle.rows.specs.declared.Row.{Row}
+use Rattle.rows.specs.declared.Refusal.{Refusal}
 use Rattle.rows.specs.declared.Row.TheVariants.{Size, Byte, Shape, Count, Again, Kind, Arity, Negation, Variables, End, Carried, Lent, Length, States, Place, NoVariable, Objects, Lines, Processes, Moves, Question, Unreachable}
 
 abbrev pub number_of : Row → ℕ
@@ -31,3 +32,7 @@ number_of Unreachable = 23
 abbrev pub row_number : Option Row → ℕ
 row_number None = 0
 row_number (Some r) = number_of r
+
+-- an answer that refuses, with row n on line l
+abbrev pub Refuses : {A : Type 0} → ℕ → ℕ → Result A Refusal → Type 0
+Refuses n l r = MatchResult r (λ _. ⊥) (λ x. (number_of x.row ≡ n) × (x.line ≡ l))

@@ -1,4 +1,4 @@
--- What is found when no clause adds a state is all, and the last level gives the verdict; a state too many shows that more are reachable.
+-- What is found when no clause adds a state is all, and the last level gives the verdict.
 use mathlib.Core.Path.{◌≡◌, refl, sym, ap, ◌∙◌, subst}
 use mathlib.Core.Logic.{inl, inr, ⊎_elim, ◌↔◌, ◌≢◌}
 use mathlib.Core.Bool.{Bool, true, false, false≢true}
@@ -7,7 +7,7 @@ use Prim.Native.Nat.{ℕ, ◌+◌, ◌*◌, ◌≤◌, ◌<◌}
 use native.Mathlib.Omega.{arith}
 use Rattle.limits.specs.Limits as limit
 use Rattle.semantics.specs.Labels.{relabel}
-use Rattle.semantics.specs.Models.{elem, Body, Line, rule, new, next, other}
+use Rattle.semantics.specs.Models.{Body, Line, rule, new, next, other}
 use Rattle.semantics.specs.Facts.{state, In, Derived, Meets}
 use Rattle.semantics.specs.Steps.{Reachable, MoreThan}
 use Rattle.semantics.specs.Questions.{Verdict}
@@ -16,12 +16,12 @@ use Rattle.semantics.specs.Walkers.{Whole}
 use Rattle.semantics.proofs.Tools.{same?, clash}
 use Rattle.semantics.proofs.Bodies.{more-facts}
 use Rattle.semantics.proofs.WalkersMoves.{states}
-use Rattle.semantics.proofs.Crowded.{crowded, roomy}
+use Rattle.semantics.proofs.Crowded.{roomy}
 use Rattle.model.specs.declared.Model.{Model}
 use Rattle.model.specs.Records.{clause_line, program_of, question_of, clause_at, stage_at}
 use Rattle.model.specs.WellFormed.{WellFormed}
 use Rattle.model.proofs.Lines.{every-line}
-use Rattle.facts_bits.specs.Bits.{Copied, Next as Following}
+use Rattle.facts_bits.specs.Bits.{bit_at, Copied, FirstFrom}
 use Rattle.facts_table.specs.Table.{table_of}
 use Rattle.search_states.specs.declared.States.{States}
 use Rattle.search_states.specs.States.{row, Known, by, from}
@@ -30,26 +30,26 @@ use Rattle.search_clauses.specs.Reach.{Lists}
 use Rattle.search_reachable.specs.Reachable.{Reaches}
 use Rattle.search_ways.specs.Moves.{Exactly}
 use Rattle.search_ways.proofs.Laws.{whole}
-use Rattle.search_levels.specs.declared.Pointing.{Pointing}
-use Rattle.search_levels.specs.Levels.{pair_at, nothing, Aims, Points, Filled}
+use Rattle.std.specs.Prelude.{Option, Some, None}
+use Rattle.search_levels.specs.Levels.{pair_at, Aims, Filled}
 use Rattle.search_levels.proofs.Targets.{aims-points}
 use Rattle.search_levels.proofs.Laws as levels
 use Rattle.search.specs.declared.Explored.{Explored}
 use Rattle.search.specs.declared.Found.{Found}
-use Rattle.search.specs.Search.{Surveyed, Explores, Entered, explored_of, Judged, Searched, Finds, SearchedFrom, FindsFrom}
+use Rattle.search.specs.Search.{Surveyed, Entered, Judged, Searched, SearchedFrom}
 
 -- THE ROWS OF A LEVEL one after the other: those below f have no slot
 module _ (rows : List ℕ) (k : ℕ) where
   abbrev pub NoneBelow : ℕ → Type 0
   NoneBelow f = (e g : ℕ) → e < limit.listed → g < f → pair_at rows k e g ≡ false
 
-  module _ (f : ℕ) (row : List ℕ) (copied : Copied rows (limit.listed * k + f) row) (first : ℕ) (next : Following row 0 first) where
-    pub pair-here : f < limit.listed → first < limit.listed → Entered rows k
-    pair-here l q = (first, f, q, l, sym (copied.bits first (omega arith)) ∙ next.set (omega arith))
+  module _ (f : ℕ) (row : List ℕ) (copied : Copied rows (limit.listed * k + f) row) where
+    pub pair-here : (first : ℕ) → FirstFrom row 0 first → f < limit.listed → first < limit.listed → Entered rows k
+    pair-here first n l q = (first, f, q, l, sym (copied.bits first (omega arith)) ∙ n.set)
 
-    pub none_more : limit.listed ≤ first → NoneBelow f → NoneBelow (f + 1)
-    none_more q h e g l i = ⊎_elim
-        (λ (z : g ≡ f). subst (λ (n : ℕ). pair_at rows k e n ≡ false) (sym z) (sym (copied.bits e (omega arith)) ∙ next.clear e (omega arith) (omega arith)))
+    pub none_more : ((e : ℕ) → e < limit.listed → bit_at row e ≡ false) → NoneBelow f → NoneBelow (f + 1)
+    none_more none h e g l i = ⊎_elim
+        (λ (z : g ≡ f). subst (λ (n : ℕ). pair_at rows k e n ≡ false) (sym z) (sym (copied.bits e (omega arith)) ∙ none e l))
         (λ (z : g ≢ f). h e g l (omega (arith, i, z)))
         (same? g f)
 
@@ -59,13 +59,6 @@ module _ (rows : List ℕ) (k : ℕ) where
 module _ (m : Model) (wf : WellFormed m) (w : List ℕ) (s : States) (reaches : Reaches m w s) where
   pub exactly : Exactly m w s
   exactly = record { proper = reaches.proper; agree = reaches.agree; shown = reaches.exact.states; facts = reaches.exact.facts; marks = reaches.marks }
-
-  -- ONE STATE TOO MANY shows that more than so many are reachable
-  pub too_many : s.over ≡ true → MoreThan limit.atomic (program_of m)
-  too_many q =
-      let o = reaches.over q in
-      subst (λ (n : ℕ). MoreThan n (program_of m)) (length-row s reaches.proper ∙ o.0)
-      (crowded (program_of m) wf.safe (row s) (by s) (from s) reaches.found reaches.proper.distinct (λ t e z. row-full s reaches.proper (subst (λ (n : ℕ). elem n (row s) ≡ true) z e)) o.1)
 
   -- what holds over the states shows with the facts of the work area
   shown : (σ : ℕ → ℕ) (b : Body) → Meets (program_of m) (row s) σ b → Shows (row s) (table_of w) σ b
@@ -83,97 +76,61 @@ module _ (m : Model) (wf : WellFormed m) (w : List ℕ) (s : States) (reaches : 
       known-empty (subst (Known s) (ap (λ (o : ℕ). relabel (state (row s) o) plus minus) f.2.1 ∙ sym f.1) (h f.2.0 (shown f.2.0 b f.2.2)))
   noted other h p f = absurd f
 
-  -- NO STATE TOO MANY
-  module _ (fits : s.over ≡ false) where
-    -- no line adds a state
-    pub no_more : Whole (program_of m) (row s)
-    no_more = whole m w s exactly (reaches.listed fits)
+  -- no line adds a state
+  pub no_more : Whole (program_of m) (row s)
+  no_more = whole m w s exactly reaches.listed
 
-    -- no more are reachable than there is room for
-    pub not-many : MoreThan limit.atomic (program_of m) → ⊥
-    not-many = roomy (program_of m) wf.safe (row s) (by s) (from s) reaches.found no_more limit.atomic (rw (length-row s reaches.proper) reaches.proper.count)
+  -- no more are reachable than there is room for
+  pub not-many : MoreThan limit.atomic (program_of m) → ⊥
+  not-many = roomy (program_of m) wf.safe (row s) (by s) (from s) reaches.found no_more limit.atomic (rw (length-row s reaches.proper) reaches.proper.count)
 
-    emptied : Empties (program_of m) (row s) → s.empty ≡ true
-    emptied (ℓ, p, f) = every-line m (λ (L : Line). (p : ℕ) → From (program_of m) (row s) 0 p L → s.empty ≡ true) (λ p f. absurd f)
-        (λ i h. noted (clause_line m.literals (clause_at m i)) (reaches.listed fits i h)) ℓ p f
+  emptied : Empties (program_of m) (row s) → s.empty ≡ true
+  emptied (ℓ, p, f) = every-line m (λ (L : Line). (p : ℕ) → From (program_of m) (row s) 0 p L → s.empty ≡ true) (λ p f. absurd f)
+      (λ i h. noted (clause_line m.literals (clause_at m i)) (reaches.listed i h)) ℓ p f
 
-    -- EXACTLY THE REACHABLE STATES, in runs of every length
-    pub reachable : (t : ℕ) → Reachable (program_of m) t ↔ Known s t
-    reachable t =
-        let q = states (program_of m) wf.safe (row s) no_more (by s) (from s) reaches.found t in
-        ((λ r. ⊎_elim (λ e. inl (e.0, emptied e.1)) (λ e. inr e) (q.0 r)), λ k. q.1 (⊎_elim (λ e. inl (e.0, reaches.empty e.1)) (λ e. inr e) k))
+  -- EXACTLY THE REACHABLE STATES, in runs of every length
+  pub reachable : (t : ℕ) → Reachable (program_of m) t ↔ Known s t
+  reachable t =
+      let q = states (program_of m) wf.safe (row s) no_more (by s) (from s) reaches.found t in
+      ((λ r. ⊎_elim (λ e. inl (e.0, emptied e.1)) (λ e. inr e) (q.0 r)), λ k. q.1 (⊎_elim (λ e. inl (e.0, reaches.empty e.1)) (λ e. inr e) k))
 
 -- WHAT IS EXPLORED is what the levels rest on
 pub surveyed-exactly : (m : Model) (w : List ℕ) (e : Explored) → Surveyed m w e → Exactly m w e.states
 surveyed-exactly m w e h = record { proper = h.proper; agree = h.agree; shown = h.exact.states; facts = h.exact.facts; marks = h.marks }
 
-module _ (m : Model) (wf : WellFormed m) (w : List ℕ) where
-  -- THE VERDICT over the explored states, by the levels
-  module _ (r : Found) (surveyed : Surveyed m w (explored_of r)) (test : (r.reached ≡ true) ↔ Entered r.levels.rows m.stagecount) where
-    pub searched : Filled m (row r.states) w r.moves.ways nothing r.levels → Searched m w r
-    searched filled = record {
-      proper = surveyed.proper;
-      reachable = surveyed.reachable;
-      listing = surveyed.listing;
-      verdict = go r.reached test;
-      entered = test.0;
-      found = surveyed.found;
-      whole = surveyed.whole;
-      agree = surveyed.agree;
-      exact = surveyed.exact;
-      moves = surveyed.moves;
-      levels = filled;
-    }
-      where
-        law : Entered r.levels.rows m.stagecount ↔ Verdict (program_of m) (question_of m) true
-        law = levels.verdict m wf w r.states (surveyed-exactly m w (explored_of r) surveyed) r.moves.ways surveyed.moves.ways nothing r.levels filled surveyed.whole surveyed.found refl
+-- THE VERDICT over the explored states, by the levels
+module _ (m : Model) (wf : WellFormed m) (w : List ℕ) (e : Explored) (surveyed : Surveyed m w e) (p : Option (List ℕ)) (r : Found) (judged : Judged m w e p r) where
+  surveyed-found : Surveyed m w r.explored
+  surveyed-found = subst (Surveyed m w) (sym judged.explored) surveyed
 
-        go : (b : Bool) → (b ≡ true) ↔ Entered r.levels.rows m.stagecount → Verdict (program_of m) (question_of m) b
-        go true q = law.0 (q.0 refl)
-        go false q = λ x. absurd (false≢true (q.1 (law.1 x)))
+  filled : Filled m (row r.explored.states) w r.explored.moves.ways p r.levels
+  filled = subst (λ (x : Explored). Filled m (row x.states) w x.moves.ways p r.levels) (sym judged.explored) judged.levels
 
-    -- and from a database, with an object of state s
-    pub searched-from : 0 < (stage_at m 0).variables → (s : ℕ) (p : Pointing) → Aims r.states r.moves.ways s p → Filled m (row r.states) w r.moves.ways p r.levels → SearchedFrom m s w r
-    searched-from one s p aims filled = record {
-      explored = surveyed;
-      verdict = λ ps t lead o there same. let law = levels.verdict-from m wf w r.states exactly r.moves.ways surveyed.moves.ways p r.levels filled surveyed.whole surveyed.found s points one ps t lead o there same in
-          ((λ q. law.0 (test.0 q)), λ q. test.1 (law.1 q));
-      entered = test.0;
-      asked = p;
-      aims = aims;
-      levels = filled;
-    }
-      where
-        exactly : Exactly m w r.states
-        exactly = surveyed-exactly m w (explored_of r) surveyed
+  pub searched : p ≡ None → Searched m w r
+  searched plain = record { explored = surveyed-found; verdict = go r.reached judged.entered; entered = judged.entered.0; levels = unasked }
+    where
+      unasked : Filled m (row r.explored.states) w r.explored.moves.ways None r.levels
+      unasked = subst (λ (x : Option (List ℕ)). Filled m (row r.explored.states) w r.explored.moves.ways x r.levels) plain filled
 
-        points : Points (program_of m) (row r.states) s p
-        points = aims-points m wf r.states surveyed.proper r.moves.ways surveyed.moves.ways s p aims
+      law : Entered r.levels.rows m.stagecount ↔ Verdict (program_of m) (question_of m) true
+      law = levels.verdict m wf w r.explored.states (surveyed-exactly m w r.explored surveyed-found) r.explored.moves.ways surveyed-found.moves.ways None r.levels unasked surveyed-found.whole surveyed-found.found refl
 
-  -- WHAT IS FOUND, where there are not too many states
-  module _ (e : Explored) (explores : Explores m w e) (fits : e.crowded ≡ false) (p : Pointing) (r : Found) (judged : Judged m w e p r) where
-    judged-surveyed : Surveyed m w (explored_of r)
-    judged-surveyed = subst (Surveyed m w) (sym judged.explored) (explores.surveyed fits)
+      go : (b : Bool) → (b ≡ true) ↔ Entered r.levels.rows m.stagecount → Verdict (program_of m) (question_of m) b
+      go true q = law.0 (q.0 refl)
+      go false q = λ x. absurd (false≢true (q.1 (law.1 x)))
 
-    judged-fits : r.crowded ≡ false
-    judged-fits = ap (λ (x : Explored). x.crowded) judged.explored ∙ fits
-
-    few-enough : (r.crowded ≡ true) ↔ MoreThan limit.atomic (program_of m)
-    few-enough = ((λ q. clash q judged-fits), λ q. clash (explores.crowded.1 q) fits)
-
-    pub finds : p ≡ nothing → Finds m w r
-    finds plain = record { crowded = few-enough; searched = λ q. searched r judged-surveyed judged.entered (subst (λ (x : Pointing). Filled m (row r.states) w r.moves.ways x r.levels) plain judged.levels) }
-
-    pub finds-from : 0 < (stage_at m 0).variables → (s : ℕ) → Aims e.states e.moves.ways s p → FindsFrom m s w r
-    finds-from one s aims = record { crowded = few-enough; searched = λ q. searched-from r judged-surveyed judged.entered one s p (subst (λ (x : Explored). Aims x.states x.moves.ways s p) (sym judged.explored) aims) judged.levels }
-
-  -- and where there are
-  module _ (e : Explored) (explores : Explores m w e) (full : e.crowded ≡ true) (r : Found) (same : r.crowded ≡ e.crowded) where
-    many : (r.crowded ≡ true) ↔ MoreThan limit.atomic (program_of m)
-    many = ((λ q. explores.crowded.0 full), λ q. same ∙ full)
-
-    pub finds-many : Finds m w r
-    finds-many = record { crowded = many; searched = λ q. clash (same ∙ full) q }
-
-    pub finds-many-from : (s : ℕ) → FindsFrom m s w r
-    finds-many-from s = record { crowded = many; searched = λ q. clash (same ∙ full) q }
+  -- and from a database, with an object of state s
+  pub searched-from : 0 < (stage_at m 0).variables → (s : ℕ) (among : List ℕ) → p ≡ Some among → Aims e.states e.moves.ways s among → SearchedFrom m s w r
+  searched-from one s among asks aims = record {
+    explored = surveyed-found;
+    verdict = λ ps t lead o there same. let law = levels.verdict-from m wf w r.explored.states (surveyed-exactly m w r.explored surveyed-found) r.explored.moves.ways surveyed-found.moves.ways p r.levels filled surveyed-found.whole surveyed-found.found s among asks
+        (aims-points m wf r.explored.states surveyed-found.proper r.explored.moves.ways surveyed-found.moves.ways s among aimed) one ps t lead o there same in
+        ((λ q. law.0 (judged.entered.0 q)), λ q. judged.entered.1 (law.1 q));
+    entered = judged.entered.0;
+    asked = among;
+    aims = aimed;
+    levels = subst (λ (x : Option (List ℕ)). Filled m (row r.explored.states) w r.explored.moves.ways x r.levels) asks filled;
+  }
+    where
+      aimed : Aims r.explored.states r.explored.moves.ways s among
+      aimed = subst (λ (x : Explored). Aims x.states x.moves.ways s among) (sym judged.explored) aims

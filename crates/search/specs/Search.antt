@@ -1,5 +1,5 @@
 -- WHAT THE SEARCH FINDS of a model: exactly the reachable states, and the verdict, both about runs of every length; and what a run can be built from. Or that there are too many states.
-use Rattle.std.specs.Prelude.{◌≡◌, ◌↔◌, true, false, List, [], ℕ, ◌<◌, length}
+use Rattle.std.specs.Prelude.{◌≡◌, ◌↔◌, true, Option, Some, None, MatchOption, List, [], ℕ, ◌<◌, length}
 use Rattle.limits.specs.Limits as limit
 use Rattle.semantics.specs.Facts.{state}
 use Rattle.semantics.specs.Steps.{Reachable, MoreThan}
@@ -20,8 +20,7 @@ use Rattle.search_states.specs.States.{row, Known, Proper, Discovered}
 use Rattle.search_states.specs.Rising.{Lists}
 use Rattle.search_ways.specs.Moves.{table_bytes, matrix_bytes, Marks, CanTake}
 use Rattle.search_ways.specs.Steps.{Between, OneStep}
-use Rattle.search_levels.specs.declared.Pointing.{Pointing}
-use Rattle.search_levels.specs.Levels.{pair_at, nothing, first_variable, Aims, Filled}
+use Rattle.search_levels.specs.Levels.{pair_at, first_variable, Aims, Filled}
 use Rattle.search.specs.declared.Moves.{Moves}
 use Rattle.search.specs.declared.Explored.{Explored}
 use Rattle.search.specs.declared.Found.{Found}
@@ -37,6 +36,8 @@ pub record Moving (m : Model) (s : States) (t : Moves) : Type 0 where
 
 -- w is the work area as the exploring leaves it
 pub record Surveyed (m : Model) (w : List ℕ) (r : Explored) : Type 0 where
+  -- not too many states are reachable
+  pub few : MoreThan limit.atomic (program_of m) → ⊥
   -- the states found are exactly the reachable ones, the empty one if it is noted; and so are those by rising number
   pub proper : Proper r.states
   pub reachable : (t : ℕ) → Reachable (program_of m) t ↔ Known r.states t
@@ -51,61 +52,44 @@ pub record Surveyed (m : Model) (w : List ℕ) (r : Explored) : Type 0 where
   -- the moves over the states
   pub moves : Moving m r.states r.moves
 
--- WHAT IS EXPLORED: too many states exactly if more than 127 non-empty ones are reachable, and else the states and their moves
-pub record Explores (m : Model) (w : List ℕ) (r : Explored) : Type 0 where
-  pub crowded : (r.crowded ≡ true) ↔ MoreThan limit.atomic (program_of m)
-  pub surveyed : r.crowded ≡ false → Surveyed m w r
+-- WHAT IS EXPLORED: nothing exactly if more than 127 non-empty states are reachable, and else the states and their moves
+abbrev pub Explores : Model → List ℕ → Option Explored → Type 0
+Explores m w r = MatchOption r (MoreThan limit.atomic (program_of m)) (Surveyed m w)
 
 -- level k has a pair
 abbrev pub Entered : List ℕ → ℕ → Type 0
 Entered rows k = (e f : ℕ) × (e < limit.listed) × (f < limit.listed) × (pair_at rows k e f ≡ true)
 
--- what was explored for it
-abbrev pub explored_of : Found → Explored
-explored_of r = record { states = r.states; listing = r.listing; moves = r.moves; crowded = r.crowded }
-
 -- the levels over the explored states, where p is what stage 1 asks besides, and whether the last one has a pair
-pub record Judged (m : Model) (w : List ℕ) (e : Explored) (p : Pointing) (r : Found) : Type 0 where
-  pub explored : explored_of r ≡ e
-  pub levels : Filled m (row r.states) w r.moves.ways p r.levels
+pub record Judged (m : Model) (w : List ℕ) (e : Explored) (p : Option (List ℕ)) (r : Found) : Type 0 where
+  pub explored : r.explored ≡ e
+  pub levels : Filled m (row e.states) w e.moves.ways p r.levels
   pub entered : (r.reached ≡ true) ↔ Entered r.levels.rows m.stagecount
 
 -- w is the work area as the search leaves it
 pub record Searched (m : Model) (w : List ℕ) (r : Found) : Type 0 where
-  -- the states found are exactly the reachable ones, the empty one if it is noted; and so are those by rising number
-  pub proper : Proper r.states
-  pub reachable : (t : ℕ) → Reachable (program_of m) t ↔ Known r.states t
-  pub listing : Lists r.states r.listing
+  pub explored : Surveyed m w r.explored
   -- the verdict is right, and where it is reached the last level has a pair
   pub verdict : Verdict (program_of m) (question_of m) r.reached
   pub entered : r.reached ≡ true → Entered r.levels.rows m.stagecount
-  -- each state came from those before it, and no line adds another
-  pub found : Discovered (program_of m) r.states
-  pub whole : Whole (program_of m) (row r.states)
-  -- the facts of the work area are those derived over the states
-  pub agree : Consistent w
-  pub exact : Exact m (row r.states) w
-  -- the moves over the states, and the levels of the question by them
-  pub moves : Moving m r.states r.moves
-  pub levels : Filled m (row r.states) w r.moves.ways nothing r.levels
+  -- the levels of the question
+  pub levels : Filled m (row r.explored.states) w r.explored.moves.ways None r.levels
 
--- WHAT IS FOUND: too many states exactly if more than 127 non-empty ones are reachable, and else all that is searched for
-pub record Finds (m : Model) (w : List ℕ) (r : Found) : Type 0 where
-  pub crowded : (r.crowded ≡ true) ↔ MoreThan limit.atomic (program_of m)
-  pub searched : r.crowded ≡ false → Searched m w r
+-- WHAT IS FOUND: nothing exactly if more than 127 non-empty states are reachable, and else all that is searched for
+abbrev pub Finds : Model → List ℕ → Option Found → Type 0
+Finds m w r = MatchOption r (MoreThan limit.atomic (program_of m)) (Searched m w)
 
 -- FROM A DATABASE, with an object of state s for the first variable of stage 1
 pub record SearchedFrom (m : Model) (s : ℕ) (w : List ℕ) (r : Found) : Type 0 where
-  pub explored : Surveyed m w (explored_of r)
+  pub explored : Surveyed m w r.explored
   -- the verdict is right for each such object, wherever places that were kept so far have led, and where it is reached the last level has a pair
   pub verdict : (ps : List Place) (t : Session) → Leads (program_of m) (question_of m) (start []) ps t → (o : ℕ) → o < length t.db → state t.db o ≡ s
       → (r.reached ≡ true) ↔ ReachedFrom (program_of m) (question_of m) t.db (first_variable m) o
   pub entered : r.reached ≡ true → Entered r.levels.rows m.stagecount
   -- the levels of the question, where stage 1 asks besides for a slot to whose state such an object can come
-  pub asked : Pointing
-  pub aims : Aims r.states r.moves.ways s asked
-  pub levels : Filled m (row r.states) w r.moves.ways asked r.levels
+  pub asked : List ℕ
+  pub aims : Aims r.explored.states r.explored.moves.ways s asked
+  pub levels : Filled m (row r.explored.states) w r.explored.moves.ways (Some asked) r.levels
 
-pub record FindsFrom (m : Model) (s : ℕ) (w : List ℕ) (r : Found) : Type 0 where
-  pub crowded : (r.crowded ≡ true) ↔ MoreThan limit.atomic (program_of m)
-  pub searched : r.crowded ≡ false → SearchedFrom m s w r
+abbrev pub FindsFrom : Model → ℕ → List ℕ → Option Found → Type 0
+FindsFrom m s w r = MatchOption r (MoreThan limit.atomic (program_of m)) (SearchedFrom m s w)

@@ -12,7 +12,7 @@ use Rattle.semantics.specs.Tables.{Shows}
 use Rattle.semantics.proofs.Tools.{same?, clash}
 use Rattle.model.specs.Records.{body_at}
 use Rattle.facts_bits.specs.Width as width
-use Rattle.facts_bits.specs.Bits.{bit_at, Next as Following}
+use Rattle.facts_bits.specs.Bits.{bit_at, FirstFrom}
 use Rattle.facts_bits.proofs.Changing.{before?}
 use Rattle.facts_table.specs.Table.{table_of}
 use Rattle.facts_candidates.specs.declared.Choice.{Choice}
@@ -21,7 +21,7 @@ use Rattle.facts_find.specs.Bodies.{Fixed}
 use Rattle.facts_holds.specs.declared.Part.{Part}
 use Rattle.facts_holds.specs.Shows.{Evaluable, Tells}
 use Rattle.facts_holds.proofs.Laws.{fixed_more}
-use Rattle.search_levels.specs.declared.Pointing.{Pointing}
+use Rattle.std.specs.Prelude.{Option, Some, None}
 use Rattle.search_levels.specs.declared.Walker.{Walker}
 use Rattle.search_levels.specs.Passing.{Aimed, Holding}
 
@@ -36,8 +36,8 @@ module _ (S w literals : List ℕ) (part : Part) (c : Choice) where
     abbrev pub NoneBelow : ℕ → Type 0
     NoneBelow e = (σ : ℕ → ℕ) → Fits σ → bit_at row (σ 0) ≡ true → e ≤ σ 0
 
-    pub none-begins : (j : ℕ) → Following row 0 j → NoneBelow j
-    none-begins j next σ h b = ⊎_elim (λ l. clash b (next.clear (σ 0) (omega arith) l)) (λ l. l) (before? (σ 0) j)
+    pub none-begins : NoneBelow 0
+    none-begins σ h b = omega arith
 
     module _ (some : 0 < part.variables) (body : Evaluable literals part) where
       module _ (free : chosen c 0 ≡ limit.none) (e : ℕ) (small : e < width.slots) (one : Choice) (law : (x : ℕ) → x < limit.variables → chosen one x ≡ cond (eqb x 0) e (chosen c x))
@@ -50,43 +50,40 @@ module _ (S w literals : List ℕ) (part : Part) (c : Choice) where
         fits-here q b = let z = tells.0 q in let y = (with-slot z.0).0 z.2 in (z.0, z.1, y.0, subst (λ (i : ℕ). bit_at row i ≡ true) (sym y.1) b)
 
         -- or it does not
-        pub none_more : r ≡ false → NoneBelow e → (j : ℕ) → Following row (e + 1) j → NoneBelow j
-        none_more q h j next σ f b = ⊎_elim
+        pub none_more : r ≡ false → (at : ℕ) → NoneBelow at → FirstFrom row at e → NoneBelow (e + 1)
+        none_more q at h first σ f b = ⊎_elim
             (λ (z : σ 0 ≡ e). clash (tells.1 (σ, f.0, (with-slot σ).1 (f.1, z))) q)
-            (λ (z : σ 0 ≢ e). let l = h σ f b in ⊎_elim (λ k. clash b (next.clear (σ 0) (omega (arith, l, z)) k)) (λ k. k) (before? (σ 0) j))
+            (λ (z : σ 0 ≢ e). ⊎_elim (λ l. clash b (first.clear (σ 0) (h σ f b) l)) (λ l. omega (arith, l, z)) (before? (σ 0) e))
             (same? (σ 0) e)
 
       -- none of them fits
-      pub none-fits : (n e : ℕ) → length S ≡ n → n ≤ e → NoneBelow e → Holding S w literals part c (λ σ. bit_at row (σ 0) ≡ true) → ⊥
-      none-fits n e many l h f = omega (arith, h f.0 (f.1, f.2) f.3, f.1.0 0 (body.body.every 0 some), many, l)
+      pub none-fits : (at : ℕ) → length S ≤ limit.listed → NoneBelow at → ((j : ℕ) → at ≤ j → j < width.slots → bit_at row j ≡ false) → Holding S w literals part c (λ σ. bit_at row (σ 0) ≡ true) → ⊥
+      none-fits at few h none f = clash f.3 (none (f.0 0) (h f.0 (f.1, f.2) f.3) (omega (arith, f.1.0 0 (body.body.every 0 some), few)))
 
   -- WITH MORE ASKED OF VARIABLE 0
-  module _ (p : Pointing) (r : Bool) (tells : Tells S w (body_at literals part.first part.count) part.variables c r) where
+  module _ (p : Option (List ℕ)) (r : Bool) (tells : Tells S w (body_at literals part.first part.count) part.variables c r) where
     -- nothing fits,
     pub pointed-none : r ≡ false → Holding S w literals part c (Aimed p) → ⊥
     pointed-none q h = clash (tells.1 (h.0, h.1, h.2)) q
 
     module _ (told : r ≡ true) where
       -- or nothing more is asked,
-      pub pointed-free : p.given ≡ false → Holding S w literals part c (Aimed p)
-      pointed-free q = let z = tells.0 told in (z.0, z.1, z.2, λ y. clash y q)
+      pub pointed-free : p ≡ None → Holding S w literals part c (Aimed p)
+      pointed-free q = let z = tells.0 told in (z.0, z.1, z.2, rw q tt)
 
       -- or its slot is fixed,
-      pub pointed-fixed : (p.given ≡ true) → 0 < part.variables → c.first < width.slots → (bit_at p.among c.first ≡ true) ↔ Holding S w literals part c (Aimed p)
-      pointed-fixed g some l = (
-        (λ b. let z = tells.0 told in (z.0, z.1, z.2, λ y. subst (λ (i : ℕ). bit_at p.among i ≡ true) (sym (at z.0 z.2)) b)),
-        λ h. subst (λ (i : ℕ). bit_at p.among i ≡ true) (at h.0 h.2) (h.3 g),
+      pub pointed-fixed : (among : List ℕ) → p ≡ Some among → 0 < part.variables → c.first < width.slots → (bit_at among c.first ≡ true) ↔ Holding S w literals part c (Aimed p)
+      pointed-fixed among g some l = rw g (
+        (λ b. let z = tells.0 told in (z.0, z.1, z.2, subst (λ (i : ℕ). bit_at among i ≡ true) (sym (at z.0 z.2)) b)),
+        λ h. subst (λ (i : ℕ). bit_at among i ≡ true) (at h.0 h.2) h.3,
       )
         where
           at : (σ : ℕ → ℕ) → Fixed part.variables c σ → σ 0 ≡ c.first
           at σ f = f 0 some (λ q. absurd (omega (arith, q, l)))
 
   -- or it is in the row
-  pub pointed-row : (p : Pointing) → p.given ≡ true → (b : Bool) → (b ≡ true) ↔ Holding S w literals part c (λ σ. bit_at p.among (σ 0) ≡ true) → (b ≡ true) ↔ Holding S w literals part c (Aimed p)
-  pointed-row p g b h = (
-    (λ q. let z = h.0 q in (z.0, z.1, z.2, λ y. z.3)),
-    λ q. h.1 (q.0, q.1, q.2, q.3 g),
-  )
+  pub pointed-row : (p : Option (List ℕ)) (among : List ℕ) → p ≡ Some among → (b : Bool) → (b ≡ true) ↔ Holding S w literals part c (λ σ. bit_at among (σ 0) ≡ true) → (b ≡ true) ↔ Holding S w literals part c (Aimed p)
+  pointed-row p among g b h = rw g h
 
 -- the pair's slots are small
 pub seated-small : (c r : Choice) (a : Walker) (e : ℕ) → e ≤ limit.none → ((x : ℕ) → x < limit.variables → chosen r x ≡ cond (a.stands && eqb x a.seat) e (chosen c x)) → chosen c 0 ≤ limit.none → chosen r 0 ≤ limit.none

@@ -12,7 +12,7 @@ use Rattle.semantics.proofs.Tools.{either, same?, clash}
 use Rattle.model.specs.declared.Model.{Model}
 use Rattle.facts_bits.specs.Bits.{bit_at, with_bit, in_row, Joined}
 use Rattle.search_ways.proofs.Marking.{marks-bit}
-use Rattle.search_levels.specs.declared.Pointing.{Pointing}
+use Rattle.std.specs.Prelude.{Option}
 use Rattle.search_levels.specs.Levels.{pair_at, Next, Passed}
 use Rattle.search_levels.specs.Passing.{Has, Clear, Written}
 use Rattle.search_levels.proofs.Rows.{no-bit}
@@ -59,7 +59,7 @@ pub begun-clear : (n : ℕ) → 0 < n → Clear (limit.listed * suc 0) (with_bit
 begun-clear n some i e l h = let p = (marks-bit (replicate n 0) 0 0 (omega arith) (rw length-replicate (omega arith))).bits i e (omega arith) in
     ⊎_elim (λ q. absurd (⊎_elim (λ x. clash x (no-bit n i e (omega arith))) (λ x. omega (arith, x.0)) (p.0 q))) (λ q. q) (either (in_row (with_bit (replicate n 0) 0) i e))
 
-module _ (m : Model) (S w ways : List ℕ) (p : Pointing) where
+module _ (m : Model) (S w ways : List ℕ) (p : Option (List ℕ)) where
   -- the same pairs on both levels
   module _ (A A' : ℕ → ℕ → Bool) (a : (e f : ℕ) → e < limit.listed → f < limit.listed → A e f ≡ A' e f) where
     next-so : (k e f : ℕ) → Next m S w ways p k A e f → Next m S w ways p k A' e f

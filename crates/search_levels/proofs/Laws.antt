@@ -29,13 +29,15 @@ use Rattle.model.specs.Records.{program_of, question_of, stage_at, carried_at}
 use Rattle.model.specs.WellFormed.{WellFormed}
 use Rattle.model.proofs.Accepted.{stages}
 use Rattle.model.proofs.Carried.{carried-own, carried-only}
+use Rattle.facts_bits.specs.Bits.{bit_at}
 use Rattle.facts_table.specs.Table.{table_of}
 use Rattle.search_states.specs.declared.States.{States}
 use Rattle.search_states.specs.States.{row, by, from, Discovered}
 use Rattle.search_states.proofs.Laws.{length-row}
 use Rattle.search_ways.specs.Moves.{Marks, Exactly}
 use Rattle.search_ways.specs.Steps.{Between}
-use Rattle.search_levels.specs.declared.Pointing.{Pointing}
+use Rattle.std.specs.Prelude as std
+use Rattle.std.specs.Prelude.{Some, None, IfSome}
 use Rattle.search_levels.specs.declared.Levels.{Levels}
 use Rattle.search_levels.specs.Levels.{holder, chosen, pair_at, Moved, Seated, first_variable, Pointed, Points, Filled}
 use Rattle.search_levels.proofs.Targets.{first-stands}
@@ -47,7 +49,7 @@ Sits S true o e = (e < length S) × (o ≡ some (state S e))
 
 -- THE LEVELS over the found states, where the closed matrix says who can come to whom
 module _ (m : Model) (wf : WellFormed m) (w : List ℕ) (s : States) (ex : Exactly m w s) (ways : List ℕ)
-    (closed : Marks ways (Between s.count (λ e t. Comes (program_of m) (row s) (state (row s) e) (state (row s) t)))) (p : Pointing) (l : Levels) (filled : Filled m (row s) w ways p l) where
+    (closed : Marks ways (Between s.count (λ e t. Comes (program_of m) (row s) (state (row s) e) (state (row s) t)))) (p : std.Option (List ℕ)) (l : Levels) (filled : Filled m (row s) w ways p l) where
   abbrev P : Program
   P = program_of m
 
@@ -211,11 +213,11 @@ module _ (m : Model) (wf : WellFormed m) (w : List ℕ) (s : States) (ex : Exact
     )
 
   -- THE QUESTION, with nothing asked besides: in runs of every length it is reached exactly if the last level has a pair
-  nobody-begins : p.given ≡ false → Begins nobody
-  nobody-begins q = record { first = λ σ h. ((λ a y t e z. no_none z), λ a z. clash z q); stands = λ y t z. no_none z }
+  nobody-begins : p ≡ None → Begins nobody
+  nobody-begins q = record { first = λ σ h. ((λ a y t e z. no_none z), λ a. rw q tt); stands = λ y t z. no_none z }
 
   -- an object of state t for the first variable of stage 1
-  module _ (t : ℕ) (points : Points P S t p) (some-variable : 0 < (stage_at m 0).variables) where
+  module _ (t : ℕ) (among : List ℕ) (asked : p ≡ Some among) (points : Points P S t among) (some-variable : 0 < (stage_at m 0).variables) where
     abbrev first : ℕ
     first = first_variable m
 
@@ -228,23 +230,23 @@ module _ (m : Model) (wf : WellFormed m) (w : List ℕ) (s : States) (ex : Exact
     object-begins : Begins (follows first t)
     object-begins = record {
       first = λ σ h. let at = points.slots (σ first) (small (σ first) (h.0 first stands-there)) in (
-        λ a y u e q. let z = only-first y u q in subst (λ (i : ℕ). Comes P S u (state S (σ i))) (sym z.0) (subst (λ (i : ℕ). Comes P S i (state S (σ first))) (sym z.1) (at.0 (a points.given)).1),
-        λ a g. at.1 (h.0 first stands-there, a first t stands-there (rw (eq-eqb first first refl))),
+        λ a y u e q. let z = only-first y u q in subst (λ (i : ℕ). Comes P S u (state S (σ i))) (sym z.0) (subst (λ (i : ℕ). Comes P S i (state S (σ first))) (sym z.1) (at.0 (subst (λ (o : std.Option (List ℕ)). IfSome o (λ r. bit_at r (σ first) ≡ true)) asked a)).1),
+        λ a. subst (λ (o : std.Option (List ℕ)). IfSome o (λ r. bit_at r (σ first) ≡ true)) (sym asked) (at.1 (h.0 first stands-there, a first t stands-there (rw (eq-eqb first first refl)))),
       );
       stands = λ y u q. subst (λ (i : ℕ). elem i (vars (get_or Q 0 [])) ≡ true) (sym (only-first y u q).0) stands-there;
     }
 
   module _ (whole : Whole (program_of m) (row s)) (found : Discovered (program_of m) s) where
-    pub verdict : p.given ≡ false → Ends ↔ Reached (program_of m) (question_of m)
+    pub verdict : p ≡ None → Ends ↔ Reached (program_of m) (question_of m)
     verdict plain =
         let q = verdicts.verdict P wf.safe Q S (by s) (from s) found wf.safely whole in
         let law = passable-law nobody (nobody-begins plain) in
         ((λ r. q.1 (law.0 r)), λ r. law.1 (q.0 r))
 
     -- THE SAME FROM WHERE PLACES STAND that were kept so far: with the object o, of state t, for the first variable of stage 1
-    pub verdict-from : (t : ℕ) → Points (program_of m) (row s) t p → 0 < (stage_at m 0).variables
+    pub verdict-from : (t : ℕ) (among : List ℕ) → p ≡ Some among → Points (program_of m) (row s) t among → 0 < (stage_at m 0).variables
         → (ps : List Place) (u : Session) → building.Leads (program_of m) (question_of m) (start []) ps u → (o : ℕ) → o < length u.db → state u.db o ≡ t → Ends ↔ ReachedFrom (program_of m) (question_of m) u.db (first_variable m) o
-    verdict-from t points one ps u lead o there same =
+    verdict-from t among asked points one ps u lead o there same =
         let q = verdicts.verdict-after P wf.safe Q S (by s) (from s) found wf.safely whole ps u lead (first_variable m) o there in
-        let law = passable-law (follows (first_variable m) (state u.db o)) (subst (λ (a : ℕ). Begins (follows (first_variable m) a)) (sym same) (object-begins t points one)) in
+        let law = passable-law (follows (first_variable m) (state u.db o)) (subst (λ (a : ℕ). Begins (follows (first_variable m) a)) (sym same) (object-begins t among asked points one)) in
         ((λ r. q.1 (law.0 r)), λ r. law.1 (q.0 r))

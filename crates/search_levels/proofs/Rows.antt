@@ -3,13 +3,13 @@ use mathlib.Core.Path.{◌≡◌, refl, sym, ap, ◌∙◌, subst}
 use mathlib.Core.Logic.{◌⊎◌, inl, inr, ⊎_elim, ◌≢◌, ◌↔◌}
 use mathlib.Core.Bool.{Bool, true, false}
 use mathlib.Core.List.{List}
-use Prim.Native.Nat.{ℕ, ◌+◌, ◌*◌, ◌<◌}
+use Prim.Native.Nat.{ℕ, ◌+◌, ◌*◌, ◌≤◌, ◌<◌}
 use native.Mathlib.Omega.{arith}
 use lib.ListN.{replicate}
 use Rattle.limits.specs.Limits as limit
 use Rattle.semantics.proofs.Tools.{either, same?, clash}
 use Rattle.facts_bits.specs.Width as width
-use Rattle.facts_bits.specs.Bits.{bit_at, in_row, Copied, Joined, Next as Following}
+use Rattle.facts_bits.specs.Bits.{bit_at, in_row, Copied, Joined}
 use Rattle.facts_bits.proofs.Laws.{full-bits}
 use Rattle.facts_bits.proofs.Changing.{before?}
 use Rattle.search_ways.specs.Moves.{Marks, With, InRow}
@@ -50,15 +50,15 @@ with-so w₀ w D E f = marks-so w (With w₀ D) (With w₀ E) (λ i e l. let g =
 ))
 
 -- A ROW FROM SET BIT TO SET BIT: nothing is passed over
-module _ (row : List ℕ) (i j : ℕ) (next : Following row i j) where
+module _ (row : List ℕ) (i j : ℕ) (after : i ≤ j) (clear : (u : ℕ) → i ≤ u → u < j → bit_at row u ≡ false) where
   -- a set bit before the next one was before i
   before : (u : ℕ) → u < j → bit_at row u ≡ true → u < i
-  before u l q = ⊎_elim (λ h. h) (λ h. clash q (next.clear u h l)) (before? u i)
+  before u l q = ⊎_elim (λ h. h) (λ h. clash q (clear u h l)) (before? u i)
 
   -- slots of the row
   pub row_on : (w₀ w : List ℕ) (D : ℕ → Type 0) → ((e : ℕ) → D e → bit_at row e ≡ true) → Marks w (With w₀ (InRow 0 i D)) → Marks w (With w₀ (InRow 0 j D))
   row_on w₀ w D f = with-so w₀ w (InRow 0 i D) (InRow 0 j D) (λ k e l. (
-    (λ q. (q.0, let h = next.after in omega (arith, q.1), q.2)),
+    (λ q. (q.0, omega (arith, q.1, after), q.2)),
     λ q. (q.0, before e q.1 (f e q.2), q.2),
   ))
 
@@ -67,14 +67,21 @@ module _ (table : List ℕ) (at : ℕ) (picked : List ℕ) where
   abbrev pub PickedBelow : ℕ → ℕ → Type 0
   PickedBelow n e = (u : ℕ) × (u < n) × (u < limit.listed) × (bit_at picked u ≡ true) × (in_row table (at + u) e ≡ true)
 
-  pub picked-on : (i j : ℕ) → Following picked i j → (w₀ w : List ℕ) → Marks w (With w₀ (InRow 0 width.slots (PickedBelow i))) → Marks w (With w₀ (InRow 0 width.slots (PickedBelow j)))
-  picked-on i j next w₀ w = with-so w₀ w (InRow 0 width.slots (PickedBelow i)) (InRow 0 width.slots (PickedBelow j)) (λ k e l. (
-    (λ q. (q.0, l, (q.2.0, let h = next.after in omega (arith, q.2.1), q.2.2, q.2.3, q.2.4))),
-    λ q. (q.0, l, (q.2.0, before picked i j next q.2.0 q.2.1 q.2.3, q.2.2, q.2.3, q.2.4)),
+  pub picked-begin : (w : List ℕ) → Marks w (With w (InRow 0 width.slots (PickedBelow 0)))
+  picked-begin w = marks-same w (InRow 0 width.slots (PickedBelow 0)) (λ k e q. omega (arith, q.2.1))
+
+  pub picked-on : (i j : ℕ) → i ≤ j → ((u : ℕ) → i ≤ u → u < j → bit_at picked u ≡ false) → (w₀ w : List ℕ) → Marks w (With w₀ (InRow 0 width.slots (PickedBelow i))) → Marks w (With w₀ (InRow 0 width.slots (PickedBelow j)))
+  picked-on i j after clear w₀ w = with-so w₀ w (InRow 0 width.slots (PickedBelow i)) (InRow 0 width.slots (PickedBelow j)) (λ k e l. (
+    (λ q. (q.0, l, (q.2.0, omega (arith, q.2.1, after), q.2.2, q.2.3, q.2.4))),
+    λ q. (q.0, l, (q.2.0, before picked i j after clear q.2.0 q.2.1 q.2.3, q.2.2, q.2.3, q.2.4)),
   ))
 
-  pub picked_none : (j : ℕ) → Following picked 0 j → (w : List ℕ) → Marks w (With w (InRow 0 width.slots (PickedBelow j)))
-  picked_none j next w = picked-on 0 j next w w (marks-same w (InRow 0 width.slots (PickedBelow 0)) (λ k e q. omega (arith, q.2.1)))
+  -- a slot behind the matrix has no row
+  pub picked-over : (w₀ w : List ℕ) (u : ℕ) → limit.listed ≤ u → Marks w (With w₀ (InRow 0 width.slots (PickedBelow u))) → Marks w (With w₀ (InRow 0 width.slots (PickedBelow (u + 1))))
+  picked-over w₀ w u h = with-so w₀ w (InRow 0 width.slots (PickedBelow u)) (InRow 0 width.slots (PickedBelow (u + 1))) (λ k e l. (
+    (λ q. (q.0, l, (q.2.0, omega (arith, q.2.1), q.2.2, q.2.3, q.2.4))),
+    λ q. (q.0, l, (q.2.0, omega (arith, q.2.2, h), q.2.2, q.2.3, q.2.4)),
+  ))
 
   pub picked_more : (w₀ : List ℕ) (u : ℕ) (w r w' : List ℕ) → u < limit.listed → bit_at picked u ≡ true → Copied table (at + u) r → Joined w 0 r w'
       → Marks w (With w₀ (InRow 0 width.slots (PickedBelow u))) → Marks w' (With w₀ (InRow 0 width.slots (PickedBelow (u + 1))))

@@ -1,7 +1,7 @@
 -- The stages of an accepted question, with the numbers that the stages and the question have for the carried variables.
 use mathlib.Core.Path.{◌≡◌, refl, sym, ap, ◌∙◌, subst}
 use mathlib.Core.Logic.{⊎_elim, ◌↔◌}
-use mathlib.Core.Bool.{Bool, true, false, ◌||◌, false≢true}
+use mathlib.Core.Bool.{Bool, true, false, ◌||◌}
 use mathlib.Core.List.{List, [], map}
 use Prim.Native.Nat.{ℕ, zero, suc, ◌≤◌, ◌<◌}
 use native.Mathlib.Omega.{arith}
@@ -29,7 +29,7 @@ use Rattle.facts_table.specs.Table.{table_of, Consistent}
 use Rattle.facts_candidates.specs.Choices.{Own}
 use Rattle.facts_holds.specs.Shows.{Evaluable}
 use Rattle.search_states.proofs.Seats.{elem-get_or, seat-in, seat-out}
-use Rattle.search_levels.specs.declared.Pointing.{Pointing}
+use Rattle.std.specs.Prelude.{Option, Some, None, IfSome}
 use Rattle.search_levels.specs.declared.Meeting.{Meeting}
 use Rattle.search_levels.specs.Levels.{holder, chosen, pair_at, Moved, Seated, Pointed, Next, Passed}
 use Rattle.search_levels.specs.Passing.{besides, Aimed, Led, Met, Ready, meeting_of}
@@ -72,19 +72,20 @@ local-supported f b inj h x e =
 
 -- WHAT IS ASKED BESIDES of the first variable, by its numbers in the stage and in the question
 module _ (m : Model) where
-  some-variable : (k : ℕ) (p : Pointing) → (p.given ≡ true → 0 < (stage_at m 0).variables) → (besides p k).given ≡ true → 0 < (stage_at m k).variables
-  some-variable zero p some q = some q
-  some-variable (suc k) p some q = absurd (false≢true q)
+  some-variable : (k : ℕ) (p : Option (List ℕ)) → IfSome p (λ among. 0 < (stage_at m 0).variables) → IfSome (besides p k) (λ among. 0 < (stage_at m k).variables)
+  some-variable zero p some = some
+  some-variable (suc k) p some = tt
 
-  aimed-globally : (wf : WellFormed m) (k : ℕ) (here : k < m.stagecount) (p : Pointing) → (p.given ≡ true → 0 < (stage_at m 0).variables)
+  aimed-globally : (wf : WellFormed m) (k : ℕ) (here : k < m.stagecount) (p : Option (List ℕ)) → IfSome p (λ among. 0 < (stage_at m 0).variables)
       → (σ : ℕ → ℕ) → Aimed (besides p k) σ → Pointed m p k (globally (number_in (stage_at m k)) (stage_body m.literals (stage_at m k)) (stage-different m wf k here) σ)
-  aimed-globally wf zero here p some σ h =
-      λ q. subst (λ (i : ℕ). bit_at p.among i ≡ true) (sym (globally-at (number_in (stage_at m 0)) (stage_body m.literals (stage_at m 0)) (stage-different m wf 0 here) σ 0 ((stage-vars m wf 0 here 0).1 (some q)))) (h q)
+  aimed-globally wf zero here None some σ h = tt
+  aimed-globally wf zero here (Some among) some σ h =
+      subst (λ (i : ℕ). bit_at among i ≡ true) (sym (globally-at (number_in (stage_at m 0)) (stage_body m.literals (stage_at m 0)) (stage-different m wf 0 here) σ 0 ((stage-vars m wf 0 here 0).1 some))) h
   aimed-globally wf (suc k) here p some σ h = tt
 
-  aimed-locally : (k : ℕ) (p : Pointing) (σ : ℕ → ℕ) → Pointed m p k σ → Aimed (besides p k) (λ z. σ (number_in (stage_at m k) z))
+  aimed-locally : (k : ℕ) (p : Option (List ℕ)) (σ : ℕ → ℕ) → Pointed m p k σ → Aimed (besides p k) (λ z. σ (number_in (stage_at m k) z))
   aimed-locally zero p σ h = h
-  aimed-locally (suc k) p σ h = λ q. absurd (false≢true q)
+  aimed-locally (suc k) p σ h = tt
 
 -- STAGE k of a well-formed model
 module _ (m : Model) (wf : WellFormed m) (k : ℕ) (here : k < m.stagecount) where
@@ -155,7 +156,7 @@ module _ (m : Model) (wf : WellFormed m) (k : ℕ) (here : k < m.stagecount) whe
   chosen-after v = ap (λ (s : Bool). chosen m v k || s) (stands-holder (carried_at m v))
 
   -- THE STAGE WITH THE CARRIED VARIABLES, and what it asks besides
-  module _ (p : Pointing) (some : p.given ≡ true → 0 < (stage_at m 0).variables) where
+  module _ (p : Option (List ℕ)) (some : IfSome p (λ among. 0 < (stage_at m 0).variables)) where
     abbrev t : Meeting
     t = meeting_of g m.carried (chosen m 0 k) (chosen m 1 k) (besides p k)
 

@@ -1,5 +1,5 @@
 -- What is asked for an object of some state: the slots to whose states it can come.
-use mathlib.Core.Path.{◌≡◌, refl, sym, ◌∙◌, subst}
+use mathlib.Core.Path.{◌≡◌, sym, ◌∙◌, subst}
 use mathlib.Core.Logic.{⊎_elim}
 use mathlib.Core.Bool.{true}
 use mathlib.Core.List.{List, []}
@@ -27,7 +27,6 @@ use Rattle.search_states.proofs.Laws.{length-row}
 use Rattle.search_states.proofs.Seats.{seat-in, seat-out}
 use Rattle.search_ways.specs.Moves.{Marks}
 use Rattle.search_ways.specs.Steps.{Between}
-use Rattle.search_levels.specs.declared.Pointing.{Pointing}
 use Rattle.search_levels.specs.Levels.{first_variable, Aims, Points}
 use Rattle.search_levels.proofs.Rows.{has-nothing}
 
@@ -38,11 +37,11 @@ module _ (m : Model) (wf : WellFormed m) (one : 0 < (stage_at m 0).variables) wh
       (rw (vars-renamed (number_in (stage_at m 0)) (stage_body m.literals (stage_at m 0))) (elem-map (number_in (stage_at m 0)) 0 (vars (stage_body m.literals (stage_at m 0))) ((stage-vars m wf 0 wf.one 0).1 one)))
 
 -- THE ROW OF THE STATE'S SLOT, or none
-pub aims-row : (s : States) (ways : List ℕ) (t : ℕ) (r : List ℕ) → seat t (row s) < s.count → Copied ways (seat t (row s)) r → Aims s ways t (record { given = true; among = r })
-aims-row s ways t r l copied = record { given = refl; slots = λ e h. let same = copied.bits e (omega arith) in ((λ q. (l, sym same ∙ q)), λ q. same ∙ q.1) }
+pub aims-row : (s : States) (ways : List ℕ) (t : ℕ) (r : List ℕ) → seat t (row s) < s.count → Copied ways (seat t (row s)) r → Aims s ways t r
+aims-row s ways t r l copied = record { slots = λ e h. let same = copied.bits e (omega arith) in ((λ q. (l, sym same ∙ q)), λ q. same ∙ q.1) }
 
-pub aims-none : (s : States) (ways : List ℕ) (t : ℕ) → s.count ≤ seat t (row s) → Aims s ways t (record { given = true; among = replicate width.bytes 0 })
-aims-none s ways t l = record { given = refl; slots = (has-nothing (λ e. (seat t (row s) < s.count) × (in_row ways (seat t (row s)) e ≡ true)) (λ e h q. absurd (omega (arith, l, q.0)))).bits }
+pub aims-none : (s : States) (ways : List ℕ) (t : ℕ) → s.count ≤ seat t (row s) → Aims s ways t (replicate width.bytes 0)
+aims-none s ways t l = record { slots = (has-nothing (λ e. (seat t (row s) < s.count) × (in_row ways (seat t (row s)) e ≡ true)) (λ e h q. absurd (omega (arith, l, q.0)))).bits }
 
 -- what comes to a listed state is listed
 module _ (P : Program) (safe : Safe P) (S : Database) where
@@ -57,13 +56,12 @@ module _ (P : Program) (safe : Safe P) (S : Database) where
 
 -- THESE ARE THE SLOTS to whose states an object of state t can come
 module _ (m : Model) (wf : WellFormed m) (s : States) (proper : Proper s) (ways : List ℕ) (closed : Marks ways (Between s.count (λ e u. Comes (program_of m) (row s) (state (row s) e) (state (row s) u))))
-    (t : ℕ) (p : Pointing) (aims : Aims s ways t p) where
+    (t : ℕ) (among : List ℕ) (aims : Aims s ways t among) where
   count : length (row s) ≡ s.count
   count = length-row s proper
 
-  pub aims-points : Points (program_of m) (row s) t p
+  pub aims-points : Points (program_of m) (row s) t among
   aims-points = record {
-    given = aims.given;
     slots = λ e h. let there = aims.slots e h in (
       λ q. let z = there.0 q in let y = (closed.bits (seat t (row s)) e (omega arith)).0 z.1 in
           (subst (λ (n : ℕ). e < n) (sym count) y.1, subst (λ (a : ℕ). Comes (program_of m) (row s) a (state (row s) e)) (at z.0) y.2),

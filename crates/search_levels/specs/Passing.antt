@@ -1,5 +1,5 @@
 -- PASSING A STAGE row by row, with the variables numbered within the stage.
-use Rattle.std.specs.Prelude.{◌≡◌, ◌↔◌, ◌≢◌, Bool, true, false, List, ℕ, zero, suc, ◌+◌, ◌≤◌, ◌<◌, ltb, length, take, get_or}
+use Rattle.std.specs.Prelude.{◌≡◌, ◌↔◌, ◌≢◌, Bool, true, false, Option, None, IfSome, List, ℕ, zero, suc, ◌+◌, ◌≤◌, ◌<◌, ltb, length, take, get_or}
 use Rattle.limits.specs.Limits as limit
 use Rattle.semantics.specs.Facts.{Database}
 use Rattle.semantics.specs.Tables.{Shows, seat}
@@ -13,10 +13,9 @@ use Rattle.facts_candidates.specs.Choices.{Own}
 use Rattle.facts_find.specs.Bodies.{Fixed}
 use Rattle.facts_holds.specs.declared.Part.{Part}
 use Rattle.facts_holds.specs.Shows.{Evaluable}
-use Rattle.search_levels.specs.declared.Pointing.{Pointing}
 use Rattle.search_levels.specs.declared.Walker.{Walker}
 use Rattle.search_levels.specs.declared.Meeting.{Meeting}
-use Rattle.search_levels.specs.Levels.{nothing, Moved, Seated}
+use Rattle.search_levels.specs.Levels.{Moved, Seated}
 
 -- a row by value has exactly the slots of D
 pub record Has (r : List ℕ) (D : ℕ → Type 0) : Type 0 where
@@ -35,13 +34,13 @@ abbrev pub Led : List ℕ → Meeting → (ℕ → ℕ → Bool) → ℕ → ℕ
 Led ways t A e f = Onward ways t.first.stands t.first.chosen (λ u. Onward ways t.second.stands t.second.chosen (λ v. A u v ≡ true) f) e
 
 -- what stage k asks besides
-abbrev pub besides : Pointing → ℕ → Pointing
+abbrev pub besides : Option (List ℕ) → ℕ → Option (List ℕ)
 besides p zero = p
-besides p (suc k) = nothing
+besides p (suc k) = None
 
 -- the object of variable 0 is as asked
-abbrev pub Aimed : Pointing → (ℕ → ℕ) → Type 0
-Aimed p σ = p.given ≡ true → bit_at p.among (σ 0) ≡ true
+abbrev pub Aimed : Option (List ℕ) → (ℕ → ℕ) → Type 0
+Aimed p σ = IfSome p (λ among. bit_at among (σ 0) ≡ true)
 
 -- the body holds with the fixed slots, for objects of which D
 abbrev pub Holding : Database → List ℕ → List ℕ → Part → Choice → ((ℕ → ℕ) → Type 0) → Type 0
@@ -74,7 +73,7 @@ pub record Asked (w slots : List ℕ) (n : ℕ) (literals : List ℕ) (part : Pa
 -- the stage can be asked: the two variables are different ones of it where they stand there, and it has one where more is asked of its first
 pub record Ready (w slots : List ℕ) (n : ℕ) (literals : List ℕ) (t : Meeting) : Type 0 where
   pub asked : Asked w slots n literals t.part
-  pub some : t.pointing.given ≡ true → 0 < t.part.variables
+  pub some : IfSome t.pointing (λ among. 0 < t.part.variables)
   pub first : t.first.stands ≡ true → t.first.seat < t.part.variables
   pub second : t.second.stands ≡ true → t.second.seat < t.part.variables
   pub apart : t.first.stands ≡ true → t.second.stands ≡ true → t.first.seat ≢ t.second.seat
@@ -83,7 +82,7 @@ pub record Ready (w slots : List ℕ) (n : ℕ) (literals : List ℕ) (t : Meeti
 abbrev pub walker_of : Stage → ℕ → Bool → Walker
 walker_of g x c = record { seat = seat x (take g.variables g.numbers); stands = ltb (seat x (take g.variables g.numbers)) g.variables; chosen = c }
 
-abbrev pub meeting_of : Stage → List ℕ → Bool → Bool → Pointing → Meeting
+abbrev pub meeting_of : Stage → List ℕ → Bool → Bool → Option (List ℕ) → Meeting
 meeting_of g carried c d p = record {
   part = record { first = g.first; count = g.count; variables = g.variables };
   first = walker_of g (get_or carried 0 limit.none) c;

@@ -1,7 +1,7 @@
 // The levels of a question: in which states the carried objects can be with so many stages met, pair by pair, by who can come from which state to which.
 #![tactic(auto)]
 
-ghost use Rattle.std.specs.Prelude.{◌≡◌, ◌↔◌, true, cond, ◌&&◌, ◌||◌, ℕ, suc, ◌+◌, ◌*◌, ◌≤◌, ◌<◌, eqb, length};
+ghost use Rattle.std.specs.Prelude.{◌≡◌, ◌↔◌, true, cond, ◌&&◌, ◌||◌, ℕ, suc, ◌+◌, ◌*◌, ◌≤◌, ◌<◌, eqb, length, IfSome};
 ghost use Rattle.limits.specs.Limits as limit;
 ghost use Rattle.model.specs.Records.{stage_at};
 ghost use Rattle.model.specs.WellFormed.{WellFormed};
@@ -10,7 +10,7 @@ ghost use Rattle.facts_bits.specs.Bits.{bit_at, in_row};
 ghost use Rattle.facts_candidates.specs.Choices.{chosen};
 ghost use Rattle.search_states.specs.States.{row, Proper};
 ghost use Rattle.search_ways.specs.Moves.{matrix_bytes, Exactly};
-ghost use Rattle.search_levels.specs.Levels.{nothing, Aims, levels_bytes, pair_at, Filled};
+ghost use Rattle.search_levels.specs.Levels.{Aims, pair_at, Filled};
 ghost use Rattle.search_levels.specs.Passing.{Has, Picked, Onward, Led, besides, Aimed, Holding, Met, Hopeful, Over, Asked, Ready, walker_of, meeting_of, Clear, Written};
 
 use facts_bits::{BYTES, SLOTS, WIDTH};
@@ -26,19 +26,15 @@ pub const LEVELS: usize = (STAGES + 1) * MATRIX;
 
 // Matrix k has the pairs of level k, with k stages met: bit e of its row f is set if the object of the first carried variable can be in slot e while that of the
 // second is in slot f. As long as a variable stood in no stage its slot is 0 and says nothing.
+// Slot 0 stays for no slot: rows and bits are numbered by the slots, and a matrix has no place for none.
 #[derive(Clone, Copy)]
 pub struct Levels {
     pub rows: [u8; LEVELS],
 }
 
-// What stage 1 asks besides of the object of its first variable: that its slot is in the row, or nothing.
-#[derive(Clone, Copy)]
-pub struct Pointing {
-    pub given: bool,
-    pub among: [u8; BYTES],
-}
-
 // A carried variable at a stage: its number in the stage, whether it stands there, and whether it stood in a stage before.
+// The flag `stands` stays beside the number: four functions ask for it alone, and the number is read in one.
+// The flag `chosen` stays: it is a fact about the stages before, and no field counts by it.
 #[derive(Clone, Copy)]
 struct Walker {
     seat: usize,
@@ -46,46 +42,31 @@ struct Walker {
     chosen: bool,
 }
 
-// A stage with the two carried variables, and what is asked besides of its first variable.
+// A stage with the two carried variables, and a row in which the slot of its first variable has to be, if there is one.
 #[derive(Clone, Copy)]
 struct Meeting {
     part: Part,
     first: Walker,
     second: Walker,
-    pointing: Pointing,
+    pointing: Option<[u8; BYTES]>,
 }
 
 // What is asked where an object of the state stands for the first variable: a slot to which it can come. A state that is not in the row, such as the empty one, comes to none.
-pub fn aim(s: States, ways: &[u8], state: u32) -> Pointing
-    requires { Proper s × (length ways.now ≡ matrix_bytes) }
+pub fn aim(s: States, ways: &[u8; MATRIX], state: u32) -> [u8; BYTES]
+    requires { Proper s }
     ensures { Aims s ways.now state result }
 {
-    let states = s.states;
-    let e = search_states::seek(&states, s.count, state);
-    if e < s.count {
-        let among = facts_bits::row(ways, e);
-        return Pointing { given: true, among };
-    }
-    let among = [0u8; BYTES];
-    Pointing { given: true, among }
-}
-
-// Nothing is asked besides.
-pub fn unasked() -> Pointing
-    ensures { result ≡ nothing }
-{
-    let among = [0u8; BYTES];
-    Pointing {
-        given: false,
-        among,
+    match search_states::seek(&s.states[..s.count], state) {
+        Some(e) => facts_bits::row(ways, e),
+        None => [0u8; BYTES],
     }
 }
 
 // What stage k asks besides.
-fn asked_at(p: Pointing, k: usize) -> Pointing
+fn asked_at(p: Option<[u8; BYTES]>, k: usize) -> Option<[u8; BYTES]>
     ensures { result ≡ besides p k }
 {
-    if k == 0 { p } else { unasked() }
+    if k == 0 { p } else { None }
 }
 
 // The choice with slot e for the variable, where it stands in the stage.
@@ -100,6 +81,7 @@ fn seated(c: Choice, a: Walker, e: usize) -> Choice
 }
 
 // Does the body hold for a choice with the fixed slots, and with a slot of the row for its first variable, which is free?
+// What is lent stays apart: the work area, the slots and the literals go to the evaluator alone, which takes each by itself, so that a struct would be made only to be taken apart.
 fn somewhere(
     work: &[u8],
     slots: &[u8],
@@ -112,13 +94,11 @@ fn somewhere(
     requires { Asked work.now slots.now n literals.now part × (0 < part.variables) × (chosen c 0 ≡ limit.none) }
     ensures { Over work.now n (λ S. (result ≡ true) ↔ Holding S work.now literals.now part c (λ σ. bit_at row (σ 0) ≡ true)) }
 {
-    let mut e = facts_bits::next(row, 0);
-    while e < n {
+    for e in facts_bits::slots(row) {
         let one = facts_candidates::choose(c, 0, e);
         if facts_holds::shows(work, slots, n, literals, part, one) {
             return true;
         }
-        e = facts_bits::next(row, e + 1);
     }
     false
 }
@@ -130,19 +110,18 @@ fn pointed(
     n: usize,
     literals: &[u32],
     part: Part,
-    p: Pointing,
+    p: Option<[u8; BYTES]>,
     c: Choice,
 ) -> bool
-    requires { Asked work.now slots.now n literals.now part × (p.given ≡ true → 0 < part.variables) × (chosen c 0 ≤ limit.none) }
+    requires { Asked work.now slots.now n literals.now part × IfSome p (λ among. 0 < part.variables) × (chosen c 0 ≤ limit.none) }
     ensures { Over work.now n (λ S. (result ≡ true) ↔ Holding S work.now literals.now part c (Aimed p)) }
 {
     if !facts_holds::shows(work, slots, n, literals, part, c) {
         return false;
     }
-    if !p.given {
+    let Some(among) = p else {
         return true;
-    }
-    let among = p.among;
+    };
     if c.first < SLOTS {
         return facts_bits::get(&among, c.first);
     }
@@ -150,6 +129,7 @@ fn pointed(
 }
 
 // Does the stage hold with the pair e f?
+// That the stage can be asked and that f is a slot stays in clauses, and the stage and f stay apart: the stage is another one for each level, and f for each row.
 fn holds(
     work: &[u8],
     slots: &[u8],
@@ -182,12 +162,10 @@ fn fitting(
     ensures { Over work.now n (λ S. Has result (λ e. (bit_at row e ≡ true) × Met S work.now literals.now t e f)) }
 {
     let mut out = [0u8; BYTES];
-    let mut e = facts_bits::next(row, 0);
-    while e < n {
-        if holds(work, slots, n, literals, t, e, f) {
+    for e in facts_bits::slots(row) {
+        if e < n && holds(work, slots, n, literals, t, e, f) {
             facts_bits::put(&mut out, e);
         }
-        e = facts_bits::next(row, e + 1);
     }
     out
 }
@@ -223,18 +201,18 @@ fn union(table: &[u8], at: usize, picked: [u8; BYTES]) -> [u8; BYTES]
     ensures { Has result (Picked table.now at picked) }
 {
     let mut out = [0u8; BYTES];
-    let mut u = facts_bits::next(picked, 0);
-    while u < LISTED {
-        let row = facts_bits::row(table, at + u);
-        facts_bits::join(&mut out, 0, row);
-        u = facts_bits::next(picked, u + 1);
+    for u in facts_bits::slots(picked) {
+        if u < LISTED {
+            let row = facts_bits::row(table, at + u);
+            facts_bits::widen(&mut out, 0, row);
+        }
     }
     out
 }
 
 // The slots from which one can come to slot f.
-fn column(ways: &[u8], f: usize) -> [u8; BYTES]
-    requires { (length ways.now ≡ matrix_bytes) × (f < limit.listed) }
+fn column(ways: &[u8; MATRIX], f: usize) -> [u8; BYTES]
+    requires { f < limit.listed }
     ensures { Has result (λ u. in_row ways.now u f ≡ true) }
 {
     let mut out = [0; BYTES];
@@ -247,8 +225,7 @@ fn column(ways: &[u8], f: usize) -> [u8; BYTES]
 }
 
 // The slots to which the first object goes from the slots of a row.
-fn onward(ways: &[u8], a: Walker, row: [u8; BYTES]) -> [u8; BYTES]
-    requires { length ways.now ≡ matrix_bytes }
+fn onward(ways: &[u8; MATRIX], a: Walker, row: [u8; BYTES]) -> [u8; BYTES]
     ensures { Has result (Onward ways.now a.stands a.chosen (λ u. bit_at row u ≡ true)) }
 {
     if !a.stands {
@@ -264,8 +241,9 @@ fn onward(ways: &[u8], a: Walker, row: [u8; BYTES]) -> [u8; BYTES]
 }
 
 // The slots that the first object has on level k with those from which the second one goes to slot f.
-fn gathered(ways: &[u8], b: Walker, rows: &[u8], k: usize, f: usize) -> [u8; BYTES]
-    requires { (length ways.now ≡ matrix_bytes) × (length rows.now ≡ levels_bytes) × (k ≤ limit.stages) × (f < limit.listed) }
+// The level and the row stay apart from the matrices, with their bounds in clauses: they are the numbers of two loops, while the matrices are lent.
+fn gathered(ways: &[u8; MATRIX], b: Walker, rows: &[u8; LEVELS], k: usize, f: usize) -> [u8; BYTES]
+    requires { (k ≤ limit.stages) × (f < limit.listed) }
     ensures { Has result (λ u. Onward ways.now b.stands b.chosen (λ v. pair_at rows.now k u v ≡ true) f) }
 {
     let at = LISTED * k;
@@ -279,8 +257,9 @@ fn gathered(ways: &[u8], b: Walker, rows: &[u8], k: usize, f: usize) -> [u8; BYT
 }
 
 // The slots that go with slot f when both objects are led on from level k.
-fn led(ways: &[u8], t: Meeting, rows: &[u8], k: usize, f: usize) -> [u8; BYTES]
-    requires { (length ways.now ≡ matrix_bytes) × (length rows.now ≡ levels_bytes) × (k ≤ limit.stages) × (f < limit.listed) }
+// The stage stays beside the level: a level is made of the one before it by the stage between them.
+fn led(ways: &[u8; MATRIX], t: Meeting, rows: &[u8; LEVELS], k: usize, f: usize) -> [u8; BYTES]
+    requires { (k ≤ limit.stages) × (f < limit.listed) }
     ensures { Has result (λ e. Led ways.now t (pair_at rows.now k) e f) }
 {
     let row = gathered(ways, t.second, rows, k, f);
@@ -288,17 +267,18 @@ fn led(ways: &[u8], t: Meeting, rows: &[u8], k: usize, f: usize) -> [u8; BYTES]
 }
 
 // The slots to which the first object goes from level k and with which the stage holds, whatever the second one does: one evaluation for each.
+// The matrices stay beside what the evaluator takes: the body is asked over the work area, and the moves are read in the matrices.
 fn hopeful(
     work: &[u8],
     slots: &[u8],
     n: usize,
     literals: &[u32],
     t: Meeting,
-    ways: &[u8],
-    rows: &[u8],
+    ways: &[u8; MATRIX],
+    rows: &[u8; LEVELS],
     k: usize,
 ) -> [u8; BYTES]
-    requires { Ready work.now slots.now n literals.now t × (length ways.now ≡ matrix_bytes) × (length rows.now ≡ levels_bytes) × (k ≤ limit.stages) }
+    requires { Ready work.now slots.now n literals.now t × (k ≤ limit.stages) }
     ensures { Over work.now n (λ S. Has result (Hopeful S work.now literals.now ways.now t (pair_at rows.now k))) }
 {
     let any = union(rows, LISTED * k, facts_bits::full());
@@ -327,13 +307,13 @@ fn next_row(
     n: usize,
     literals: &[u32],
     t: Meeting,
-    ways: &[u8],
-    rows: &[u8],
+    ways: &[u8; MATRIX],
+    rows: &[u8; LEVELS],
     k: usize,
     able: [u8; BYTES],
     f: usize,
 ) -> [u8; BYTES]
-    requires { Ready work.now slots.now n literals.now t × (length ways.now ≡ matrix_bytes) × (length rows.now ≡ levels_bytes) × (k ≤ limit.stages) × (f < limit.listed) × Over work.now n (λ S. Has able (Hopeful S work.now literals.now ways.now t (pair_at rows.now k))) }
+    requires { Ready work.now slots.now n literals.now t × (k ≤ limit.stages) × (f < limit.listed) × Over work.now n (λ S. Has able (Hopeful S work.now literals.now ways.now t (pair_at rows.now k))) }
     ensures { Over work.now n (λ S. Has result (λ e. Led ways.now t (pair_at rows.now k) e f × Met S work.now literals.now t e f)) }
 {
     let pairs = led(ways, t, rows, k, f);
@@ -357,17 +337,17 @@ fn pass(
     n: usize,
     literals: &[u32],
     t: Meeting,
-    ways: &[u8],
-    rows: &mut [u8],
+    ways: &[u8; MATRIX],
+    rows: &mut [u8; LEVELS],
     k: usize,
 )
-    requires { Ready work.now slots.now n literals.now t × (length ways.now ≡ matrix_bytes) × (length rows.old ≡ levels_bytes) × (k < limit.stages) × Clear (limit.listed * suc k) rows.old }
+    requires { Ready work.now slots.now n literals.now t × (k < limit.stages) × Clear (limit.listed * suc k) rows.old }
     ensures { Written (limit.listed * suc k) (limit.listed * suc (suc k)) rows.old rows.new × Over work.now n (λ S. (e f : ℕ) → e < limit.listed → f < limit.listed → (pair_at rows.new (suc k) e f ≡ true) ↔ (Led ways.now t (pair_at rows.old k) e f × Met S work.now literals.now t e f)) }
 {
     let able = hopeful(work, slots, n, literals, t, ways, rows, k);
     for f in 0..LISTED {
         let row = next_row(work, slots, n, literals, t, ways, rows, k, able, f);
-        facts_bits::join(rows, LISTED * (k + 1) + f, row);
+        facts_bits::widen(rows, LISTED * (k + 1) + f, row);
     }
 }
 
@@ -377,8 +357,7 @@ fn standing(stage: Stage, x: u32, chosen: bool) -> Walker
     ensures { result ≡ walker_of stage x chosen }
 {
     let variables = stage.variables as usize;
-    let numbers = stage.numbers;
-    let seat = search_states::seek(&numbers, variables, x);
+    let seat = search_states::seek(&stage.numbers[..variables], x).unwrap_or(variables);
     Walker {
         seat,
         stands: seat < variables,
@@ -387,7 +366,13 @@ fn standing(stage: Stage, x: u32, chosen: bool) -> Walker
 }
 
 // A stage with the carried variables, where it is known which of them stood in a stage before, and what is asked besides.
-fn asked(stage: Stage, carried: [u32; 2], first: bool, second: bool, pointing: Pointing) -> Meeting
+fn asked(
+    stage: Stage,
+    carried: [u32; 2],
+    first: bool,
+    second: bool,
+    pointing: Option<[u8; BYTES]>,
+) -> Meeting
     requires { stage.variables ≤ length stage.numbers }
     ensures { result ≡ meeting_of stage carried first second pointing }
 {
@@ -411,9 +396,9 @@ fn after(w: Walker) -> bool
     w.chosen || w.stands
 }
 
-// The levels of a question over the found states, where `ways` has who can come from which slot to which, and p is what stage 1 asks besides.
-pub fn fill(work: &[u8], m: Model, s: States, ways: &[u8], p: Pointing) -> Levels
-    requires { WellFormed m × Exactly m work.now s × (length ways.now ≡ matrix_bytes) × (p.given ≡ true → 0 < (stage_at m 0).variables) }
+// The levels of a question over the found states, where `ways` has who can come from which slot to which, and p is a row in which stage 1 asks besides for the slot of its first variable, or nothing.
+pub fn fill(work: &[u8], m: Model, s: States, ways: &[u8; MATRIX], p: Option<[u8; BYTES]>) -> Levels
+    requires { WellFormed m × Exactly m work.now s × IfSome p (λ among. 0 < (stage_at m 0).variables) }
     ensures { Filled m (row s) work.now ways.now p result }
 {
     let slots = facts_candidates::slots();

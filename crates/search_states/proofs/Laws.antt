@@ -8,6 +8,7 @@ use native.Mathlib.Omega.{arith}
 use native.Mathlib.Numerals.{add-one}
 use borrow.Author.Tests.{eqb-true, eqb-false, eq-eqb, ne_eqb, lt-ltb, le-ltb}
 use lib.Dec.{eqb}
+use Rattle.std.specs.Prelude.{Option, Some, None}
 use lib.ListN.{length, length-set}
 use lib.Seq.{take-suc-set, length-take-le, get_or-set_same, get_or-set_other}
 use Rattle.limits.specs.Limits as limit
@@ -16,7 +17,7 @@ use Rattle.semantics.specs.Tables.{From}
 use Rattle.semantics.proofs.Tools.{either, clash, or-true-cases, or-false, elem-cases}
 use Rattle.semantics.proofs.Growth.{founded-more}
 use Rattle.search_states.specs.declared.States.{States}
-use Rattle.search_states.specs.States.{row, by, from, nothing, appended, noted, crowded, added, Proper, Discovered}
+use Rattle.search_states.specs.States.{row, by, from, nothing, appended, noted, added, Proper, Discovered}
 
 pub only_one : (x y : ℕ) → elem x (y ∷ []) ≡ true → x ≡ y
 only_one x y e = ⊎_elim (λ q. eqb-true x y q) (λ q. absurd (false≢true q)) (or-true-cases (eqb x y) false e)
@@ -34,19 +35,19 @@ distinct_snoc (x ∷ xs) t d e =
     )
 
 -- by what the tests of adding say
-pub added-empty : (s : States) (t ℓ p : ℕ) → t ≡ 0 → noted s ≡ added s t ℓ p
+pub added-empty : (s : States) (t ℓ p : ℕ) → t ≡ 0 → Some (noted s) ≡ added s t ℓ p
 unfolding added
 added-empty s t ℓ p z = rw (eq-eqb t 0 z)
 
-pub added-same : (s : States) (t ℓ p : ℕ) → t ≢ 0 → elem t (row s) ≡ true → s ≡ added s t ℓ p
+pub added-same : (s : States) (t ℓ p : ℕ) → t ≢ 0 → elem t (row s) ≡ true → Some s ≡ added s t ℓ p
 unfolding added
 added-same s t ℓ p n e = rw (ne_eqb t 0 n, e)
 
-pub added-fresh : (s : States) (t ℓ p : ℕ) → t ≢ 0 → elem t (row s) ≡ false → s.count < limit.atomic → appended s t ℓ p ≡ added s t ℓ p
+pub added-fresh : (s : States) (t ℓ p : ℕ) → t ≢ 0 → elem t (row s) ≡ false → s.count < limit.atomic → Some (appended s t ℓ p) ≡ added s t ℓ p
 unfolding added
 added-fresh s t ℓ p n e l = rw (ne_eqb t 0 n, e, lt-ltb s.count limit.atomic l)
 
-pub added-over : (s : States) (t ℓ p : ℕ) → t ≢ 0 → elem t (row s) ≡ false → limit.atomic ≤ s.count → crowded s ≡ added s t ℓ p
+pub added-over : (s : States) (t ℓ p : ℕ) → t ≢ 0 → elem t (row s) ≡ false → limit.atomic ≤ s.count → ◌≡◌ {A = Option States} None (added s t ℓ p)
 unfolding added
 added-over s t ℓ p n e l = rw (ne_eqb t 0 n, e, le-ltb s.count limit.atomic l)
 
@@ -69,11 +70,6 @@ module _ (s : States) (proper : Proper s) where
   -- NOTING THE EMPTY STATE keeps the row right
   pub proper-noted : Proper (noted s)
   proper-noted =
-      record { count = proper.count; states = proper.states; lines = proper.lines; origins = proper.origins; distinct = proper.distinct; atomic = proper.atomic }
-
-  -- and so does noting one too many
-  pub proper-crowded : Proper (crowded s)
-  proper-crowded =
       record { count = proper.count; states = proper.states; lines = proper.lines; origins = proper.origins; distinct = proper.distinct; atomic = proper.atomic }
 
   module _ (t : ℕ) (some : t ≢ 0) (small : t < limit.sets) (fresh : elem t (row s) ≡ false) (room : s.count < limit.atomic) where

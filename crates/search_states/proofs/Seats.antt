@@ -1,7 +1,7 @@
 -- The first place of a number in a row.
 use mathlib.Core.Path.{◌≡◌, refl, sym, ap, ◌∙◌, subst}
 use mathlib.Core.Logic.{⊎_elim}
-use mathlib.Core.Bool.{true, false, cond}
+use mathlib.Core.Bool.{true, false, cond, false≢true}
 use mathlib.Core.List.{List, [], ◌∷◌}
 use Prim.Native.Nat.{ℕ, zero, suc, ◌≤◌, ◌<◌}
 use native.Mathlib.Omega.{arith}
@@ -12,11 +12,12 @@ use lib.ListN.{length, get_or}
 use native.Mathlib.Numerals.{one-add}
 use Rattle.std.specs.List.{list_any, position}
 use Rattle.std.specs.Prelude.{Option, Some, None}
-use Rattle.std.specs.Option.{unwrap_or}
+use Rattle.std.specs.Option.{unwrap_or, IsSome}
 use Rattle.std.proofs.lemmas.Bool.Decides.{nat_tests}
 use Rattle.std.proofs.lemmas.List.Recursion.{is_position_or_len}
 use Rattle.semantics.specs.Models.{elem}
 use Rattle.semantics.specs.Tables.{seat}
+use Rattle.search_states.specs.States.{Sought}
 use Rattle.semantics.proofs.Tools.{either, or-false, or_right, elem-here, seat-ok}
 
 -- a number that is not in the row has no place
@@ -48,9 +49,18 @@ list_any-elem x (y ∷ ys) = let e : eqb y x ≡ eqb x y = grind (arith, nat_tes
 pub position-seat : (x : ℕ) (xs : List ℕ) → position (eqb x) xs ≡ cond (elem x xs) (Some (seat x xs)) None
 position-seat x xs = rw (← is_position_or_len (seat x) (eqb x) refl (λ y ys. ap (cond (eqb x y) 0) (sym (one-add (seat x ys)))) xs, seat-below x xs)
 
-pub position-or_length : (x : ℕ) (xs : List ℕ) (n : ℕ) → length xs ≡ n → unwrap_or (position (eqb x) xs) n ≡ seat x xs
-position-or_length x xs n long = rw (position-seat x xs, ← long)
-    (⊎_elim (λ (e : elem x xs ≡ true). rw e) (λ (e : elem x xs ≡ false). rw (e, seat-absent x xs e)) (either (elem x xs)))
+pub sought-seat : (x : ℕ) (xs : List ℕ) (r : Option ℕ) → r ≡ position (eqb x) xs → Sought xs x r
+sought-seat x xs r h = rw (h, position-seat x xs) (⊎_elim (λ (e : elem x xs ≡ true). rw e (refl, refl)) (λ (e : elem x xs ≡ false). rw e refl) (either (elem x xs)))
+
+-- it is found where it is there
+pub sought-known : (x : ℕ) (xs : List ℕ) (r : Option ℕ) → Sought xs x r → elem x xs ≡ true → IsSome r
+sought-known x xs None s e = absurd (false≢true (sym s ∙ e))
+sought-known x xs (Some i) s e = refl
+
+-- with the number of places where it has none
+pub sought-or_length : (x : ℕ) (xs : List ℕ) (n : ℕ) (r : Option ℕ) → length xs ≡ n → Sought xs x r → unwrap_or r n ≡ seat x xs
+sought-or_length x xs n None long s = sym (seat-absent x xs s ∙ long)
+sought-or_length x xs n (Some i) long s = s.1
 
 -- where it is, and that it is nowhere
 pub position-there : (x : ℕ) (xs : List ℕ) (t : ℕ) → position (eqb x) xs ≡ Some t → (t < length xs) × (get_or xs t 0 ≡ x)

@@ -1,218 +1,162 @@
--- The states of a row, taken by rising number.
+-- The states of a row, sorted.
 use mathlib.Core.Path.{◌≡◌, refl, sym, ap, ◌∙◌, subst}
-use mathlib.Core.Logic.{◌⊎◌, inl, inr, ⊎_elim, ◌≢◌}
+use mathlib.Core.Logic.{inl, inr, ⊎_elim, ◌≢◌, ◌↔◌}
+use mathlib.Core.Bool.{Bool, true, false}
+use mathlib.Core.List.{List, ◌∷◌, ◌++◌}
 use mir.Val.{bool_byte}
-use mathlib.Core.Bool.{Bool, true, false, false≢true}
-use mathlib.Core.List.{List, [], ◌∷◌, ◌++◌}
-use Prim.Native.Nat.{ℕ, suc, ◌+◌, ◌-◌, ◌≤◌, ◌<◌}
+use Prim.Native.Nat.{ℕ, zero, suc, ◌+◌, ◌-◌, ◌≤◌, ◌<◌}
 use native.Mathlib.Omega.{arith}
-use native.Mathlib.Decide.{dec_le}
-use borrow.Author.Tests.{eqb-true, le-leb, leb-true}
-use lib.Dec.{eqb, leb}
-use Rattle.std.specs.Prelude.{Option, Some, None}
-use Rattle.std.specs.Option.{IfSome, IfNone, MatchOption, unwrap_or}
+use borrow.Author.Tests.{eqb-true, ltb-true, ltb-false}
+use borrow.Rule.Slice.PartMut.{put_mid}
+use lib.Dec.{eqb, ltb}
+use lib.ListN.{length, take, drop, get_or, replicate, length-append, length-replicate, take-append-drop}
+use lib.Seq.{length-take-le, get_or-take}
+use Rattle.std.proofs.lemmas.List.{get_or-drop, length-drop, length-take, drop-replicate}
+use Rattle.std.proofs.lemmas.List.Sorted.{length_permutation, IsPermutation-sym, Contains-permutation}
+use Rattle.std.proofs.lemmas.Slice.{take-put_mid, take-put_mid_below, drop-put_mid, between-put_mid}
+use Rattle.std.specs.List.Sorted.{IsPermutation, IsNonDecreasing}
 use Rattle.std.proofs.iter.runs.Made.{zero_default}
-use Rattle.std.specs.List.{filter, Contains, All}
-use native.Mathlib.Numerals.{add-one}
-use lib.ListN.{length, take, drop, get_or, set, length-set, replicate}
-use lib.Seq.{take-suc-set, drop-set-lt, drop-drop, length-take-le, get_or-set_same, get_or-set_other}
 use Rattle.limits.specs.Limits as limit
 use Rattle.semantics.specs.Models.{elem, Distinct}
 use Rattle.semantics.specs.Tables.{seat}
-use Rattle.semantics.proofs.Tools.{either, same?, clash, or_right, or-true-cases, distinct-length, seat-ok, elem-here, elem-left, elem-right, elem-cases}
+use Rattle.semantics.proofs.Tools.{either, same?, clash, or_right, or-true-cases, distinct-length, seat-ok, elem-left, elem-right}
 use Rattle.search_states.specs.declared.States.{States}
-use Rattle.search_states.specs.States.{row, row as found, Known, Proper}
-use Rattle.search_states.specs.Rising.{Rising, Least, Lists}
+use Rattle.search_states.specs.States.{row, Known, Proper}
+use Rattle.search_states.specs.Rising.{Lists}
 use Rattle.search_states.proofs.Seats.{elem-get_or}
-use Rattle.search_states.proofs.Laws.{only_one, distinct_snoc, length-row}
+use Rattle.search_states.proofs.Laws.{length-row}
 
--- the first n numbers of the row are the found states below t, rising, and the others are zero
-pub record ListsTo (s : States) (t : ℕ) (row : List ℕ) (n : ℕ) : Type 0 where
-  pub long : length row ≡ limit.listed
-  pub first : 1 ≤ t
-  pub few : n ≤ limit.listed
-  pub last : t ≤ limit.sets
-  pub rising : Rising row n
-  pub distinct : Distinct (take n row)
-  pub under : (i : ℕ) → i < n → get_or row i 0 < t
-  pub only : (x : ℕ) → elem x (take n row) ≡ true → Known s x × (x < t)
-  pub all : (x : ℕ) → x < t → Known s x → elem x (take n row) ≡ true
-  pub rest : drop n row ≡ replicate (limit.listed - n) 0
+-- THE SAME NUMBERS in another order
+same-elem : (xs ys : List ℕ) → IsPermutation xs ys → (x : ℕ) → elem x xs ≡ true → elem x ys ≡ true
+same-elem xs ys p x e =
+    let q = seat-ok x xs e in
+    let c = Contains-permutation xs ys x p (seat x xs, q.0, zero_default xs (seat x xs) x q.0 ∙ q.1) in
+    subst (λ (y : ℕ). elem y ys ≡ true) (sym (zero_default ys c.0 x c.1) ∙ c.2) (elem-get_or ys c.0 c.1)
 
-module _ (s : States) (p : Proper s) where
-  -- the empty state comes first, if it is found
-  lists-empty : s.empty ≡ true → ListsTo s 1 (replicate limit.listed 0) 1
-  lists-empty e =
-      record {
-        long = refl;
-        first = omega arith;
-        few = omega arith;
-        last = omega arith;
-        rising = λ i j h l. absurd (omega arith);
-        distinct = (refl, tt);
-        under = λ i l. let z : i ≡ 0 = omega arith in rw z (omega arith);
-        only = λ x q. let z = only_one x 0 q in (inl (z, e), omega arith);
-        all = λ x l h. let z : x ≡ 0 = omega arith in rw z;
-        rest = refl;
-      }
+-- different numbers that do not fall rise
+module _ (xs ys : List ℕ) (distinct : Distinct xs) (p : IsPermutation xs ys) (up : IsNonDecreasing ys) where
+  module _ (i j : ℕ) (l : i < j) (h : j < length ys) where
+    abbrev rest : List ℕ
+    rest = take i ys ++ drop (suc i) ys
 
-  lists-none : s.empty ≡ false → ListsTo s 1 (replicate limit.listed 0) 0
-  lists-none e =
-      record {
-        long = refl;
-        first = omega arith;
-        few = omega arith;
-        last = omega arith;
-        rising = λ i j h l. absurd (omega arith);
-        distinct = tt;
-        under = λ i l. absurd (omega arith);
-        only = λ x q. absurd (false≢true q);
-        all = λ x l h. ⊎_elim (λ (q : (x ≡ 0) × (s.empty ≡ true)). clash q.1 e) (λ (q : elem x (row s) ≡ true). absurd (let a = p.atomic x q in omega arith)) h;
-        rest = refl;
-      }
+    shorter : length rest ≡ length ys - 1
+    shorter = omega (arith, length-append (take i ys) (drop (suc i) ys), length-take-le i ys (omega arith), length-drop (suc i) ys)
 
-  pub lists-first : (b : Bool) → s.empty ≡ b → ListsTo s 1 (replicate limit.listed 0) (bool_byte b)
-  lists-first true e = lists-empty e
-  lists-first false e = lists-none e
+    late : (k : ℕ) → i < k → k < length ys → elem (get_or ys k 0) rest ≡ true
+    late k a b =
+        let n = k - suc i in
+        let at : suc i + n ≡ k = omega arith in
+        elem-right (get_or ys k 0) (take i ys) (drop (suc i) ys)
+        (subst (λ (y : ℕ). elem y (drop (suc i) ys) ≡ true) (get_or-drop (suc i) ys n 0 ∙ ap (λ (m : ℕ). get_or ys m 0) at) (elem-get_or (drop (suc i) ys) n (omega (arith, length-drop (suc i) ys))))
 
-le-or-lt : (a b : ℕ) → (a ≤ b) ⊎ (b < a)
-le-or-lt a b = go (dec_le a b)
-  where
-    go : Dec (a ≤ b) → (a ≤ b) ⊎ (b < a)
-    go (yes q) = inl q
-    go (no q) = inr (omega arith)
+    -- all numbers are in the rest, if number i is there again
+    within : get_or ys i 0 ≡ get_or ys j 0 → (x : ℕ) → elem x xs ≡ true → elem x rest ≡ true
+    within same x e =
+        let q = seat-ok x ys (same-elem xs ys p x e) in
+        let k = seat x ys in
+        ⊎_elim
+        (λ (z : k ≡ i). subst (λ (y : ℕ). elem y rest ≡ true) (sym same ∙ ap (λ (m : ℕ). get_or ys m 0) (sym z) ∙ q.1) (late j l h))
+        (λ (z : k ≢ i). ⊎_elim
+        (λ (b : ltb k i ≡ true). let c = ltb-true k i b in
+        elem-left x (take i ys) (drop (suc i) ys) (subst (λ (y : ℕ). elem y (take i ys) ≡ true) (get_or-take i ys k 0 c ∙ q.1) (elem-get_or (take i ys) k (omega (arith, c, length-take-le i ys (omega arith))))))
+        (λ (b : ltb k i ≡ false). subst (λ (y : ℕ). elem y rest ≡ true) q.1 (late k (omega (arith, z, ltb-false k i b)) q.0))
+        (either (ltb k i)))
+        (same? k i)
 
--- no state is found from t on and below u
-lists-jump : (s : States) (t u : ℕ) (row : List ℕ) (n : ℕ) → ListsTo s t row n → t ≤ u → u ≤ limit.sets → ((x : ℕ) → elem x (found s) ≡ true → t ≤ x → u ≤ x) → ListsTo s u row n
-lists-jump s t u row n h l m none =
-    record {
-      long = h.long;
-      first = let a = h.first in omega arith;
-      few = h.few;
-      last = m;
-      rising = h.rising;
-      distinct = h.distinct;
-      under = λ i k. let a = h.under i k in omega arith;
-      only = λ x q. let a = h.only x q in (a.0, omega arith);
-      all = λ x k q. ⊎_elim (λ (r : t ≤ x). absurd (unknown x k r q)) (λ (r : x < t). h.all x r q) (le-or-lt t x);
-      rest = h.rest;
-    }
-  where
-    unknown : (x : ℕ) → x < u → t ≤ x → Known s x → ⊥
-    unknown x k r (inl q) = omega (arith, q.0, r, h.first)
-    unknown x k r (inr q) = omega (arith, k, none x q r)
+    rises : get_or ys i 0 < get_or ys j 0
+    rises = omega (arith, up i j 0 (omega arith) h, different)
+      where
+        different : get_or ys i 0 ≢ get_or ys j 0
+        different same = omega (arith, shorter, h, distinct-length xs rest distinct (within same), length_permutation xs ys p)
 
--- the state t is found
-module _ (s : States) (p : Proper s) (t : ℕ) (row : List ℕ) (n : ℕ) (h : ListsTo s t row n) (more : t < limit.sets) (e : elem t (found s) ≡ true) where
-  fresh : elem t (take n row) ≡ false
-  fresh = ⊎_elim (λ q. absurd (let a = h.only t q in omega (arith, a.1))) (λ q. q) (either (elem t (take n row)))
+-- THE PLACES of the row behind the empty state
+abbrev pub zeros : List ℕ
+zeros = replicate limit.listed 0
 
-  -- there is room for it
-  pub few-listed : n < limit.listed
-  few-listed = omega (arith, p.count, length-row s p, length-take-le n row (let a = h.few in let b = h.long in omega arith), distinct-length (t ∷ take n row) (0 ∷ found s) (fresh, h.distinct) within)
+module _ (s : States) (proper : Proper s) (f k : ℕ) (at : f ≡ bool_byte s.empty) (size : k ≡ s.count) where
+  small : f ≤ 1
+  small = rw at (go s.empty)
     where
-      known : (x : ℕ) → Known s x → elem x (0 ∷ found s) ≡ true
-      known x (inl q) = rw q.0
-      known x (inr q) = or_right (eqb x 0) (elem x (found s)) q
+      go : (b : Bool) → bool_byte b ≤ 1
+      go true = omega arith
+      go false = omega arith
 
-      within : (x : ℕ) → elem x (t ∷ take n row) ≡ true → elem x (0 ∷ found s) ≡ true
-      within x q = ⊎_elim (λ z. known x (subst (Known s) (sym (eqb-true x t z)) (inr e))) (λ z. known x (h.only x z).0) (or-true-cases (eqb x t) (elem x (take n row)) q)
+  pub mid-row : take k (drop f (put_mid f k zeros (row s))) ≡ row s
+  mid-row =
+      let e : k ≡ f + k - f = omega arith in
+      ap (λ (n : ℕ). take n (drop f (put_mid f k zeros (row s)))) e ∙ between-put_mid f k zeros (row s) (f + k) (omega (arith, small)) (length-row s proper ∙ sym size ∙ e)
 
-  in_row : n < length row
-  in_row = let b = h.long in omega (arith, few-listed)
+-- THE ROW SORTED, behind the empty state if it is found
+module _ (s : States) (proper : Proper s) (ys : List ℕ) (p : IsPermutation (row s) ys) (up : IsNonDecreasing ys) where
+  many : length ys ≡ s.count
+  many = length_permutation (row s) ys p ∙ length-row s proper
 
-  one_more : take (n + 1) (set row n t) ≡ take n row ++ (t ∷ [])
-  one_more = rw add-one (take-suc-set row n t in_row)
+  back : (t : ℕ) → elem t ys ≡ true → elem t (row s) ≡ true
+  back = same-elem ys (row s) (IsPermutation-sym (row s) ys p)
 
-  kept : (i : ℕ) → i < n → get_or (set row n t) i 0 ≡ get_or row i 0
-  kept i l = get_or-set_other row n i t 0 (λ e. omega arith)
+  abbrev Rises : List ℕ → Type 0
+  Rises xs = (i j : ℕ) → i < j → j < length xs → get_or xs i 0 < get_or xs j 0
 
-  placed : get_or (set row n t) n 0 ≡ t
-  placed = get_or-set_same row n t 0 in_row
-
-  pub lists-more : ListsTo s (t + 1) (set row n t) (n + 1)
-  lists-more =
-      record {
-        long = let a = h.long in length-set row n t ∙ a;
-        first = omega arith;
-        few = omega (arith, few-listed);
-        last = omega arith;
-        rising = rises;
-        distinct = rw one_more (distinct_snoc (take n row) t h.distinct fresh);
-        under = λ i l. ⊎_elim
-            (λ (q : i ≡ n). rw (q, placed) (omega arith))
-            (λ (q : i ≢ n). let r : i < n = omega arith in rw (kept i r) (let a = h.under i r in omega arith))
-            (same? i n);
-        only = λ x q. ⊎_elim
-            (λ r. let a = h.only x r in (a.0, omega arith))
-            (λ r. let a = only_one x t r in (subst (Known s) (sym a) (inr e), omega arith))
-            (elem-cases x (take n row) (t ∷ []) (rw one_more at q));
-        all = λ x l q. rw one_more (⊎_elim
-            (λ (r : x ≡ t). elem-right x (take n row) (t ∷ []) (subst (λ (y : ℕ). elem y (t ∷ []) ≡ true) (sym r) (elem-here t [])))
-            (λ (r : x ≢ t). elem-left x (take n row) (t ∷ []) (h.all x (omega arith) q))
-            (same? x t));
-        rest = drop-set-lt (n + 1) row n t (omega arith) ∙ sym (drop-drop 1 n row) ∙ ap (drop 1) h.rest
-            ∙ ap (λ (k : ℕ). drop 1 (replicate k 0)) (let k : limit.listed - n ≡ suc (limit.listed - (n + 1)) = omega (arith, few-listed) in k);
-      }
+  in-order : (b : Bool) → s.empty ≡ b → Rises (take (bool_byte b) zeros ++ ys) × ((t : ℕ) → elem t (take (bool_byte b) zeros ++ ys) ≡ true ↔ Known s t)
+  in-order false e = (
+    (λ i j l h. rises (row s) ys proper.distinct p up i j l h),
+    λ t. ((λ q. inr (back t q)), λ k. ⊎_elim (λ q. clash q.1 e) (λ q. same-elem (row s) ys p t q) k),
+  )
+  in-order true e = (
+    first,
+    λ t. (
+      λ q. ⊎_elim (λ z. inl (eqb-true t 0 z, e)) (λ z. inr (back t z)) (or-true-cases (eqb t 0) (elem t ys) q),
+      λ k. ⊎_elim (λ q. rw q.0) (λ q. or_right (eqb t 0) (elem t ys) (same-elem (row s) ys p t q)) k,
+    ),
+  )
     where
-      rises : Rising (set row n t) (n + 1)
-      rises i j a b =
-          ⊎_elim
-          (λ (q : j ≡ n). rw (q, placed, kept i (omega arith)) (h.under i (omega arith)))
-          (λ (q : j ≢ n). let r : j < n = omega arith in rw (kept i (omega arith), kept j r) (h.rising i j a r))
-          (same? j n)
+      first : Rises (0 ∷ ys)
+      first i zero l h = absurd (omega arith)
+      first zero (suc j) l h = let k : j < length ys = omega arith in omega (arith, (proper.atomic (get_or ys j 0) (back (get_or ys j 0) (elem-get_or ys j k))).0)
+      first (suc i) (suc j) l h = rises (row s) ys proper.distinct p up i j (omega arith) (omega arith)
 
-pub lists-all : (s : States) → Proper s → (states : List ℕ) (count t : ℕ) → limit.sets ≤ t → ListsTo s t states count → Lists s (record { states = states; count = count })
-lists-all s p states count t l h =
-    record {
-      long = h.long;
-      count = h.few;
-      rising = h.rising;
-      same = λ x. ((λ e. (h.only x e).0), λ e. h.all x (small x e) e);
-      rest = h.rest;
+  -- the places where it is written
+  module _ (f k : ℕ) (at : f ≡ bool_byte s.empty) (size : k ≡ s.count) where
+    abbrev written : List ℕ
+    written = put_mid f k (put_mid f k zeros (row s)) ys
+
+    few : f ≤ 1
+    few = small s proper f k at size
+
+    room : f + s.count ≤ limit.listed
+    room = omega (arith, few, proper.count)
+
+    -- so much is there before the last write
+    wide : f ≤ length (put_mid f k zeros (row s))
+    wide =
+        let e = ap length (take-put_mid f k zeros (row s) (f + s.count) (omega (arith, length-row s proper)) (omega (arith, few))) ∙ length-append (take f zeros) (row s) in
+        omega (arith, e, length-take (f + s.count) (put_mid f k zeros (row s)), length-take-le f zeros (omega (arith, few)), length-row s proper)
+
+    front : take (f + s.count) written ≡ take (bool_byte s.empty) zeros ++ ys
+    front = take-put_mid f k (put_mid f k zeros (row s)) ys (f + s.count) (omega (arith, many)) wide
+        ∙ ap (λ (xs : List ℕ). xs ++ ys) (take-put_mid_below f k zeros (row s) f (omega arith) (omega (arith, few)))
+        ∙ ap (λ (n : ℕ). take n zeros ++ ys) at
+
+    tail : drop (f + s.count) written ≡ replicate (limit.listed - (f + s.count)) 0
+    tail = drop-put_mid f k (put_mid f k zeros (row s)) ys (f + s.count) (omega (arith, size)) wide (many ∙ sym size)
+        ∙ drop-put_mid f k zeros (row s) (f + s.count) (omega (arith, size)) (omega (arith, few)) (length-row s proper ∙ sym size)
+        ∙ drop-replicate (f + s.count) limit.listed 0
+
+    total : length written ≡ limit.listed
+    total = ap length (sym (take-append-drop (f + s.count) written)) ∙ length-append (take (f + s.count) written) (drop (f + s.count) written)
+        ∙ omega (arith, ap length front, length-append (take (bool_byte s.empty) zeros) ys, length-take-le (bool_byte s.empty) zeros (omega (arith, at, few)), at, many, ap length tail, length-replicate {A = ℕ} (limit.listed - (f + s.count)) 0, room)
+
+    pub lists-sorted : Lists s (record { states = written; count = f + s.count })
+    lists-sorted = record {
+      long = total;
+      count = room;
+      rising = λ i j l h. rw (here i (omega (arith, l, h)), here j h) (order.0 i j l (omega (arith, h, ap length front, length-take-le (f + s.count) written (omega (arith, total, room)))));
+      same = λ t. subst (λ (xs : List ℕ). elem t xs ≡ true ↔ Known s t) (sym front) (order.1 t);
+      rest = tail;
     }
-  where
-    small : (x : ℕ) → Known s x → x < t
-    small x (inl q) = omega (arith, q.0, l)
-    small x (inr q) = omega (arith, (p.atomic x q).1, l)
+      where
+        order : Rises (take (bool_byte s.empty) zeros ++ ys) × ((t : ℕ) → elem t (take (bool_byte s.empty) zeros ++ ys) ≡ true ↔ Known s t)
+        order = in-order s.empty refl
 
--- THE LEAST of the numbers that a filter lets through
-filter-elem : (xs : List ℕ) (t x : ℕ) → t ≤ x → elem x xs ≡ true → elem x (filter (leb t) xs) ≡ true
-filter-elem [] t x l e = e
-filter-elem (y ∷ ys) t x l e = ⊎_elim
-    (λ (q : eqb x y ≡ true). rw (le-leb t y (omega (arith, eqb-true x y q)), q))
-    (λ (q : elem x ys ≡ true). let h = filter-elem ys t x l q in ⊎_elim (λ (r : leb t y ≡ true). rw r (or_right (eqb x y) (elem x (filter (leb t) ys)) h)) (λ (r : leb t y ≡ false). rw r h) (either (leb t y)))
-    (or-true-cases (eqb x y) (elem x ys) e)
-
-filter-from : (xs : List ℕ) (t x : ℕ) → elem x (filter (leb t) xs) ≡ true → (elem x xs ≡ true) × (t ≤ x)
-filter-from [] t x e = absurd (false≢true e)
-filter-from (y ∷ ys) t x e = ⊎_elim
-    (λ (r : leb t y ≡ true). ⊎_elim (λ q. (rw q, omega (arith, eqb-true x y q, leb-true t y r))) (λ q. let h = filter-from ys t x q in (or_right (eqb x y) (elem x ys) h.0, h.1)) (or-true-cases (eqb x y) (elem x (filter (leb t) ys)) (rw r at e)))
-    (λ (r : leb t y ≡ false). let h = filter-from ys t x (rw r at e) in (or_right (eqb x y) (elem x ys) h.0, h.1))
-    (either (leb t y))
-
-pub least-filter : (xs : List ℕ) (t : ℕ) (r : Option ℕ) → IfNone r (length (filter (leb t) xs) ≡ 0) → IfSome r (Contains (filter (leb t) xs)) → IfSome r (λ m. All (λ y. m ≤ y) (filter (leb t) xs)) → MatchOption r ((x : ℕ) → elem x xs ≡ true → x < t) (Least xs t)
-least-filter xs t None none there first = λ x e. ⊎_elim
-    (λ (l : t ≤ x). absurd (omega (arith, none, (seat-ok x (filter (leb t) xs) (filter-elem xs t x l e)).0)))
-    (λ (l : x < t). l)
-    (le-or-lt t x)
-least-filter xs t (Some r) none there first =
-    let f = filter-from xs t r (subst (λ (y : ℕ). elem y (filter (leb t) xs) ≡ true) (sym (zero_default (filter (leb t) xs) there.0 r there.1) ∙ there.2) (elem-get_or (filter (leb t) xs) there.0 there.1)) in
-    record {
-      there = f.0;
-      high = f.1;
-      least = λ x e l. let s = seat-ok x (filter (leb t) xs) (filter-elem xs t x l e) in rw s.1 at (first (seat x (filter (leb t) xs)) 0 s.0);
-    }
-
--- THE NEXT STATE by rising number: those below it are listed, and where there is none all are
-pub record Ahead (s : States) (next : Option ℕ) (row : List ℕ) (n : ℕ) : Type 0 where
-  pub lists : ListsTo s (unwrap_or next limit.sets) row n
-  pub found_next : IfSome next (λ t. elem t (found s) ≡ true)
-
-pub ahead : (s : States) → Proper s → (t : ℕ) (row : List ℕ) (n : ℕ) → ListsTo s t row n → (next : Option ℕ) → MatchOption next ((x : ℕ) → elem x (found s) ≡ true → x < t) (Least (found s) t) → Ahead s next row n
-ahead s p t row n h None m = record { lists = lists-jump s t limit.sets row n h h.last (omega arith) (λ x e l. absurd (omega (arith, m x e))); found_next = tt }
-ahead s p t row n h (Some u) m = record { lists = lists-jump s t u row n h m.high (omega (arith, (p.atomic u m.there).1)) m.least; found_next = m.there }
-
-pub ahead-shrinks : (s : States) (t : ℕ) → t < limit.sets → (next : Option ℕ) → MatchOption next ((x : ℕ) → elem x (found s) ≡ true → x < t + 1) (Least (found s) (t + 1)) → limit.sets - unwrap_or next limit.sets < limit.sets - t
-ahead-shrinks s t l None m = omega arith
-ahead-shrinks s t l (Some u) m = omega (arith, m.high)
+        here : (i : ℕ) → i < f + s.count → get_or written i 0 ≡ get_or (take (bool_byte s.empty) zeros ++ ys) i 0
+        here i h = sym (get_or-take (f + s.count) written i 0 h) ∙ ap (λ (xs : List ℕ). get_or xs i 0) front

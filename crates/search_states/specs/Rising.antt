@@ -10,12 +10,6 @@ use Rattle.search_states.specs.States.{Known}
 abbrev pub Rising : List ℕ → ℕ → Type 0
 Rising row n = (i j : ℕ) → i < j → j < n → get_or row i 0 < get_or row j 0
 
--- r is the least number of the row that is at least t
-pub record Least (row : List ℕ) (t r : ℕ) : Type 0 where
-  pub there : elem r row ≡ true
-  pub high : t ≤ r
-  pub least : (x : ℕ) → elem x row ≡ true → t ≤ x → r ≤ x
-
 -- the listing has exactly the states found, by rising number, and their number; the numbers behind them are zero
 pub record Lists (s : States) (l : Listing) : Type 0 where
   pub long : length l.states ≡ limit.listed

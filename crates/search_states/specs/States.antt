@@ -1,9 +1,9 @@
 -- THE ROW OF STATES that a search has found, in order of discovery, each with the line that it came by and the earlier state that it came from; the empty state is noted beside it.
-use Rattle.std.specs.Prelude.{◌≡◌, ◌⊎◌, true, false, cond, ℕ, ◌+◌, ◌≤◌, ◌<◌, eqb, ltb, length, take, get_or, set, replicate}
+use Rattle.std.specs.Prelude.{◌≡◌, ◌⊎◌, true, false, cond, Option, Some, None, MatchOption, List, ℕ, ◌+◌, ◌≤◌, ◌<◌, eqb, ltb, length, take, get_or, set, replicate}
 use Rattle.limits.specs.Limits as limit
 use Rattle.semantics.specs.Models.{elem, Program, Distinct}
 use Rattle.semantics.specs.Facts.{Database}
-use Rattle.semantics.specs.Tables.{Founded}
+use Rattle.semantics.specs.Tables.{Founded, seat}
 use Rattle.search_states.specs.declared.States.{States}
 
 -- the states found that are not empty; they are a database, with one object of each
@@ -23,24 +23,24 @@ Known s t = ((t ≡ 0) × (s.empty ≡ true)) ⊎ (elem t (row s) ≡ true)
 
 -- no state is found
 abbrev pub nothing : States
-nothing = record { states = replicate limit.atomic 0; lines = replicate limit.atomic 0; origins = replicate limit.atomic 0; count = 0; empty = false; over = false }
+nothing = record { states = replicate limit.atomic 0; lines = replicate limit.atomic 0; origins = replicate limit.atomic 0; count = 0; empty = false }
 
 -- the state t behind, which came by line ℓ from state p
 abbrev pub appended : States → ℕ → ℕ → ℕ → States
 appended s t ℓ p =
-    record { states = set s.states s.count t; lines = set s.lines s.count ℓ; origins = set s.origins s.count p; count = s.count + 1; empty = s.empty; over = s.over }
+    record { states = set s.states s.count t; lines = set s.lines s.count ℓ; origins = set s.origins s.count p; count = s.count + 1; empty = s.empty }
 
 -- the empty state noted
 abbrev pub noted : States → States
-noted s = record { states = s.states; lines = s.lines; origins = s.origins; count = s.count; empty = true; over = s.over }
+noted s = record { states = s.states; lines = s.lines; origins = s.origins; count = s.count; empty = true }
 
--- one state too many noted
-abbrev pub crowded : States → States
-crowded s = record { states = s.states; lines = s.lines; origins = s.origins; count = s.count; empty = s.empty; over = true }
+-- the state is added where it is not found: the empty one is noted, any other stands behind, and there is none where there is no room
+unfoldable pub added : States → ℕ → ℕ → ℕ → Option States
+added s t ℓ p = cond (eqb t 0) (Some (noted s)) (cond (elem t (row s)) (Some s) (cond (ltb s.count limit.atomic) (Some (appended s t ℓ p)) None))
 
--- the state is added where it is not found: the empty one is noted, any other stands behind, or is one too many where there is no room
-unfoldable pub added : States → ℕ → ℕ → ℕ → States
-added s t ℓ p = cond (eqb t 0) (noted s) (cond (elem t (row s)) s (cond (ltb s.count limit.atomic) (appended s t ℓ p) (crowded s)))
+-- r is the first place of x in the row, if it is there
+abbrev pub Sought : List ℕ → ℕ → Option ℕ → Type 0
+Sought row x r = MatchOption r (elem x row ≡ false) (λ i. (elem x row ≡ true) × (i ≡ seat x row))
 
 -- the states of the row are different, none is empty, and each is a set of at most 24 relations
 pub record Proper (s : States) : Type 0 where

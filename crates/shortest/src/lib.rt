@@ -3,25 +3,18 @@
 
 ghost use Rattle.shortest.specs.Ways.{Asks};
 
-use shortest_answer::Answer;
-use text::Acceptance;
+use rows::Refusal;
 
-// Reads a text, and gives the fewest steps by which an object gets from one state to the other; a refusal of the text leaves both buffers as they are.
-pub fn way(text: &[u8], from: u32, to: u32, work: &mut [u8], run: &mut [u32]) -> Answer
+// Reads a text, and gives the fewest steps by which an object gets from one state to the other, if it does; a refusal of the text leaves both buffers as they are.
+pub fn way(
+    text: &[u8],
+    from: u32,
+    to: u32,
+    work: &mut [u8],
+    run: &mut [u32],
+) -> Result<Option<usize>, Refusal>
     ensures { Asks text.now from to work.old run.old result work.new run.new }
 {
-    let row = calls::early(text.len(), calls::short(work.len(), run.len()), false);
-    if row != 0 {
-        return Answer::Refused {
-            number: row,
-            line: 0,
-        };
-    }
-    let reading = text::read(text);
-    let acceptance = reading.answer;
-    if let Acceptance::Refused { number, line } = acceptance {
-        return Answer::Refused { number, line };
-    }
-    let m = reading.model;
+    let m = text::accept(text, calls::short(work.len(), run.len()), false)?;
     shortest_answer::decide(m, from, to, work, run)
 }

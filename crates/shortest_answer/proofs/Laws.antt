@@ -25,11 +25,9 @@ use Rattle.search.specs.Search.{Surveyed}
 use Rattle.helpers.specs.Helpers.{Helpers, Helped}
 use Rattle.helpers.proofs.Beside.{some-helpers, way-leads, leads-way}
 use Rattle.shortest_empty.specs.Emptying as empty
-use Rattle.shortest_empty.specs.Emptying.{Mapped, ToEmpty}
+use Rattle.shortest_empty.specs.Emptying.{Mapped}
 use Rattle.shortest_empty.proofs.Laws.{take-most}
-use Rattle.shortest_answer.specs.declared.Answer.{Answer}
-use Rattle.shortest_answer.specs.declared.Answer.TheVariants.{Way, NoWay, Refused}
-use Rattle.calls.specs.Crowding.{Crowded}
+use Rattle.std.specs.Prelude.{Option, Some, None, Ok}
 use Rattle.shortest_answer.specs.Answering.{Both, Answered}
 use Rattle.shortest_answer.specs.Ending.{Ended}
 
@@ -61,11 +59,8 @@ module _ (m : Model) (wf : WellFormed m) (w : List ℕ) (r : Explored) (h : Surv
         model = wf;
         proper = h.proper;
         whole = h.whole;
-        tabled = h.moves.tabled;
         moves = h.moves.table;
-        stepped = h.moves.stepped;
         single = h.moves.steps;
-        long = h.moves.closed;
         comes = h.moves.ways;
       }
 
@@ -85,10 +80,10 @@ module _ (m : Model) (wf : WellFormed m) (w : List ℕ) (r : Explored) (h : Surv
   reached t q = within t ((h.reachable t).0 q)
 
   -- THE ANSWER over the states is the answer beside the helpers
-  pub answered : (Crowded (program_of m) → ⊥) → (s t : ℕ) → Known r.states s → Known r.states t → (run run' : List ℕ) (a : Answer) → Ended (program_of m) (row r.states) s t run run' a → Answered (program_of m) s t run run' a
-  answered few s t ks kt run run' (Way n) e =
+  pub answered : (s t : ℕ) → Known r.states s → Known r.states t → (run run' : List ℕ) (a : Option ℕ) → Ended (program_of m) (row r.states) s t run run' a → Answered (program_of m) s t run run' (Ok a)
+  answered s t ks kt run run' (Some n) e =
       let long : n ≡ length (take n run') = omega (arith, take-most n run', e.least (take n run') e.way) in (
-        few,
+        h.few,
         ((h.reachable s).1 ks, (h.reachable t).1 kt),
         record {
           lines = take n run';
@@ -102,13 +97,12 @@ module _ (m : Model) (wf : WellFormed m) (w : List ℕ) (r : Explored) (h : Surv
           most = omega (arith, e.few, length-row r.states h.proper, h.proper.count);
         },
       )
-  answered few s t ks kt run run' NoWay e = (
-    few,
+  answered s t ks kt run run' None e = (
+    h.few,
     ((h.reachable s).1 ks, (h.reachable t).1 kt),
     helped _ (λ H k ls q. e.0 (ls, leads-way (program_of m) wf.safe (row r.states) listed reached H k h.whole s t ls (within s ks) q)),
     e.1,
   )
-  answered few s t ks kt run run' (Refused n l) e = absurd e
 
   -- one of the states is not found
   pub unknown : (s t : ℕ) → (Known r.states s × Known r.states t → ⊥) → Both (program_of m) s t → ⊥

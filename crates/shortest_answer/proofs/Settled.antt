@@ -6,8 +6,10 @@ use Prim.Native.Nat.{ℕ}
 use native.Mathlib.Omega.{arith}
 use Rattle.semantics.specs.Models.{Program}
 use Rattle.calls.specs.Crowding.{Crowded}
-use Rattle.shortest_answer.specs.declared.Answer.{Answer}
-use Rattle.shortest_answer.specs.declared.Answer.TheVariants.{Way, NoWay, Refused}
+use Rattle.std.specs.Prelude.{Option, Some, None, Result, Ok, Err}
+use Rattle.rows.specs.Rows.{number_of}
+use Rattle.rows.specs.declared.Refusal.{Refusal}
+use Rattle.rows.proofs.Laws.{same-refusal}
 use Rattle.shortest_answer.specs.Answering.{Both, Shown, Refusing, Answered, Finds}
 
 module _ (P : Program) (s t : ℕ) where
@@ -29,16 +31,16 @@ module _ (P : Program) (s t : ℕ) where
       let b = y.shortest.so h x.shortest.helpers in
       omega (arith, x.count, y.count, a.1 y.lines b.0, b.1 x.lines a.0)
 
-  answered : (run : List ℕ) (a b : Answer) (r r' : List ℕ) → Answered P s t run r a → Answered P s t run r' b → a ≡ b
-  answered run (Way n) (Way k) r r' x y = ap Way (one-count run r r' n k x.2 y.2)
-  answered run (Way n) NoWay r r' x y = let h = x.2.shortest in absurd (y.2.so h.row h.helpers x.2.lines (h.so h.row h.helpers).0)
-  answered run (Way n) (Refused k l) r r' x y = absurd (not-refused k y.0 x.0 x.1)
-  answered run NoWay (Way n) r r' x y = let h = y.2.shortest in absurd (x.2.so h.row h.helpers y.2.lines (h.so h.row h.helpers).0)
-  answered run NoWay NoWay r r' x y = refl
-  answered run NoWay (Refused k l) r r' x y = absurd (not-refused k y.0 x.0 x.1)
-  answered run (Refused n i) (Way k) r r' x y = absurd (not-refused n x.0 y.0 y.1)
-  answered run (Refused n i) NoWay r r' x y = absurd (not-refused n x.0 y.0 y.1)
-  answered run (Refused n i) (Refused k j) r r' x y = rw (one_number n k x.0 y.0, x.1, y.1)
+  answered : (run : List ℕ) (a b : Result (Option ℕ) Refusal) (r r' : List ℕ) → Answered P s t run r a → Answered P s t run r' b → a ≡ b
+  answered run (Ok (Some n)) (Ok (Some k)) r r' x y = ap (λ (i : ℕ). Ok (Some i)) (one-count run r r' n k x.2 y.2)
+  answered run (Ok (Some n)) (Ok None) r r' x y = let h = x.2.shortest in absurd (y.2.so h.row h.helpers x.2.lines (h.so h.row h.helpers).0)
+  answered run (Ok (Some n)) (Err z) r r' x y = absurd (not-refused (number_of z.row) y.0 x.0 x.1)
+  answered run (Ok None) (Ok (Some n)) r r' x y = let h = y.2.shortest in absurd (x.2.so h.row h.helpers y.2.lines (h.so h.row h.helpers).0)
+  answered run (Ok None) (Ok None) r r' x y = refl
+  answered run (Ok None) (Err z) r r' x y = absurd (not-refused (number_of z.row) y.0 x.0 x.1)
+  answered run (Err z) (Ok (Some k)) r r' x y = absurd (not-refused (number_of z.row) x.0 y.0 y.1)
+  answered run (Err z) (Ok None) r r' x y = absurd (not-refused (number_of z.row) x.0 y.0 y.1)
+  answered run (Err z) (Err w) r r' x y = ap Err (same-refusal z w (one_number (number_of z.row) (number_of w.row) x.0 y.0) (x.1 ∙ sym y.1))
 
-  pub settled : (work run : List ℕ) (a b : Answer) (w w' r r' : List ℕ) → Finds P s t work run a w r → Finds P s t work run b w' r' → (a ≡ b) × (w ≡ w')
+  pub settled : (work run : List ℕ) (a b : Result (Option ℕ) Refusal) (w w' r r' : List ℕ) → Finds P s t work run a w r → Finds P s t work run b w' r' → (a ≡ b) × (w ≡ w')
   settled work run a b w w' r r' x y = (answered run a b r r' x.answer y.answer, x.area ∙ sym y.area)

@@ -15,6 +15,7 @@ use model::{Action, Model};
 pub const MOST: usize = 10;
 
 // Lines in rising order, and how many they are; the numbers behind them are zero.
+// The count stays beside the array: memory is fixed, and C is lent all places.
 #[derive(Clone, Copy)]
 pub struct Lines {
     pub lines: [u32; MOST],
@@ -32,6 +33,7 @@ fn wanted(action: Action, line: u32, list: &[u32]) -> bool
 }
 
 // The listed lines that are `new` or `next` lines, in the order of the model.
+// That the model is well-formed stays in clauses: a model is a value of any numbers, which acceptance alone makes well-formed.
 fn gather(m: Model, list: &[u32]) -> Lines
     requires { WellFormed m × (length list.now ≤ most) }
     ensures { result ≡ shown (named (program_of m) list.now) }

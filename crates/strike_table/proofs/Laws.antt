@@ -17,7 +17,7 @@ use Rattle.semantics.specs.Labels.{has}
 use Rattle.semantics.specs.Models.{Program, Question}
 use Rattle.semantics.specs.Steps.{MoreThan}
 use Rattle.semantics.specs.Questions.{Verdict}
-use Rattle.semantics.proofs.Tools.{either, same?, clash}
+use Rattle.semantics.proofs.Tools.{either, same?}
 use Rattle.semantics.proofs.Sets.{has-and, has-beyond}
 use Rattle.model.specs.declared.Model.{Model}
 use Rattle.model.specs.Records.{program_of, question_of}
@@ -27,13 +27,11 @@ use Rattle.striking.specs.Striking.{strike, most}
 use Rattle.striking.specs.Numbers.{numbered}
 use Rattle.striking.proofs.Striking.{strike-none, still-reached, still-unreached, reachable-whole}
 use Rattle.striking.proofs.Numbers.{numbered_more}
-use Rattle.search.specs.declared.Found.{Found}
-use Rattle.search.specs.Search.{Searched, Finds}
 use Rattle.strike_model.specs.Models.{Strikes}
 use Rattle.strike_list.specs.declared.Lines.{Lines}
 use Rattle.strike_list.specs.Lists.{listed}
 use Rattle.strike_table.specs.declared.Table.{Table}
-use Rattle.strike_table.specs.Tables.{Told, code, settled, Marked, Right, Onward, Decides, Complete, Ready, Fills}
+use Rattle.strike_table.specs.Tables.{Told, code, settled, Marked, Right, Onward, Decides, Complete, Ready, Filled}
 
 -- a number whose bits another has all
 and-within : (a b : ℕ) → bit_and a b ≡ a → (x : ℕ) → has a x ≡ true → has b x ≡ true
@@ -133,14 +131,12 @@ still-sparse : (P : Program) (n : ℕ) (C : List ℕ) → (MoreThan n P → ⊥)
 still-sparse P n C s h = s (h.0, h.1, h.2, λ t e. let w = h.3 t e in (w.0, reachable-whole P t C w.1))
 
 -- THE VERDICT of a choice is that of the model without its lines
-module _ (m r : Model) (lines work : List ℕ) (f : Found) (s : Strikes m lines r) (sparse : MoreThan limit.atomic (program_of m) → ⊥) (h : Finds r work f) where
-  searched : Searched r work f
-  searched = ⊎_elim
-      (λ (q : f.crowded ≡ true). absurd (still-sparse (program_of m) limit.atomic lines sparse (subst (λ (R : Program). MoreThan limit.atomic R) s.program (h.crowded.0 q))))
-      (λ (q : f.crowded ≡ false). h.searched q) (either f.crowded)
+module _ (m r : Model) (lines : List ℕ) (s : Strikes m lines r) where
+  pub struck-sparse : (MoreThan limit.atomic (program_of m) → ⊥) → MoreThan limit.atomic (program_of r) → ⊥
+  struck-sparse sparse h = still-sparse (program_of m) limit.atomic lines sparse (subst (MoreThan limit.atomic) s.program h)
 
-  pub struck-verdict : (C : List ℕ) → lines ≡ C → Verdict (strike (program_of m) C) (question_of m) f.reached
-  struck-verdict C e = subst (λ (R : Program). Verdict R (question_of m) f.reached) (s.program ∙ ap (strike (program_of m)) e) (subst (λ (q : Question). Verdict (program_of r) q f.reached) s.question searched.verdict)
+  pub struck-verdict : (C : List ℕ) → lines ≡ C → (b : Bool) → Verdict (program_of r) (question_of r) b → Verdict (strike (program_of m) C) (question_of m) b
+  struck-verdict C e b v = subst (λ (R : Program). Verdict R (question_of m) b) (s.program ∙ ap (strike (program_of m)) e) (subst (λ (q : Question). Verdict (program_of r) q b) s.question v)
 
 -- with nothing struck it is that of the model itself
 none-struck : (xs : List ℕ) → numbered xs 0 ≡ []
@@ -187,14 +183,10 @@ begun m l total said facts b f n w e k v r = record {
 pub listed-count : (l : Lines) → length l.lines ≡ most → l.count ≤ most → length (listed l) ≡ l.count
 listed-count l e w = length-take-le l.count l.lines (omega (arith, e))
 
--- THE TABLE in the end: too many states, or every choice decided
-module _ (P : Program) (Q : Question) (xs : List ℕ) (t : Table) (e : t.total ≡ 2 ^ length xs) where
-  pub fills-none : t.crowded ≡ true → MoreThan limit.atomic P → Fills P Q xs t
-  fills-none c h = record { total = e; crowded = ((λ q. h), (λ q. c)); verdict = λ z k l. clash c z }
-
-  pub fills-all : t.crowded ≡ false → (MoreThan limit.atomic P → ⊥) → Complete P Q xs t.total t.said → Fills P Q xs t
-  fills-all c n d = record {
-    total = e;
-    crowded = ((λ q. clash q c), (λ h. absurd (n h)));
-    verdict = λ z k l. let h : k < t.total = omega (arith, e) in told-verdict (strike P (numbered xs k)) Q (get_or t.said k 0) (d.right k h) (d.all k h);
-  }
+-- THE TABLE in the end: every choice decided
+pub filled : (P : Program) (Q : Question) (xs : List ℕ) (t : Table) → (MoreThan limit.atomic P → ⊥) → t.total ≡ 2 ^ length xs → Complete P Q xs t.total t.said → Filled P Q xs t
+filled P Q xs t n e d = record {
+  few = n;
+  total = e;
+  verdict = λ k l. let h : k < t.total = omega (arith, e) in told-verdict (strike P (numbered xs k)) Q (get_or t.said k 0) (d.right k h) (d.all k h);
+}

@@ -1,5 +1,5 @@
 -- THE TABLE OF CHOICES: what is said of each choice by its number, and how a decided one settles others. What an answer means is said in `striking`.
-use Rattle.std.specs.Prelude.{◌≡◌, ◌≢◌, ◌↔◌, Bool, true, false, cond, List, ℕ, zero, suc, ◌^◌, ◌≤◌, ◌<◌, eqb, length, get_or}
+use Rattle.std.specs.Prelude.{◌≡◌, ◌≢◌, Option, MatchOption, Bool, true, false, cond, List, ℕ, zero, suc, ◌^◌, ◌≤◌, ◌<◌, eqb, length, get_or}
 use Rattle.std.specs.Int.Bits.{bit_and}
 use Rattle.limits.specs.Limits as limit
 use Rattle.semantics.specs.Models.{Program, Question}
@@ -66,8 +66,12 @@ pub record Ready (m : Model) (l : Lines) (total : ℕ) (said facts : List ℕ) :
   pub right : Right (program_of m) (question_of m) (listed l) total said
   pub space : room ≤ length facts
 
--- WHAT THE TABLE SAYS of the choices of the lines xs: too many states, exactly if "more than 127 non-empty states are reachable" with nothing struck; and else whether each choice is reached
-pub record Fills (P : Program) (Q : Question) (xs : List ℕ) (t : Table) : Type 0 where
+-- WHAT THE TABLE SAYS of the choices of the lines xs, where not too many states are reachable with nothing struck: whether each choice is reached
+pub record Filled (P : Program) (Q : Question) (xs : List ℕ) (t : Table) : Type 0 where
+  pub few : MoreThan limit.atomic P → ⊥
   pub total : t.total ≡ 2 ^ length xs
-  pub crowded : (t.crowded ≡ true) ↔ MoreThan limit.atomic P
-  pub verdict : t.crowded ≡ false → (k : ℕ) → k < 2 ^ length xs → Verdict (strike P (numbered xs k)) Q (eqb (get_or t.said k 0) 1)
+  pub verdict : (k : ℕ) → k < 2 ^ length xs → Verdict (strike P (numbered xs k)) Q (eqb (get_or t.said k 0) 1)
+
+-- no table, exactly if "more than 127 non-empty states are reachable" with nothing struck
+abbrev pub Fills : Program → Question → List ℕ → Option Table → Type 0
+Fills P Q xs r = MatchOption r (MoreThan limit.atomic P) (Filled P Q xs)

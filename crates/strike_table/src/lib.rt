@@ -21,16 +21,17 @@ use strike_list::Lines;
 pub const CHOICES: usize = 1024;
 
 // What the table says of a choice; before it is decided it says 0.
+// The numbers stay: with `Option<bool>` in their place a goal of `fill` stayed open.
 pub const REACHED: u8 = 1;
 
 pub const UNREACHED: u8 = 2;
 
-// What is said of each choice by its number, and how many choices there are; or that there are too many states, and then nothing is said.
+// What is said of each choice by its number, and how many choices there are.
+// The number stays beside the array: memory is fixed, and the places behind it are not read.
 #[derive(Clone, Copy)]
 pub struct Table {
     pub said: [u8; CHOICES],
     pub total: usize,
-    pub crowded: bool,
 }
 
 // Whether the choice of number n, of which v is said, settles that of number k: a reached one those that strike fewer of its lines, an unreached one those that strike more.
@@ -41,6 +42,7 @@ fn settles(n: u32, v: u8, k: u32) -> bool
 }
 
 // Says v of all choices that it settles.
+// The table, its number of choices and the choice stay apart: the table alone is written, and the choice is another one for each call.
 fn mark(said: &mut [u8; CHOICES], total: usize, n: u32, v: u8)
     requires { (total ≤ 1024) × (length said.old ≡ 1024) }
     ensures { Marked n v total said.old said.new }
@@ -60,16 +62,22 @@ fn code(reached: bool) -> u8
 }
 
 // Whether the question is reached with the lines of a choice struck, by a search.
+// The model, the lines, the choice and the room for facts stay apart: the room is written by each search, and the choice is another one for each.
 fn reached(m: Model, l: Lines, n: u32, facts: &mut [u8]) -> bool
     requires { WellFormed m × (MoreThan limit.atomic (program_of m) → ⊥) × (l.count ≤ most) × (room ≤ length facts.old) }
     ensures { Verdict (strike (program_of m) (numbered (listed l) n)) (question_of m) result × (length facts.new ≡ length facts.old) }
 {
     let chosen = strike_list::choose(l, n);
     let struck = strike_model::strike(m, &chosen.lines[..chosen.count]);
-    search::search(facts, struck).reached
+    let Some(found) = search::search(facts, struck) else {
+        // No more states are reachable with lines struck than with none.
+        unreachable!()
+    };
+    found.reached
 }
 
 // Decides a choice, unless a decided one has settled it, and says what it settles.
+// What a choice is decided with stays apart, and that all is ready and the choice is there stays in clauses: the table and the room change in each call, and the model and the lines in none.
 fn decide(said: &mut [u8; CHOICES], total: usize, m: Model, l: Lines, n: u32, facts: &mut [u8])
     requires { Ready m l total said.old facts.old × (n < total) }
     ensures { Decides (program_of m) (question_of m) (listed l) total n said.old said.new × (length facts.new ≡ length facts.old) }
@@ -129,27 +137,16 @@ fn ways(count: usize) -> usize
     1 << count
 }
 
-// Searches with nothing struck, and where the states are not too many decides every choice.
-pub fn fill(m: Model, l: Lines) -> Table
+// Searches with nothing struck, and decides every choice; or nothing, where there are too many states.
+pub fn fill(m: Model, l: Lines) -> Option<Table>
     requires { WellFormed m × (l.count ≤ most) }
     ensures { Fills (program_of m) (question_of m) (listed l) result }
 {
     let total = ways(l.count);
     let mut said = [0u8; CHOICES];
     let mut facts = [0u8; ROOM];
-    let whole = search::search(&mut facts, m);
-    if whole.crowded {
-        return Table {
-            said,
-            total,
-            crowded: true,
-        };
-    }
+    let whole = search::search(&mut facts, m)?;
     mark(&mut said, total, 0, code(whole.reached));
     complete(&mut said, total, m, l, &mut facts);
-    Table {
-        said,
-        total,
-        crowded: false,
-    }
+    Some(Table { said, total })
 }

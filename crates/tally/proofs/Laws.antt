@@ -10,18 +10,25 @@ use native.Mathlib.Omega.{arith}
 use lib.Dec.{eqb}
 use lib.ListN.{length, get_or}
 use lib.Pow.{pow_pos}
+use Rattle.std.specs.Prelude.{Ok, Err}
+use Rattle.rows.specs.declared.Refusal.{Refusal}
 use Rattle.semantics.specs.Models.{Program, Question, Distinct}
 use Rattle.semantics.specs.Questions.{Verdict}
-use Rattle.semantics.proofs.Tools.{either, clash}
+use Rattle.semantics.proofs.Tools.{either}
+use Rattle.grammar.specs.Texts.{Outcome, accepted, refused}
 use Rattle.striking.specs.Striking.{strike, rising, choices, Counts, nothing, reached, unreached, Tally}
 use Rattle.striking.specs.Numbers.{numbered, falling}
 use Rattle.striking.proofs.Choices.{rising-length}
 use Rattle.striking.proofs.Numbers.{choices-numbered}
 use Rattle.strike_table.specs.declared.Table.{Table}
-use Rattle.strike_table.specs.Tables.{Fills}
-use Rattle.tally.specs.declared.Count.TheVariants.{Counted, Refused}
+use Rattle.strike_table.specs.Tables.{Filled}
+use Rattle.strike_table.proofs.Laws.{total-most}
+use Rattle.strike_calls.specs.Choices as strike
+use Rattle.strike_calls.specs.Choices.{Decided}
+use Rattle.strike_calls.specs.declared.Choices.{Choices}
+use Rattle.tally.specs.declared.Count.{Count}
 use Rattle.tally.specs.Ones.{ones}
-use Rattle.tally.specs.Tallying.{Answers}
+use Rattle.tally.specs.Tallying.{Tallied, Leaves}
 
 -- at most all
 pub ones-most : (said : List ℕ) (i : ℕ) → ones said i ≤ i
@@ -59,11 +66,11 @@ module _ (said : List ℕ) (i n : ℕ) (c : Counting said i n) where
   counting-end total e = c.same ∙ ap (ones said) e
 
 -- THE TALLY
-module _ (P : Program) (Q : Question) (L : List ℕ) (t : Table) (once : Distinct L) (sparse : t.crowded ≡ false) (d : Fills P Q (rising L) t) where
+module _ (P : Program) (Q : Question) (L : List ℕ) (t : Table) (once : Distinct L) (d : Filled P Q (rising L) t) where
   counted : (i : ℕ) → i ≤ 2 ^ length (rising L) → Counts P Q (map (numbered (rising L)) (falling i)) (ones t.said i) (i - ones t.said i)
   counted zero l = nothing
   counted (suc i) l =
-      let v = d.verdict sparse i l in
+      let v = d.verdict i l in
       let c = counted i (omega arith) in
       let m = ones-most t.said i in
       ⊎_elim
@@ -77,15 +84,26 @@ module _ (P : Program) (Q : Question) (L : List ℕ) (t : Table) (once : Distinc
   ways : t.total ≡ 2 ^ length L
   ways = d.total ∙ ap (λ (n : ℕ). 2 ^ n) (rising-length L once)
 
-  tallied : (r : ℕ) → r ≡ ones t.said t.total → Tally P Q L r (t.total - r) (100 * r / t.total) (100 * r % t.total)
+  pub tallied : (r : ℕ) → r ≡ ones t.said t.total → Tally P Q L r (t.total - r) (100 * r / t.total) (100 * r % t.total)
   tallied r e = record {
     counts = rw e all;
     hundredths = subst (λ (k : ℕ). 100 * r ≡ 100 * r / t.total * k + 100 * r % t.total) ways (sym (div-add-mod' (100 * r) t.total));
     below = subst (λ (k : ℕ). 100 * r % t.total < k) ways (mod-lt (100 * r) (subst (λ (k : ℕ). 0 < k) (sym ways) (pow_pos (length L))));
   }
 
-  pub answers-tally : (r : ℕ) → r ≡ ones t.said t.total → Answers P Q L (Counted r (t.total - r) (100 * r / t.total) (100 * r % t.total))
-  answers-tally r e = inr ((λ h. clash (d.crowded.1 h) sparse), (r, t.total - r, 100 * r / t.total, 100 * r % t.total, tallied r e, refl))
+-- THE CALL, by what is decided of the choices
+module _ (L work work' : List ℕ) where
+  pub total-sizes : (o : Outcome) (c : Choices) → strike.Leaves o L work (Ok c) work' → (c.table.total ≤ 1024) × (0 < c.table.total)
+  total-sizes (refused n l) c h = absurd h.0
+  total-sizes (accepted D P Q) c h =
+      let n = length (rising L) in
+      let t = h.0.filled.total in
+      (total-most n c.table.total h.0.few t, omega (arith, t, pow_pos n))
 
-pub answers-crowded : (P : Program) (Q : Question) (L : List ℕ) (t : Table) → Fills P Q (rising L) t → t.crowded ≡ true → Answers P Q L (Refused 15 0)
-answers-crowded P Q L t d c = inl (d.crowded.0 c, refl)
+  pub tells : (o : Outcome) (c : Choices) (r : Count) → strike.Leaves o L work (Ok c) work' → ((P : Program) (Q : Question) (L : List ℕ) → Decided P Q L c → Tallied P Q L r) → Leaves o L work (Ok r) work'
+  tells (refused n l) c r h f = absurd h.0
+  tells (accepted D P Q) c r h f = (inr (h.0.filled.few, f P Q L h.0), h.1)
+
+  pub refuses : (o : Outcome) (x : Refusal) → strike.Leaves o L work (Err x) work' → Leaves o L work (Err x) work'
+  refuses (refused n l) x h = h
+  refuses (accepted D P Q) x h = (inl (h.0.0, (h.0.1, h.0.2)), h.1)

@@ -1,39 +1,23 @@
 // How much of the policy matters: how many choices of lines to strike are reached.
 #![tactic(auto)]
 
-ghost use Rattle.std.specs.Prelude.{◌≡◌, false, List, ℕ, ◌*◌, ◌/◌, ◌%◌, ◌≤◌, ◌<◌, length};
-ghost use Rattle.limits.specs.Limits as limit;
-ghost use Rattle.semantics.specs.Models.{Program, Question, Distinct};
-ghost use Rattle.model.specs.Records.{program_of, question_of};
-ghost use Rattle.model.specs.WellFormed.{WellFormed};
-ghost use Rattle.calls.specs.Wiping.{wiped};
-ghost use Rattle.striking.specs.Striking.{faulty, rising};
-ghost use Rattle.strike_table.specs.Tables.{Fills};
+ghost use Rattle.std.specs.Prelude.{◌≡◌, List, ℕ, ◌*◌, ◌/◌, ◌%◌, ◌≤◌, ◌<◌};
+ghost use Rattle.semantics.specs.Models.{Program, Question};
+ghost use Rattle.strike_calls.specs.Choices.{Decided};
 ghost use Rattle.tally.specs.Ones.{ones};
-ghost use Rattle.tally.specs.Tallying.{Answers, Tallies};
+ghost use Rattle.tally.specs.Tallying.{Tallied, Tallies};
 
-use calls::TOO_MANY;
-use limits::WORK;
-use model::Model;
+use rows::Refusal;
+use strike_calls::Choices;
 use strike_table::{REACHED, Table};
-use text::Acceptance;
 
-// The number of the refusal of the list.
-const LIST: u32 = 19;
-
-// How many choices are reached and how many unreached, and the reached share in whole hundredths with its remainder; or a refusal with its number and line.
+// How many choices are reached and how many unreached, and the reached share in whole hundredths with its remainder.
 #[derive(Clone, Copy)]
-pub enum Count {
-    Counted {
-        reached: u32,
-        unreached: u32,
-        share: u32,
-        remainder: u32,
-    },
-    Refused {
-        number: u32,
-        line: u32,
-    },
+pub struct Count {
+    pub reached: u32,
+    pub unreached: u32,
+    pub share: u32,
+    pub remainder: u32,
 }
 
 // How many choices of the table are reached.
@@ -50,7 +34,7 @@ fn reached(t: Table) -> u32
     n
 }
 
-// The share of a count in whole hundredths,
+// The share of a count in whole hundredths.
 fn hundredths(reached: u32, total: u32) -> u32
     requires { (reached ≤ 1024) × (0 < total) }
     ensures { result ≡ 100 * reached / total }
@@ -58,7 +42,7 @@ fn hundredths(reached: u32, total: u32) -> u32
     100 * reached / total
 }
 
-// and what remains.
+// What remains of a count behind its whole hundredths.
 fn rest(reached: u32, total: u32) -> u32
     requires { (reached ≤ 1024) × (0 < total) }
     ensures { result ≡ 100 * reached % total }
@@ -67,19 +51,13 @@ fn rest(reached: u32, total: u32) -> u32
 }
 
 // The counts of the table, and the share.
-fn conclude(t: Table) -> Count
-    requires { (t.total ≤ 1024) × (0 < t.total) }
-    ensures { (P : Program) (Q : Question) (L : List ℕ) → Distinct L → Fills P Q (rising L) t → Answers P Q L result }
+fn conclude(c: Choices) -> Count
+    requires { (c.table.total ≤ 1024) × (0 < c.table.total) }
+    ensures { (P : Program) (Q : Question) (L : List ℕ) → Decided P Q L c → Tallied P Q L result }
 {
-    if t.crowded {
-        return Count::Refused {
-            number: TOO_MANY,
-            line: 0,
-        };
-    }
-    let reached = reached(t);
-    let total = t.total as u32;
-    Count::Counted {
+    let reached = reached(c.table);
+    let total = c.table.total as u32;
+    Count {
         reached,
         unreached: total - reached,
         share: hundredths(reached, total),
@@ -87,39 +65,10 @@ fn conclude(t: Table) -> Count
     }
 }
 
-// Decides every choice of a good list, and leaves the work bytes zero.
-fn judge(m: Model, list: &[u32], work: &mut [u8]) -> Count
-    requires { WellFormed m × (faulty (program_of m) list.now ≡ false) × (limit.work ≤ length work.old) }
-    ensures { Answers (program_of m) (question_of m) list.now result × (work.new ≡ wiped work.old) }
-{
-    let l = strike_list::rising(m, list);
-    let t = strike_table::fill(m, l);
-    calls::wipe(work);
-    conclude(t)
-}
-
 // Reads a text and a list of lines, and counts the choices; a refusal of the text or of the list leaves the work area as it is.
-pub fn tally(text: &[u8], list: &[u32], work: &mut [u8]) -> Count
+pub fn tally(text: &[u8], list: &[u32], work: &mut [u8]) -> Result<Count, Refusal>
     ensures { Tallies text.now list.now work.old result work.new }
 {
-    let row = calls::early(text.len(), work.len() < WORK, false);
-    if row != 0 {
-        return Count::Refused {
-            number: row,
-            line: 0,
-        };
-    }
-    let reading = text::read(text);
-    let acceptance = reading.answer;
-    if let Acceptance::Refused { number, line } = acceptance {
-        return Count::Refused { number, line };
-    }
-    let m = reading.model;
-    if strike_list::faulty(m, list) {
-        return Count::Refused {
-            number: LIST,
-            line: 0,
-        };
-    }
-    judge(m, list, work)
+    let choices = strike_calls::decide(text, list, work)?;
+    Ok(conclude(choices))
 }

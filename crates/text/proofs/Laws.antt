@@ -1,51 +1,48 @@
--- WHAT THE ANSWER TO A TEXT SAYS OF THE TEXT, and the record of the model of an accepted one.
-use mathlib.Core.Path.{◌≡◌, refl, sym, ◌∙◌}
+-- WHAT THE RECORD OF AN ACCEPTED TEXT SAYS, and of a call over it.
+use mathlib.Core.Path.{◌≡◌, sym, ◌∙◌}
+use mathlib.Core.Logic.{⊎_elim}
+use mathlib.Core.Bool.{Bool, true, false}
 use mathlib.Core.List.{List}
 use Prim.Native.Nat.{ℕ}
 use native.Mathlib.Omega.{arith}
+use lib.Dec.{eqb}
 use lib.ListN.{length}
-use Rattle.semantics.specs.Models.{Program, Question}
+use borrow.Author.Tests.{eqb-true, eqb-false}
 use Rattle.model.specs.Records.{program_of, question_of}
 use Rattle.model.specs.WellFormed.{WellFormed}
-use Rattle.grammar.specs.Bytes.{lines}
-use Rattle.grammar.specs.Declarations.{Declared}
+use Rattle.model.specs.declared.Model.{Model}
 use Rattle.grammar.specs.Texts.{Outcome, accepted, refused, outcome}
-use Rattle.acceptance.specs.Represents.{Represents}
+use Rattle.grammar.proofs.Tests.{either}
 use Rattle.acceptance.proofs.WellFormed.{accepted-well-formed}
-use Rattle.text.specs.declared.Acceptance.{Acceptance}
-use Rattle.text.specs.declared.Acceptance.TheVariants.{Accepted, Refused}
-use Rattle.text.specs.declared.Reading.{Reading}
-use Rattle.text.specs.Reading.{Names, Reads}
+use Rattle.calls.specs.Calls.{early, called}
+use Rattle.calls.proofs.Laws.{called-early, called-lines, sizes}
+use Rattle.text.specs.Reading.{Accepts}
 
--- THE TEXT, from the answer
-unlike : {A : Type 0} {a : Acceptance} {n l : ℕ} → a ≡ Accepted → a ≡ Refused n l → A
-unlike e f = absurd (let z : ◌≡◌ {A = ℕ} 0 1 = cc in omega arith)
+-- an accepted text is not refused
+unlike : {o : Outcome} {n l : ℕ} {text : List ℕ} {m : Model} → Accepts o text m → o ≡ refused n l → ⊥
+unlike a e = let f = a.says in let z : ◌≡◌ {A = ℕ} 0 1 = cc in omega arith
 
-module _ (text : List ℕ) (r : Reading) where
-  pub is-accepted : (o : Outcome) → Reads o text r → r.answer ≡ Accepted → (D : Declared) × (P : Program) × (Q : Question) × (o ≡ accepted D P Q)
-  is-accepted (accepted D P Q) h e = (D, P, Q, refl)
-  is-accepted (refused n l) h e = unlike e h.0
+module _ (text : List ℕ) (m : Model) where
+  pub read-well-formed : Accepts (outcome text) text m → WellFormed m
+  read-well-formed a = accepted-well-formed text a.declared (program_of m) (question_of m) m a.says a.represents
 
-  pub is-refused : (o : Outcome) (n l : ℕ) → Reads o text r → r.answer ≡ Refused n l → o ≡ refused n l
-  is-refused (accepted D P Q) n l h e = unlike h.0 e
-  is-refused (refused k j) n l h e = let z : Refused k j ≡ Refused n l = sym h.0 ∙ e in cc
+  -- A CALL over an accepted text
+  module _ (short long : Bool) (a : Accepts (called text short long) text m) where
+    -- no row comes before the lines
+    none-early : early (length text) short long ≡ 0
+    none-early = ⊎_elim
+        (λ (q : eqb (early (length text) short long) 0 ≡ true). eqb-true (early (length text) short long) 0 q)
+        (λ (q : eqb (early (length text) short long) 0 ≡ false). absurd (unlike a (called-early text short long (eqb-false (early (length text) short long) 0 q))))
+        (either (eqb (early (length text) short long) 0))
 
--- THE RECORD of an accepted text
-module _ (text : List ℕ) (D : Declared) (P : Program) (Q : Question) (r : Reading) (o : outcome text ≡ accepted D P Q) (h : Reads (outcome text) text r) where
-  accepts : (r.answer ≡ Accepted) × Represents (length (lines text)) D P Q r.model × Names text D r.model
-  accepts = rw o at h
+    pub not-short : short ≡ false
+    not-short = (sizes (length text) short long none-early).0
 
-  pub read-represents : Represents (length (lines text)) D P Q r.model
-  read-represents = accepts.1
+    pub not-long : long ≡ false
+    not-long = (sizes (length text) short long none-early).1
 
-  pub read_names : Names text D r.model
-  read_names = accepts.2
+    pub lines-say : outcome text ≡ accepted a.declared (program_of m) (question_of m)
+    lines-say = sym (called-lines text short long none-early) ∙ a.says
 
-  pub read-well-formed : WellFormed r.model
-  read-well-formed = accepted-well-formed text D P Q r.model o read-represents
-
-  pub read-program : program_of r.model ≡ P
-  read-program = read-represents.program
-
-  pub read-question : question_of r.model ≡ Q
-  read-question = read-represents.question
+    pub called-well-formed : WellFormed m
+    called-well-formed = accepted-well-formed text a.declared (program_of m) (question_of m) m lines-say a.represents

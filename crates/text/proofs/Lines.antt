@@ -3,7 +3,7 @@ use mathlib.Core.Path.{◌≡◌, refl, sym, ap, ◌∙◌}
 use mathlib.Core.Logic.{⊎_elim}
 use mathlib.Core.Bool.{true, false}
 use mathlib.Core.List.{List, [], ◌∷◌}
-use mathlib.Core.Option.{none}
+use mathlib.Core.Option.{none, some}
 use Prim.Native.Nat.{ℕ, ◌+◌, ◌≤◌, ◌<◌}
 use native.Mathlib.Numerals.{add-one}
 use native.Mathlib.Omega.{arith}
@@ -18,20 +18,24 @@ use Rattle.grammar.specs.Bytes.{bytes, Line, ended, unended, in_front, lines}
 use Rattle.grammar.specs.Shapes.{after, line, whole, form_of}
 use Rattle.grammar.specs.Texts.{refused, read_lines, outcome}
 use Rattle.grammar.proofs.Tests.{either}
-use Rattle.std.specs.Prelude as prelude
-use Rattle.rows.specs.Rows.{number_of, row_number}
+use Rattle.std.specs.Prelude.{Ok, Err}
+use Rattle.rows.specs.Rows.{number_of}
 use Rattle.rows.specs.declared.Row.{Row}
 use Rattle.rows.proofs.Laws.{some-number}
 use Rattle.text_names.specs.Names.{Valid, declared_of}
 use Rattle.text_names.specs.declared.Declared.{Declared}
 use Rattle.text_scan.specs.Found as scan
 use Rattle.text_scan.proofs.Laws.{nothing}
-use Rattle.text_lines.specs.Lines.{Stepped, Aside}
+use Rattle.text_faults.specs.Faults.{fault_in, unshaped, shaped}
+use Rattle.grammar.specs.Forms.{Form}
+use Rattle.grammar.specs.Rows.{fault}
+use Rattle.text_lines.specs.Lines.{GoodStep, Stepped, Aside}
+use Rattle.text_lines.proofs.Laws.{ok-err}
 use Rattle.text_lines.specs.declared.Step.{Step}
 use Rattle.text_lines.proofs.Going.{valid-longer, declared-longer, reads-bad, reads-unshaped, reads-faulty, reads_on, other-form}
 use Rattle.text_opening.specs.Openings.{blank}
 use Rattle.text_opening.proofs.Laws.{blank-program, blank-holds}
-use Rattle.text.specs.Reached.{Reached, onwards, LineAt}
+use Rattle.text.specs.Reached.{Reached, onwards}
 
 -- THE LINES of a text that is not empty
 one_line : (b : ℕ) (ls : List Line) → (l : Line) × (ms : List Line) × (in_front b ls ≡ l ∷ ms)
@@ -45,12 +49,12 @@ some-lines (b ∷ s) h = ⊎_elim (λ (q : eqb b 10 ≡ true). rw q (ended [], l
 
 -- BEFORE THE FIRST LINE
 module _ (d : Declared) {m : Model} (z : d.count ≡ 0) (b : m ≡ blank) where
-  pub reached-start : {text : List ℕ} → length d.codes ≡ limit.declared → length d.names ≡ limit.declared → length d.lengths ≡ limit.declared → Reached text 0 1 d m
-  reached-start p q r = record {
+  pub reached-start : {text : List ℕ} → length d.names ≡ limit.declared → Reached text 0 1 d m
+  reached-start q = record {
     place = omega arith;
     number = omega arith;
     small = omega arith;
-    valid = record { count = omega arith; codes = p; names = q; lengths = r; within = λ i h. absurd (omega arith); coded = λ i h. absurd (omega arith) };
+    valid = record { count = omega arith; names = q; within = λ i h. absurd (omega arith); coded = λ i h. absurd (omega arith) };
     limited = record { total = rw z; states = rw z (omega arith); derived = rw z (omega arith) };
     holds = rw (b, blank-program) blank-holds;
     stagecount = rw b;
@@ -61,17 +65,14 @@ module _ (d : Declared) {m : Model} (z : d.count ≡ 0) (b : m ≡ blank) where
   unfolding onwards declared_of
   onwards-start text = rw (z, b, blank-program)
 
--- A LINE THAT ENDS
-pub line-found : {text : List ℕ} {at e : ℕ} → scan.LineEnd text at e → (e ≡ length text → ⊥) → LineAt text at e
-line-found f z = let w = f.found z in let h = f.within in record { begins = w.0; ends = omega (arith, z); good = w.1; read = w.2 }
-
+-- A LINE
 module _ {text : List ℕ} {at n : ℕ} {d : Declared} {m : Model} (so : Reached text at n d m) where
   -- row 2
-  pub onwards-bad : {e : ℕ} → scan.LineEnd text at e → e ≡ length text → onwards text at n d m ≡ refused 2 n
+  pub onwards-bad : scan.BadLine text at → onwards text at n d m ≡ refused 2 n
   unfolding onwards
-  onwards-bad f z = let w = f.refused z in rw w.2 (reads-bad n (declared_of (take at text) d) (program_of m) w.1 w.0 w.3)
+  onwards-bad w = rw w.2 (reads-bad n (declared_of (take at text) d) (program_of m) w.1 w.0 w.3)
 
-  module _ {e : ℕ} (l : LineAt text at e) where
+  module _ {e : ℕ} (l : scan.LineEnd text at e) where
     pub valid-there : Valid (take e text) d
     valid-there = let z = l.ends in valid-longer text d at e l.begins (omega arith) so.valid
 
@@ -83,42 +84,43 @@ module _ {text : List ℕ} {at n : ℕ} {d : Declared} {m : Model} (so : Reached
     onwards-line = rw (declared-there, l.read)
 
     -- a line that is no `ask` line
-    pub line_unshaped : whole (line (slice at e text)) ≡ none → onwards text at n d m ≡ refused 3 n
+    pub line_refused : (x : Row) → Stepped (take e text) d (program_of m) n (line (slice at e text)) (Err x) → onwards text at n d m ≡ refused (number_of x) n
     unfolding form_of
-    line_unshaped h = onwards-line ∙ reads-unshaped n (declared_of (take e text) d) (program_of m) (lines (drop (e + 1) text)) (slice at e text) l.good h
+    line_refused x (unshaped w q) = onwards-line ∙ reads-unshaped n (declared_of (take e text) d) (program_of m) (lines (drop (e + 1) text)) (slice at e text) l.good w ∙ ap (λ (i : ℕ). refused i n) (sym (ap (fault_in {A = Step}) q))
+    line_refused x (shaped form w q g) =
+        onwards-line
+        ∙ (reads-faulty n (declared_of (take e text) d) (program_of m) (lines (drop (e + 1) text)) (slice at e text) l.good form w (λ y. some-number x (q ∙ y))
+        ∙ ap (λ (i : ℕ). refused i n) (sym q))
 
-    module _ {s : Step} (st : Stepped (take e text) d (program_of m) n (line (slice at e text)) s) where
-      pub line_refused : {w : Row} → s.row ≡ prelude.Some w → onwards text at n d m ≡ refused (number_of w) n
-      unfolding form_of
-      line_refused {w} q =
-          let z = sym st.number ∙ ap row_number q in
-          onwards-line
-          ∙ (reads-faulty n (declared_of (take e text) d) (program_of m) (lines (drop (e + 1) text)) (slice at e text) l.good st.form st.reads (λ y. some-number w (sym z ∙ y))
-          ∙ ap (λ (i : ℕ). refused i n) z)
+    module _ {s : Step} (form : Form) (w : whole (line (slice at e text)) ≡ some form) (z : 0 ≡ fault (declared_of (take e text) d) (length (program_of m)) form) (g : GoodStep (take e text) d (program_of m) n form s) where
+      goes-on : after (bytes "(ask ") (slice at e text) ≡ none → onwards text at n d m ≡ onwards text (e + 1) (n + 1) s.declared s.model
+      unfolding onwards form_of
+      goes-on a =
+          let h = l.ends in
+          onwards-line ∙ reads_on n (declared_of (take e text) d) (program_of m) (lines (drop (e + 1) text)) (slice at e text) l.good form (other-form (slice at e text) form a w) w (sym z)
+          ∙ rw (g.stored.program, declared-longer text s.declared e (e + 1) (omega arith) (omega arith) g.valid, g.declared, add-one, add-one)
 
-      module _ (z : row_number s.row ≡ 0) where
-        pub onwards-on : after (bytes "(ask ") (slice at e text) ≡ none → onwards text at n d m ≡ onwards text (e + 1) (n + 1) s.declared s.model
-        unfolding onwards form_of
-        onwards-on a =
-            let g = st.accepted z in
-            let h = l.ends in
-            onwards-line ∙ reads_on n (declared_of (take e text) d) (program_of m) (lines (drop (e + 1) text)) (slice at e text) l.good st.form (other-form (slice at e text) st.form a st.reads) st.reads (sym st.number ∙ z)
-            ∙ rw (g.3.program, declared-longer text s.declared e (e + 1) (omega arith) (omega arith) g.0, g.2, add-one, add-one)
+      goes : Aside m s.model → Reached text (e + 1) (n + 1) s.declared s.model
+      goes a =
+          let h = l.ends in
+          record {
+            place = omega arith;
+            number = (let k = rw l.read at so.number in omega arith);
+            small = (let k = so.small in let b = l.begins in omega arith);
+            valid = valid-longer text s.declared e (e + 1) (omega arith) (omega arith) g.valid;
+            limited = g.limited;
+            holds = rw g.stored.program g.stored;
+            stagecount = a.stagecount ∙ so.stagecount;
+            stages = rw a.stages so.stages;
+          }
 
-        pub reached-on : Aside m s.model → Reached text (e + 1) (n + 1) s.declared s.model
-        reached-on a =
-            let g = st.accepted z in
-            let h = l.ends in
-            record {
-              place = omega arith;
-              number = (let k = rw l.read at so.number in omega arith);
-              small = (let k = so.small in let b = l.begins in omega arith);
-              valid = valid-longer text s.declared e (e + 1) (omega arith) (omega arith) g.0;
-              limited = g.1;
-              holds = rw g.3.program g.3;
-              stagecount = a.stagecount ∙ so.stagecount;
-              stages = rw a.stages so.stages;
-            }
+    pub onwards-on : {s : Step} → Stepped (take e text) d (program_of m) n (line (slice at e text)) (Ok s) → after (bytes "(ask ") (slice at e text) ≡ none → onwards text at n d m ≡ onwards text (e + 1) (n + 1) s.declared s.model
+    onwards-on (unshaped w q) a = absurd (ok-err q)
+    onwards-on (shaped form w z g) a = goes-on form w z g a
+
+    pub reached-on : {s : Step} → Stepped (take e text) d (program_of m) n (line (slice at e text)) (Ok s) → Aside m s.model → Reached text (e + 1) (n + 1) s.declared s.model
+    reached-on (unshaped w q) a = absurd (ok-err q)
+    reached-on (shaped form w z g) a = goes form w z g a
 
 -- THE END of the text: row 10
 pub onwards-end : (text : List ℕ) (at n : ℕ) (d : Declared) (m : Model) → length text ≤ at → onwards text at n d m ≡ refused 10 n

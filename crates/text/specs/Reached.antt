@@ -1,15 +1,16 @@
 -- FROM LINE TO LINE: how far a text is read.
-use Rattle.std.specs.Prelude.{◌≡◌, true, List, ◌∷◌, ℕ, suc, ◌+◌, ◌≤◌, ◌<◌, length, take, drop}
+use Rattle.std.specs.Prelude.{◌≡◌, List, ℕ, suc, ◌+◌, ◌≤◌, length, take, drop}
 use Rattle.std.proofs.Math.Option.{some}
 use Rattle.std.proofs.Math.Seq.{slice}
 use Rattle.limits.specs.Limits as limit
 use Rattle.model.specs.Records.{program_of}
 use Rattle.model.specs.declared.Model.{Model}
-use Rattle.grammar.specs.Bytes.{bytes, every, allowed, ended, lines}
+use Rattle.grammar.specs.Bytes.{bytes, lines}
 use Rattle.grammar.specs.Shapes.{after}
 use Rattle.grammar.specs.Texts.{Outcome, read_lines}
 use Rattle.text_names.specs.Names.{Valid, declared_of}
 use Rattle.text_names.specs.declared.Declared.{Declared}
+use Rattle.text_scan.specs.Found.{LineEnd}
 use Rattle.text_declarations.specs.Declares.{Limited}
 use Rattle.text_record.specs.Stored as stored
 
@@ -28,15 +29,8 @@ pub record Reached (text : List ℕ) (at n : ℕ) (d : Declared) (m : Model) : T
 unfoldable pub onwards : List ℕ → ℕ → ℕ → Declared → Model → Outcome
 onwards text at n d m = read_lines n (declared_of (take at text) d) (program_of m) (lines (drop at text))
 
--- the line from `at` to e, where its byte 10 stands
-pub record LineAt (text : List ℕ) (at e : ℕ) : Type 0 where
-  pub begins : at ≤ e
-  pub ends : e < length text
-  pub good : every allowed (slice at e text) ≡ true
-  pub read : lines (drop at text) ≡ ended (slice at e text) ∷ lines (drop (e + 1) text)
-
 -- it is the `ask` line
 pub record AskLine (text : List ℕ) (at e : ℕ) : Type 0 where
-  pub line : LineAt text at e
+  pub line : LineEnd text at e
   pub room : at + 5 ≤ e
   pub word : after (bytes "(ask ") (slice at e text) ≡ some (slice (at + 5) e text)

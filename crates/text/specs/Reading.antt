@@ -1,22 +1,28 @@
--- WHAT READING A TEXT ANSWERS: the table's outcome, and for an accepted text the record of its model.
-use Rattle.std.specs.Prelude.{◌≡◌, List, ℕ, ◌+◌, ◌≤◌, ◌<◌, length, get_or}
+-- WHAT READING A TEXT ANSWERS: the record of the model of an accepted text, or the table's refusal.
+use Rattle.std.specs.Prelude.{◌≡◌, List, ℕ, ◌+◌, ◌≤◌, ◌<◌, length, get_or, Result, MatchResult}
 use Rattle.std.proofs.Math.Seq.{slice}
+use Rattle.rows.specs.Rows.{number_of}
+use Rattle.rows.specs.declared.Refusal.{Refusal}
+use Rattle.model.specs.Records.{program_of, question_of}
 use Rattle.model.specs.declared.Model.{Model}
 use Rattle.grammar.specs.Bytes.{lines}
 use Rattle.grammar.specs.Declarations.{Declared}
 use Rattle.grammar.specs.Texts.{Outcome, accepted, refused}
 use Rattle.acceptance.specs.Sound.{name_at}
 use Rattle.acceptance.specs.Represents.{Represents}
-use Rattle.text_opening.specs.Openings.{blank}
-use Rattle.text.specs.declared.Acceptance.TheVariants.{Accepted, Refused}
-use Rattle.text.specs.declared.Reading.{Reading}
 
 -- each declared name stands in the text where the record says
 pub record Names (text : List ℕ) (D : Declared) (m : Model) : Type 0 where
   pub within : (i : ℕ) → i < length D → get_or m.names i 0 + get_or m.lengths i 0 ≤ length text
   pub name : (i : ℕ) → i < length D → slice (get_or m.names i 0) (get_or m.names i 0 + get_or m.lengths i 0) text ≡ name_at D i
 
--- THE ANSWER TO A TEXT: the refusal with its number and line, beside the blank record; or the record of the model that the text says
-abbrev pub Reads : Outcome → List ℕ → Reading → Type 0
-Reads (refused n l) text r = (r.answer ≡ Refused n l) × (r.model ≡ blank)
-Reads (accepted D P Q) text r = (r.answer ≡ Accepted) × Represents (length (lines text)) D P Q r.model × Names text D r.model
+-- m is the record of the model that an accepted text says
+pub record Accepts (o : Outcome) (text : List ℕ) (m : Model) : Type 0 where
+  pub declared : Declared
+  pub says : o ≡ accepted declared (program_of m) (question_of m)
+  pub represents : Represents (length (lines text)) declared (program_of m) (question_of m) m
+  pub names : Names text declared m
+
+-- THE ANSWER TO A TEXT: the record of the model that the text says, or the table's refusal
+abbrev pub Reads : Outcome → List ℕ → Result Model Refusal → Type 0
+Reads o text r = MatchResult r (Accepts o text) (λ x. o ≡ refused (number_of x.row) x.line)

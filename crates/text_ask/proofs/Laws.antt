@@ -13,21 +13,20 @@ use Rattle.grammar.specs.Declarations.{Declared}
 use Rattle.grammar.proofs.Reading.{Reading, reading-start, reading-more, reading-closed}
 use Rattle.text_bodies.specs.declared.Body.{Body}
 use Rattle.text_stages.specs.Questions as questions
-use Rattle.text_stages.specs.Questions.{Addable, Added}
-use Rattle.text_stages.specs.declared.Asking.{Asking}
+use Rattle.text_stages.specs.Questions.{Asked, Addable, Added}
 use Rattle.text_bodies.specs.Bodies.{StageEnd}
 use Rattle.text_ask.specs.Asks.{Extends, StagesEnd}
 
 -- READING STAGES
-pub record StagesSo (text : List ℕ) (D : Declared) (at n : ℕ) (s g : Asking) (i k : ℕ) : Type 0 where
+pub record StagesSo (text : List ℕ) (D : Declared) (at n : ℕ) (s g : Asked) (i k : ℕ) : Type 0 where
   pub more : List (List forms.Literal)
   pub reading : Reading stage text at n more i k
   pub holds : Extends text D s more g
 
-pub stages-start : {text : List ℕ} {D : Declared} {at n : ℕ} {s : Asking} → at ≤ length text → StagesSo text D at n s s at n
+pub stages-start : {text : List ℕ} {D : Declared} {at n : ℕ} {s : Asked} → at ≤ length text → StagesSo text D at n s s at n
 stages-start h = record { more = []; reading = reading-start h; holds = λ m qs l so. rw (append-nil qs) so }
 
-module _ {text : List ℕ} {D : Declared} {at n : ℕ} {s g : Asking} {i k : ℕ} (so : StagesSo text D at n s g i k) where
+module _ {text : List ℕ} {D : Declared} {at n : ℕ} {s g : Asked} {i k : ℕ} (so : StagesSo text D at n s g i k) where
   pub stages-addable : {b : Body} {j : ℕ} → 0 < k → ((m : Model) × (qs : List (List forms.Literal)) × (length qs + n ≤ 4) × questions.Holds text D m qs s) → StageEnd text D j b → Addable text g b
   stages-addable h (m, qs, l, o) e =
       let c = so.reading.count in
@@ -41,7 +40,7 @@ module _ {text : List ℕ} {D : Declared} {at n : ℕ} {s g : Asking} {i k : ℕ
         frame = e.holds;
       }
 
-  pub stages-more : {b : Body} {r : Asking} {j : ℕ} → j + 1 ≡ k → after (bytes ")") (drop i text) ≡ none → after (bytes " ") (drop i text) ≡ some (drop (i + 1) text)
+  pub stages-more : {b : Body} {r : Asked} {j : ℕ} → j + 1 ≡ k → after (bytes ")") (drop i text) ≡ none → after (bytes " ") (drop i text) ≡ some (drop (i + 1) text)
       → StageEnd text D (i + 1) b → Added text g b r → StagesSo text D at n s r b.end j
   stages-more {b} {j = j} h p q e ad = record {
     more = so.more ++ (e.q ∷ []);

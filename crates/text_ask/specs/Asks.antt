@@ -1,5 +1,5 @@
 -- What the reader of the `ask` line finds.
-use Rattle.std.specs.Prelude.{◌≡◌, cond, List, ◌++◌, ℕ, ◌+◌, ◌≤◌, ◌<◌, eqb, length, drop}
+use Rattle.std.specs.Prelude.{◌≡◌, List, ◌++◌, ℕ, ◌+◌, ◌≤◌, ◌<◌, length, drop, Option, Some, None, Result, Ok, Err}
 use Rattle.std.proofs.Math.Option.{some}
 use Rattle.limits.specs.Limits as limit
 use Rattle.semantics.specs.Models.{carriers}
@@ -7,10 +7,10 @@ use Rattle.model.specs.Records as model
 use Rattle.model.specs.Records.{stage_at, padded}
 use Rattle.model.specs.declared.Model.{Model}
 use Rattle.grammar.specs.Forms as forms
-use Rattle.grammar.specs.Shapes.{Read, rest, stage, whole}
+use Rattle.grammar.specs.Shapes.{Read, rest, stage}
 use Rattle.grammar.specs.Declarations.{Declared}
-use Rattle.std.specs.Prelude as prelude
-use Rattle.rows.specs.Rows.{row_number}
+use Rattle.rows.specs.declared.Row.{Row}
+use Rattle.text_faults.specs.Faults.{Judged}
 use Rattle.rows.specs.declared.Row.TheVariants.{Carried}
 use Rattle.grammar.specs.Rows.{fault}
 use Rattle.grammar.specs.Models.{question_of}
@@ -18,16 +18,14 @@ use Rattle.acceptance.specs.Represents.{HoldsStage}
 use Rattle.acceptance.specs.Growing.{Keeps}
 use Rattle.text_carried.specs.Asking.{carriers_of}
 use Rattle.text_stages.specs.Questions as questions
-use Rattle.text_stages.specs.declared.Asking.{Asking}
 use Rattle.text_ask.specs.declared.Stages.{Stages}
-use Rattle.text_ask.specs.declared.Asked.{Asked}
 
 -- r holds what s holds and the stages more
-abbrev pub Extends : List ℕ → Declared → Asking → List (List forms.Literal) → Asking → Type 0
+abbrev pub Extends : List ℕ → Declared → questions.Asked → List (List forms.Literal) → questions.Asked → Type 0
 Extends text D s more r = (m : Model) (qs : List (List forms.Literal)) → length qs + length more ≤ limit.stages → questions.Holds text D m qs s → questions.Holds text D m (qs ++ more) r
 
 -- at most n stages, added to those of s
-pub record StagesEnd (text : List ℕ) (D : Declared) (at n : ℕ) (s : Asking) (r : Stages) : Type 0 where
+pub record StagesEnd (text : List ℕ) (D : Declared) (at n : ℕ) (s : questions.Asked) (r : Stages) : Type 0 where
   pub more : List (List forms.Literal)
   pub ends : r.end ≤ length text
   pub few : length more ≤ n
@@ -51,11 +49,13 @@ carrying m cells = record {
 }
 
 -- row 11 after rows 6 to 9
-unfoldable pub finished : Asking → Asked
-finished s =
-    cond (eqb (row_number s.row) 0)
-    (cond (carriers_of s.table).many (record { row = prelude.Some Carried; model = s.model }) (record { row = prelude.None; model = carrying s.model (carriers_of s.table).cells }))
-    (record { row = s.row; model = s.model })
+abbrev pub carrying_cells : Model → Option (List ℕ) → Result Model Row
+carrying_cells m None = Err Carried
+carrying_cells m (Some cells) = Ok (carrying m cells)
+
+abbrev pub finished : questions.Asked → Result Model Row
+finished (Err r) = Err r
+finished (Ok a) = carrying_cells a.model (carriers_of a.table)
 
 -- THE RECORD m of a text whose `ask` line has the stages qs, where it was m₀ before that line
 pub record Asks (D : Declared) (m₀ : Model) (qs : List (List forms.Literal)) (m : Model) : Type 0 where
@@ -74,9 +74,10 @@ pub record Asks (D : Declared) (m₀ : Model) (qs : List (List forms.Literal)) (
   pub literals : length m.literals ≡ limit.literals
   pub stages : length m.stages ≡ limit.stages
 
+-- what is good of the record of a form
+abbrev pub GoodAsk : Declared → Model → forms.Form → Model → Type 0
+GoodAsk D m₀ form m = (qs : List (List forms.Literal)) × (form ≡ forms.ask_form qs) × Asks D m₀ qs m
+
 -- the `ask` line that is read, after the declarations D
-pub record AskEnd (D : Declared) (m₀ : Model) (read : Read forms.Form) (r : Asked) : Type 0 where
-  pub qs : List (List forms.Literal)
-  pub reads : whole read ≡ some (forms.ask_form qs)
-  pub number : (clauses : ℕ) → row_number r.row ≡ fault D clauses (forms.ask_form qs)
-  pub accepted : row_number r.row ≡ 0 → Asks D m₀ qs r.model
+abbrev pub AskEnd : Declared → Model → Read forms.Form → Result Model Row → Type 0
+AskEnd D m₀ read r = Judged read (λ form n. (clauses : ℕ) → n ≡ fault D clauses form) (GoodAsk D m₀) r

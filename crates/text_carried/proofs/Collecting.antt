@@ -6,26 +6,22 @@ use mathlib.Core.List.{List, [], ◌∷◌, ◌++◌, append-nil}
 use Prim.Native.Nat.{ℕ, zero, suc, ◌+◌, ◌-◌, ◌≤◌, ◌<◌}
 use native.Mathlib.Nat.{zero-add, add-zero, suc-add}
 use native.Mathlib.Omega.{arith}
-use lib.ListN.{length, set, get_or, replicate, length-append}
+use lib.ListN.{length, set, replicate, length-append}
 use borrow.Author.Tests.{lt-ltb, le-ltb}
+use Rattle.std.specs.Prelude.{Some, None}
 use Rattle.limits.specs.Limits as limit
 use Rattle.semantics.specs.Models.{only}
 use Rattle.model.specs.Records.{up_from, padded}
 use Rattle.grammar.proofs.Tests.{either}
 use Rattle.text_carried.specs.Asking.{marked, carriers_of}
-use Rattle.text_carried.specs.declared.Table.{Table}
+use Rattle.text_scope.specs.Scopes as scopes
+use Rattle.text_scope.specs.declared.Scope.{Scope}
 
 -- CELLS with one more
 padded-more : (n : ℕ) (xs : List ℕ) (x : ℕ) → length xs < n → set (padded n xs) (length xs) x ≡ padded n (xs ++ (x ∷ []))
 padded-more zero xs x h = absurd (omega arith)
 padded-more (suc n) [] x h = refl
 padded-more (suc n) (y ∷ xs) x h = ap {B = List ℕ} (λ (l : List ℕ). y ∷ l) (padded-more n xs x (omega arith))
-
--- what stands behind the last cell is left out
-padded-full : (n : ℕ) (xs ys : List ℕ) → n ≤ length xs → padded n (xs ++ ys) ≡ padded n xs
-padded-full zero xs ys h = refl
-padded-full (suc n) [] ys h = absurd (omega arith)
-padded-full (suc n) (x ∷ xs) ys h = ap {B = List ℕ} (λ (l : List ℕ). x ∷ l) (padded-full n xs ys (omega arith))
 
 -- WHAT A TEST LEAVES of the numbers from k on, in two parts
 only_parts : (f : ℕ → Bool) (k a b : ℕ) → only f (up_from k (a + b)) ≡ only f (up_from k a) ++ only f (up_from (k + a) b)
@@ -37,10 +33,10 @@ only_none : (f : ℕ → Bool) (k n : ℕ) → ((i : ℕ) → k ≤ i → f i �
 only_none f k zero h = refl
 only_none f k (suc n) h = rw (h k (omega arith)) (only_none f (suc k) n (λ i l. h i (omega arith)))
 
-module _ (t : Table) where
+module _ (t : Scope limit.asked) where
   -- whether variable i is marked, and the marked ones of the first n
   abbrev pub mark : ℕ → Bool
-  mark i = get_or t.again i false
+  mark i = scopes.mark t i
 
   abbrev pub up_to : ℕ → List ℕ
   up_to n = only mark (up_from 0 n)
@@ -87,14 +83,12 @@ module _ (t : Table) where
       }
 
       -- and finds no cell
-      pub collected-many : k ≡ limit.carried → record { cells = row; many = true } ≡ carriers_of t
+      pub collected-many : k ≡ limit.carried → None ≡ carriers_of t
       collected-many e =
-          let c = marked-parts n so.below in
           let d = marked-parts (n + 1) (omega arith) in
           let p : length (marked t) ≡ length (up_to (n + 1)) + length (only mark (up_from (n + 1) (limit.asked - (n + 1)))) = ap length d ∙ length-append (up_to (n + 1)) (only mark (up_from (n + 1) (limit.asked - (n + 1)))) in
-          rw (lt-ltb limit.carried (length (marked t)) (omega (arith, p, so.found, ap length with_it, length-append (up_to n) (n ∷ []))), so.cells, c)
-          (ap (λ (l : List ℕ). record { cells = l; many = true }) (sym (padded-full limit.carried (up_to n) (only mark (up_from n (limit.asked - n))) (omega (arith, so.found)))))
+          rw (lt-ltb limit.carried (length (marked t)) (omega (arith, p, so.found, ap length with_it, length-append (up_to n) (n ∷ []))))
 
-    pub collected-all : n ≡ limit.asked → record { cells = row; many = false } ≡ carriers_of t
+    pub collected-all : n ≡ limit.asked → Some row ≡ carriers_of t
     unfolding marked
     collected-all e = rw (so.cells, e, le-ltb limit.carried (length (up_to limit.asked)) (omega (arith, so.found, so.few, ap (λ (j : ℕ). length (up_to j)) e)))

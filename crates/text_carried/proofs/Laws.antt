@@ -3,48 +3,25 @@ use mathlib.Core.Path.{◌≡◌, refl, sym, ap, ◌∙◌, subst}
 use mathlib.Core.Logic.{⊎_elim}
 use mathlib.Core.Bool.{true, false, cond, ◌||◌, or_assoc, or-true, or-false, false≢true}
 use mathlib.Core.List.{List, [], ◌∷◌, ◌++◌, map, map-append, append-nil}
-use Prim.Native.Nat.{ℕ, ◌+◌, ◌-◌, ◌≤◌, ◌<◌}
-use native.Mathlib.Numerals.{add-one}
+use Prim.Native.Nat.{ℕ, ◌≤◌, ◌<◌}
 use native.Mathlib.Omega.{arith}
 use lib.Dec.{eqb}
-use lib.ListN.{length, take, drop, set, get_or, length-set}
-use lib.Seq.{slice, get_or-set_same, get_or-set_other}
-use borrow.Author.Tests.{eqb-true, eqb-false, lt-ltb, le-ltb}
+use lib.ListN.{length}
+use lib.Seq.{slice}
+use borrow.Author.Tests.{eqb-true, eqb-false}
+use Rattle.limits.specs.Limits as limit
 use Rattle.semantics.specs.Models.{elem}
 use Rattle.grammar.specs.Bytes.{Word, same}
 use Rattle.grammar.specs.Declarations.{member, extend, place}
 use Rattle.grammar.proofs.Tests.{either}
 use Rattle.grammar.proofs.Words.{same-eq, place_none, place-below, extend-append, extend-old}
 use Rattle.grammar.proofs.Bodies.{numbers-stable}
-use Rattle.text_scan.proofs.Laws.{slice-part}
-use Rattle.text_names.specs.Rows.{list_of}
-use Rattle.text_names.proofs.Laws.{list_of-same, length-list_of}
-use Rattle.text_scope.proofs.Laws.{member-more, place-list_of}
-use Rattle.text_carried.specs.Asking.{variable, known_of, Valid, repeating, appended, met, repeated, Holds}
-use Rattle.text_carried.specs.declared.Table.{Table}
-
--- FINDING A VARIABLE
-module _ (text : List ℕ) (t : Table) (a e i : ℕ) (v : Valid text t) (h : a ≤ e) (k : i < t.count)
-    (so : member (slice a e text) (list_of i (variable text t)) ≡ false) where
-  abbrev begin : ℕ
-  begin = get_or t.starts i 0
-
-  abbrev end : ℕ
-  end = get_or t.ends i 0
-
-  same-variable : same (slice a e text) (variable text t i) ≡ same (take (e - a) (drop a text)) (take (end - begin) (drop begin text))
-  same-variable = rw (slice-part text a e h, slice-part text begin end (v.within i k).0)
-
-  pub find-more : same (take (e - a) (drop a text)) (take (end - begin) (drop begin text)) ≡ false → member (slice a e text) (list_of (i + 1) (variable text t)) ≡ false
-  find-more q = member-more (slice a e text) (variable text t) i so (same-variable ∙ q)
-
-  pub find-hit : same (take (e - a) (drop a text)) (take (end - begin) (drop begin text)) ≡ true → i ≡ place (known_of text t) (slice a e text)
-  unfolding known_of
-  find-hit q = sym (place-list_of (slice a e text) (variable text t) t.count i k so (same-variable ∙ q))
-
-pub find_none : (text : List ℕ) (t : Table) (w : Word) (i : ℕ) → i ≤ t.count → t.count ≤ i → member w (list_of i (variable text t)) ≡ false → i ≡ place (known_of text t) w
-unfolding known_of
-find_none text t w i h k so = let z : t.count ≡ i = omega arith in rw z (sym (place_none w (list_of i (variable text t)) so ∙ length-list_of i (variable text t)))
+use Rattle.acceptance.proofs.Scopes.{elem-mapped}
+use Rattle.text_names.proofs.Laws.{length-list_of}
+use Rattle.text_scope.proofs.Laws.{mark-same, mark-other, known-marking, valid-marking, mark-added, mark-kept, valid-added, known-added}
+use Rattle.text_scope.specs.Scopes as scopes
+use Rattle.text_scope.specs.declared.Scope.{Scope}
+use Rattle.text_carried.specs.Asking.{repeated, Holds, Met}
 
 -- WORDS THAT STAND AGAIN
 pub repeated-append : (seen xs ys : List Word) → repeated seen (xs ++ ys) ≡ repeated seen xs ++ repeated (extend seen xs) ys
@@ -71,18 +48,22 @@ elem-last x [] y = or-false (eqb x y)
 elem-last x (z ∷ xs) y = rw (elem-last x xs y) (sym (or_assoc (eqb x z) (elem x xs) (eqb x y)))
 
 -- ONE WORD MORE
-module _ {text : List ℕ} {t : Table} {ws : List Word} (so : Holds text t ws) where
+module _ {text : List ℕ} {t : Scope limit.asked} {ws : List Word} (so : Holds text t ws) where
   abbrev vs : List Word
   vs = extend [] ws
 
   pub counted : length vs ≡ t.count
-  unfolding known_of
-  counted = rw (← so.known) (length-list_of t.count (variable text t))
+  unfolding scopes.known_of
+  counted = rw (← so.known) (length-list_of t.count (scopes.variable text t))
 
-  module _ {a e i : ℕ} (z : i ≡ place vs (slice a e text)) (h : a ≤ e) (k : e ≤ length text) (l : i < 12) where
-    abbrev w : Word
-    w = slice a e text
+  -- no number behind those of the table is told
+  beyond : (i : ℕ) → t.count ≤ i → elem i (map (place vs) (repeated [] ws)) ≡ false
+  beyond i l = ⊎_elim
+      (λ (q : elem i (map (place vs) (repeated [] ws)) ≡ true). absurd (let w = elem-mapped (place vs) i (repeated [] ws) q in let b = place-below w.0 vs (repeated-within w.0 [] ws w.1) in omega (arith, w.2, counted)))
+      (λ (q : elem i (map (place vs) (repeated [] ws)) ≡ false). q)
+      (either (elem i (map (place vs) (repeated [] ws))))
 
+  module _ (w : Word) where
     words_more : extend [] (ws ++ (w ∷ [])) ≡ extend vs (w ∷ [])
     words_more = extend-append [] ws (w ∷ [])
 
@@ -94,33 +75,26 @@ module _ {text : List ℕ} {t : Table} {ws : List Word} (so : Holds text t ws) w
     numbers-kept = rw words_more (numbers-stable [] vs (w ∷ []) (repeated [] ws) (λ x q. repeated-within x [] ws q))
 
     -- it is known
-    module _ (m : member w vs ≡ true) where
-      old : i < t.count
-      old = omega (arith, place-below w vs m, counted)
-
+    module _ {i : ℕ} (k : scopes.Known vs w i) (l : i < length t.variables) where
       words-old : extend [] (ws ++ (w ∷ [])) ≡ vs
       unfolding extend
-      words-old = words_more ∙ rw m
+      words-old = words_more ∙ rw k.known
 
-      again-old : (j : ℕ) → get_or (set t.again i true) j false ≡ elem j (map (place (extend [] (ws ++ (w ∷ [])))) (repeated [] (ws ++ (w ∷ []))))
-      again-old j = rw (repeated-more, m, map-append (place (extend [] (ws ++ (w ∷ [])))) (repeated [] ws) (w ∷ []), numbers-kept, words-old, ← z, elem-last j (map (place vs) (repeated [] ws)) i) (⊎_elim
-          (λ (q : eqb j i ≡ true). rw (q, eqb-true j i q, get_or-set_same t.again i true false (omega (arith, so.valid.again)), or-true (elem i (map (place vs) (repeated [] ws)))))
-          (λ (q : eqb j i ≡ false). rw (q, get_or-set_other t.again i j true false (eqb-false j i q), or-false (elem j (map (place vs) (repeated [] ws)))) (so.again j))
+      again-old : (j : ℕ) → scopes.mark (scopes.marking t i) j ≡ elem j (map (place (extend [] (ws ++ (w ∷ [])))) (repeated [] (ws ++ (w ∷ []))))
+      again-old j = rw (repeated-more, k.known, map-append (place (extend [] (ws ++ (w ∷ [])))) (repeated [] ws) (w ∷ []), numbers-kept, words-old, ← k.number, elem-last j (map (place vs) (repeated [] ws)) i) (⊎_elim
+          (λ (q : eqb j i ≡ true). subst (λ (n : ℕ). scopes.mark (scopes.marking t i) n ≡ true) (sym (eqb-true j i q)) (mark-same t i l) ∙ rw q (sym (or-true (elem j (map (place vs) (repeated [] ws))))))
+          (λ (q : eqb j i ≡ false). mark-other t i j (eqb-false j i q) ∙ so.again j ∙ rw q (sym (or-false (elem j (map (place vs) (repeated [] ws))))))
           (either (eqb j i)))
 
-      pub met-old : Holds text (repeating t i) (ws ++ (w ∷ []))
-      unfolding known_of
+      met-old : Holds text (scopes.marking t i) (ws ++ (w ∷ []))
       met-old = record {
-        valid = record { count = so.valid.count; starts = so.valid.starts; ends = so.valid.ends; again = length-set t.again i true ∙ so.valid.again; within = so.valid.within };
-        known = so.known ∙ sym words-old;
+        valid = valid-marking t i l so.valid;
+        known = known-marking t i l text ∙ so.known ∙ sym words-old;
         again = again-old;
       }
 
     -- it is new
     module _ (m : member w vs ≡ false) where
-      fresh : i ≡ t.count
-      fresh = z ∙ place_none w vs m ∙ counted
-
       words-new : extend [] (ws ++ (w ∷ [])) ≡ vs ++ (w ∷ [])
       unfolding extend
       words-new = words_more ∙ rw m
@@ -128,39 +102,41 @@ module _ {text : List ℕ} {t : Table} {ws : List Word} (so : Holds text t ws) w
       repeated-new : repeated [] (ws ++ (w ∷ [])) ≡ repeated [] ws
       repeated-new = repeated-more ∙ rw m (append-nil (repeated [] ws))
 
-      new-valid : Valid text (appended t i a e)
-      new-valid = record {
-        count = omega arith;
-        starts = length-set t.starts i a ∙ so.valid.starts;
-        ends = length-set t.ends i e ∙ so.valid.ends;
-        again = so.valid.again;
-        within = λ j q. ⊎_elim
-            (λ (y : eqb j i ≡ true). rw (eqb-true j i y, get_or-set_same t.starts i a 0 (omega (arith, so.valid.starts)), get_or-set_same t.ends i e 0 (omega (arith, so.valid.ends))) (h, k))
-            (λ (y : eqb j i ≡ false). let n = eqb-false j i y in rw (get_or-set_other t.starts i j a 0 n, get_or-set_other t.ends i j e 0 n) (so.valid.within j (omega (arith, fresh))))
-            (either (eqb j i));
-      }
+      again-new : (a e : ℕ) → t.count < limit.asked → (j : ℕ) → scopes.mark (scopes.added t a e false) j ≡ elem j (map (place (extend [] (ws ++ (w ∷ [])))) (repeated [] (ws ++ (w ∷ []))))
+      again-new a e room j = rw (repeated-new, numbers-kept) (⊎_elim
+          (λ (q : eqb j t.count ≡ true). let z = eqb-true j t.count q in subst (λ (n : ℕ). scopes.mark (scopes.added t a e false) n ≡ false) (sym z) (mark-added t a e false so.valid room) ∙ sym (beyond j (omega arith)))
+          (λ (q : eqb j t.count ≡ false). mark-kept t a e false so.valid room j (eqb-false j t.count q) ∙ so.again j)
+          (either (eqb j t.count)))
 
-      before : list_of i (variable text (appended t i a e)) ≡ vs
-      unfolding known_of
-      before = list_of-same i (variable text (appended t i a e)) (variable text t)
-          (λ j q. rw (get_or-set_other t.starts i j a 0 (λ n. absurd (omega arith)), get_or-set_other t.ends i j e 0 (λ n. absurd (omega arith))))
-          ∙ subst (λ (n : ℕ). list_of n (variable text t) ≡ vs) (sym fresh) so.known
+  met-new : {a e : ℕ} → member (slice a e text) vs ≡ false → t.count < limit.asked → a ≤ e → e ≤ length text → Holds text (scopes.added t a e false) (ws ++ (slice a e text ∷ []))
+  met-new {a} {e} m room h k = record {
+    valid = valid-added t a e false so.valid room h k;
+    known = known-added t a e false so.valid room ∙ ap (λ (us : List Word). us ++ (slice a e text ∷ [])) so.known ∙ sym (words-new (slice a e text) m);
+    again = again-new (slice a e text) m a e room;
+  }
 
-      new-known : known_of text (appended t i a e) ≡ vs ++ (w ∷ [])
-      unfolding known_of
-      new-known = rw (add-one, get_or-set_same t.starts i a 0 (omega (arith, so.valid.starts)), get_or-set_same t.ends i e 0 (omega (arith, so.valid.ends)))
-          (ap (λ (us : List Word). us ++ (w ∷ [])) before)
+-- THE CONTRACT of `meet`
+module _ (text : List ℕ) (t : Scope limit.asked) (a e : ℕ) (v : scopes.Valid text t) where
+  long : length (scopes.known_of text t) ≡ t.count
+  unfolding scopes.known_of
+  long = length-list_of t.count (scopes.variable text t)
 
-      met-new : Holds text (appended t i a e) (ws ++ (w ∷ []))
-      met-new = record {
-        valid = new-valid;
-        known = new-known ∙ sym words-new;
-        again = λ j. rw (repeated-new, numbers-kept) (so.again j);
-      }
+  module _ {i : ℕ} (k : scopes.Known (scopes.known_of text t) (slice a e text) i) where
+    pub met-below : i < t.count
+    met-below = omega (arith, k.number, place-below (slice a e text) (scopes.known_of text t) k.known, long)
 
-    -- the law of `met`
-    pub met_holds : Holds text (met t i a e) (ws ++ (w ∷ []))
-    unfolding met
-    met_holds = ⊎_elim
-        (λ (m : member w vs ≡ true). rw (lt-ltb i t.count (old m)) (met-old m))
-        (λ (m : member w vs ≡ false). rw (le-ltb i t.count (let f = fresh m in omega arith)) (met-new m)) (either (member w vs))
+    pub met-known : Met text t a e (record { table = scopes.marking t i; number = i })
+    met-known = record {
+      few = omega arith;
+      small = omega (arith, met-below);
+      number = k.number;
+      holds = λ ws so. met-old so (slice a e text) (subst (λ (us : List Word). scopes.Known us (slice a e text) i) so.known k) (omega (arith, met-below, v.count, v.variables));
+    }
+
+  pub met-fresh : member (slice a e text) (scopes.known_of text t) ≡ false → t.count < limit.asked → a ≤ e → e ≤ length text → Met text t a e (record { table = scopes.added t a e false; number = t.count })
+  met-fresh m room h k = record {
+    few = omega arith;
+    small = omega arith;
+    number = sym (place_none (slice a e text) (scopes.known_of text t) m ∙ long);
+    holds = λ ws so. met-new so (subst (λ (us : List Word). member (slice a e text) us ≡ false) so.known m) room h k;
+  }

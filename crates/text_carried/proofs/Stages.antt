@@ -21,7 +21,8 @@ use Rattle.acceptance.proofs.Words.{news, extend-news}
 use Rattle.acceptance.proofs.Scopes.{elem-mapped}
 use Rattle.acceptance.proofs.Questions.{ask_words, number-member, places-rise, only-carried}
 use Rattle.text_carried.specs.Asking.{own, each, repeated, marked, Holds}
-use Rattle.text_carried.specs.declared.Table.{Table}
+use Rattle.limits.specs.Limits as limit
+use Rattle.text_scope.specs.declared.Scope.{Scope}
 use Rattle.text_carried.proofs.Laws.{repeated-append, repeated-within, counted}
 use Rattle.text_carried.proofs.Collecting.{mark, marked-below}
 
@@ -103,7 +104,7 @@ again-stands x seen (q ∷ qs) =
     cases false false n = refl
 
 -- THE CARRIED VARIABLES are the marked ones
-module _ {text : List ℕ} {t : Table} (qs : List (List Literal)) (so : Holds text t (each qs)) where
+module _ {text : List ℕ} {t : Scope limit.asked} (qs : List (List Literal)) (so : Holds text t (each qs)) where
   abbrev vs : List Word
   vs = ask_words qs
 

@@ -1,5 +1,5 @@
 -- The variables of the `ask` line that a table stands for.
-use Rattle.std.specs.Prelude.{◌≡◌, true, false, cond, List, [], ◌∷◌, ◌++◌, map, ℕ, ◌+◌, ◌≤◌, ◌<◌, ltb, length, take, get_or, set}
+use Rattle.std.specs.Prelude.{◌≡◌, cond, List, [], ◌∷◌, ◌++◌, map, ℕ, ◌+◌, ◌≤◌, ltb, length, take, Option, Some, None}
 use Rattle.std.proofs.Math.Seq.{slice}
 use Rattle.limits.specs.Limits as limit
 use Rattle.semantics.specs.Models.{elem, only}
@@ -7,43 +7,18 @@ use Rattle.model.specs.Records.{up_from, padded}
 use Rattle.grammar.specs.Bytes.{Word}
 use Rattle.grammar.specs.Forms.{Literal}
 use Rattle.grammar.specs.Declarations.{member, extend, place, variables}
-use Rattle.text_names.specs.Rows.{list_of}
-use Rattle.text_carried.specs.declared.Table.{Table}
+use Rattle.text_scope.specs.Scopes as scopes
+use Rattle.text_scope.specs.declared.Scope.{Scope}
+use Rattle.text_carried.specs.declared.Entry.{Entry}
 use Rattle.text_carried.specs.declared.Numbering.{Numbering}
-use Rattle.text_carried.specs.declared.Carriers.{Carriers}
-
--- variable i
-abbrev pub variable : List ℕ → Table → ℕ → Word
-variable text t i = slice (get_or t.starts i 0) (get_or t.ends i 0) text
-
-unfoldable pub known_of : List ℕ → Table → List Word
-known_of text t = list_of t.count (variable text t)
-
--- each variable stands in the text
-pub record Valid (text : List ℕ) (t : Table) : Type 0 where
-  pub count : t.count ≤ limit.asked
-  pub starts : length t.starts ≡ limit.asked
-  pub ends : length t.ends ≡ limit.asked
-  pub again : length t.again ≡ limit.asked
-  pub within : (i : ℕ) → i < t.count → (get_or t.starts i 0 ≤ get_or t.ends i 0) × (get_or t.ends i 0 ≤ length text)
-
--- variable i stands from a to e, in one stage more
-abbrev pub repeating : Table → ℕ → Table
-repeating t i = record { count = t.count; starts = t.starts; ends = t.ends; again = set t.again i true }
-
-abbrev pub appended : Table → ℕ → ℕ → ℕ → Table
-appended t i a e = record { count = i + 1; starts = set t.starts i a; ends = set t.ends i e; again = t.again }
-
-unfoldable pub met : Table → ℕ → ℕ → ℕ → Table
-met t i a e = cond (ltb i t.count) (repeating t i) (appended t i a e)
 
 -- the numbers of the variables that stand in a second stage, rising
-unfoldable pub marked : Table → List ℕ
-marked t = only (λ i. get_or t.again i false) (up_from 0 limit.asked)
+unfoldable pub marked : Scope limit.asked → List ℕ
+marked t = only (scopes.mark t) (up_from 0 limit.asked)
 
--- THE CARRIED VARIABLES that the table tells
-abbrev pub carriers_of : Table → Carriers
-carriers_of t = record { cells = padded limit.carried (marked t); many = ltb limit.carried (length (marked t)) }
+-- THE CARRIED VARIABLES that the table tells, if there are no more than cells
+abbrev pub carriers_of : Scope limit.asked → Option (List ℕ)
+carriers_of t = cond (ltb limit.carried (length (marked t))) None (Some (padded limit.carried (marked t)))
 
 -- the words of a stage, each once
 abbrev pub own : List Literal → List Word
@@ -60,13 +35,20 @@ repeated seen [] = []
 repeated seen (w ∷ ws) = cond (member w seen) (w ∷ repeated seen ws) (repeated (seen ++ (w ∷ [])) ws)
 
 -- THE TABLE HOLDS the words ws, the variables of the stages so far, each once for each stage
-pub record Holds (text : List ℕ) (t : Table) (ws : List Word) : Type 0 where
-  pub valid : Valid text t
-  pub known : known_of text t ≡ extend [] ws
-  pub again : (i : ℕ) → get_or t.again i false ≡ elem i (map (place (extend [] ws)) (repeated [] ws))
+pub record Holds (text : List ℕ) (t : Scope limit.asked) (ws : List Word) : Type 0 where
+  pub valid : scopes.Valid text t
+  pub known : scopes.known_of text t ≡ extend [] ws
+  pub again : (i : ℕ) → scopes.mark t i ≡ elem i (map (place (extend [] ws)) (repeated [] ws))
+
+-- the word from a to e more, and its number
+pub record Met (text : List ℕ) (t : Scope limit.asked) (a e : ℕ) (r : Entry) : Type 0 where
+  pub few : r.table.count ≤ t.count + 1
+  pub small : r.number ≤ t.count
+  pub number : r.number ≡ place (scopes.known_of text t) (slice a e text)
+  pub holds : (ws : List Word) → Holds text t ws → Holds text r.table (ws ++ (slice a e text ∷ []))
 
 -- the words own more, and their numbers
-pub record Numbers (text : List ℕ) (t : Table) (own : List Word) (r : Numbering) : Type 0 where
+pub record Numbers (text : List ℕ) (t : Scope limit.asked) (own : List Word) (r : Numbering) : Type 0 where
   pub few : r.table.count ≤ t.count + length own
   pub holds : (ws : List Word) → Holds text t ws → Holds text r.table (ws ++ own)
   pub numbers : (ws : List Word) → Holds text t ws → take (length own) r.numbers ≡ map (place (extend [] (ws ++ own))) own

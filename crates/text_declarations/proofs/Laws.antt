@@ -21,15 +21,17 @@ use Rattle.grammar.specs.Declarations as grammar
 use Rattle.grammar.specs.Declarations.{lookup, count}
 use Rattle.grammar.specs.Rows.{lower, row, again, fault}
 use Rattle.grammar.proofs.Tests.{either}
-use Rattle.std.specs.Prelude as prelude
-use Rattle.rows.specs.Rows.{row_number}
+use Rattle.std.specs.Prelude.{Ok, Err}
+use Rattle.rows.specs.Rows.{number_of}
 use Rattle.rows.specs.declared.Row.{Row}
+use Rattle.text_faults.specs.Faults.{shaped}
 use Rattle.text_scan.proofs.Laws.{next, nothing}
-use Rattle.text_names.specs.Names.{found, declared_of, Valid, tally, added}
+use Rattle.text_names.specs.Names.{blank, declared_of, Valid, tally, added}
+use Rattle.text_names.specs.declared.Name.{Name}
 use Rattle.text_names.specs.declared.Declared.{Declared}
 use Rattle.text_names.proofs.Laws.{declared-added, valid-added, tally-count}
 use Rattle.text_clauses.proofs.Laws.{whole-all, whole_part}
-use Rattle.text_declarations.specs.Declares.{Limited, state_number, rel_number, Entered, DeclarationEnd, ArityAt}
+use Rattle.text_declarations.specs.Declares.{Limited, state_number, rel_number, next_name, Entered, DeclarationEnd, ArityAt}
 
 -- NUMBERS
 crowded : (b : Bool) → lower 4 (row 5 b) ≡ 4
@@ -42,13 +44,13 @@ module _ (D : grammar.Declared) (w : Word) where
   unfolding state_number
   state-crowded t z h = rw (z, le-leb limit.states t h) (crowded (again (lookup w D)))
 
-  pub state-free : (t c : ℕ) → count 0 D ≡ t → t < limit.states → lookup w D ≡ found c → c ≡ 128 → state_number D w ≡ 0
+  pub state-free : (t : ℕ) → count 0 D ≡ t → t < limit.states → lookup w D ≡ none → state_number D w ≡ 0
   unfolding state_number lower
-  state-free t c z h e k = rw (z, lt-leb limit.states t h, e, eq-eqb c 128 k)
+  state-free t z h e = rw (z, lt-leb limit.states t h, e)
 
-  pub state-again : (t c : ℕ) → count 0 D ≡ t → t < limit.states → lookup w D ≡ found c → (c ≡ 128 → ⊥) → state_number D w ≡ 5
+  pub state-again : (t c : ℕ) → count 0 D ≡ t → t < limit.states → lookup w D ≡ some c → state_number D w ≡ 5
   unfolding state_number lower
-  state-again t c z h e k = rw (z, lt-leb limit.states t h, e, ne_eqb c 128 k)
+  state-again t c z h e = rw (z, lt-leb limit.states t h, e)
 
   module _ (n a b p : ℕ) (x : count 1 D ≡ a) (y : count 2 D ≡ b) (z : count 3 D ≡ p) where
     pub rel-crowded : limit.rels ≤ a + b + p → rel_number D w n ≡ 4
@@ -59,57 +61,58 @@ module _ (D : grammar.Declared) (w : Word) where
     unfolding rel_number
     rel-pairs h k l = rw (x, y, z, lt-leb limit.rels (a + b + p) h, eq-eqb n 2 k, le-leb limit.pairs p l) (crowded (again (lookup w D)))
 
-    module _ (c : ℕ) (h : a + b + p < limit.rels) (k : (eqb n 2 && leb limit.pairs p) ≡ false) (e : lookup w D ≡ found c) where
-      pub rel-free : c ≡ 128 → rel_number D w n ≡ 0
+    module _ (h : a + b + p < limit.rels) (k : (eqb n 2 && leb limit.pairs p) ≡ false) where
+      pub rel-free : lookup w D ≡ none → rel_number D w n ≡ 0
       unfolding rel_number lower
-      rel-free q = rw (x, y, z, lt-leb limit.rels (a + b + p) h, k, e, eq-eqb c 128 q)
+      rel-free e = rw (x, y, z, lt-leb limit.rels (a + b + p) h, k, e)
 
-      pub rel-again : (c ≡ 128 → ⊥) → rel_number D w n ≡ 5
+      pub rel-again : (c : ℕ) → lookup w D ≡ some c → rel_number D w n ≡ 5
       unfolding rel_number lower
-      rel-again q = rw (x, y, z, lt-leb limit.rels (a + b + p) h, k, e, ne_eqb c 128 q)
+      rel-again c e = rw (x, y, z, lt-leb limit.rels (a + b + p) h, k, e)
 
 -- COUNTS
-pub tally-le : (k : ℕ) (codes : List ℕ) (n : ℕ) → tally k codes n ≤ n
-tally-le k codes zero = omega arith
-tally-le k codes (suc n) = let h = tally-le k codes n in ⊎_elim (λ (q : eqb (get_or codes n 0 / 32) k ≡ true). rw q (omega arith)) (λ (q : eqb (get_or codes n 0 / 32) k ≡ false). rw q (omega arith)) (either (eqb (get_or codes n 0 / 32) k))
+pub tally-le : (k : ℕ) (names : List Name) (n : ℕ) → tally k names n ≤ n
+tally-le k names zero = omega arith
+tally-le k names (suc n) = let h = tally-le k names n in
+    ⊎_elim (λ (q : eqb ((get_or names n blank).code / 32) k ≡ true). rw q (omega arith)) (λ (q : eqb ((get_or names n blank).code / 32) k ≡ false). rw q (omega arith)) (either (eqb ((get_or names n blank).code / 32) k))
 
 -- each class is below its own limit, and so below 32
-tally-small : {d : Declared} → Limited d → (k : ℕ) → k < 4 → tally k d.codes d.count < 32
+tally-small : {d : Declared} → Limited d → (k : ℕ) → k < 4 → tally k d.names d.count < 32
 tally-small l zero h = omega (arith, l.states)
 tally-small l (suc zero) h = omega (arith, l.derived)
 tally-small l (suc (suc zero)) h = omega (arith, l.derived)
 tally-small l (suc (suc (suc zero))) h = omega (arith, l.derived)
 tally-small l (suc (suc (suc (suc k)))) h = absurd (omega arith)
 
-tally-set : (k : ℕ) (codes : List ℕ) (i c n : ℕ) → n ≤ i → tally k (set codes i c) n ≡ tally k codes n
-tally-set k codes i c zero h = refl
-tally-set k codes i c (suc n) h = rw (get_or-set_other codes i n c 0 (λ z. absurd (omega arith)), tally-set k codes i c n (omega arith))
+tally-set : (k : ℕ) (names : List Name) (i : ℕ) (x : Name) (n : ℕ) → n ≤ i → tally k (set names i x) n ≡ tally k names n
+tally-set k names i x zero h = refl
+tally-set k names i x (suc n) h = rw (get_or-set_other names i n x blank (λ z. absurd (omega arith)), tally-set k names i x n (omega arith))
 
--- one code more, of class k
-module _ (codes : List ℕ) (n k t : ℕ) (h : n < length codes) (small : t < 32) where
+-- one name more, of class k
+module _ (names : List Name) (n k t start len : ℕ) (h : n < length names) (small : t < 32) where
+  abbrev x : Name
+  x = record { code = 32 * k + t; start = start; len = len }
+
   class_of : (32 * k + t) / 32 ≡ k
   class_of = omega arith
 
-  tally-own : tally k (set codes n (32 * k + t)) (n + 1) ≡ tally k codes n + 1
-  tally-own = rw (add-one n, get_or-set_same codes n (32 * k + t) 0 h, class_of, eq-eqb k k refl, tally-set k codes n (32 * k + t) n (omega arith)) (sym (add-one (tally k codes n)))
+  tally-own : tally k (set names n x) (n + 1) ≡ tally k names n + 1
+  tally-own = rw (add-one n, get_or-set_same names n x blank h, class_of, eq-eqb k k refl, tally-set k names n x n (omega arith)) (sym (add-one (tally k names n)))
 
-  tally-other : (j : ℕ) → (k ≡ j → ⊥) → tally j (set codes n (32 * k + t)) (n + 1) ≡ tally j codes n
-  tally-other j q = rw (add-one n, get_or-set_same codes n (32 * k + t) 0 h, class_of, ne_eqb k j q, tally-set j codes n (32 * k + t) n (omega arith))
+  tally-other : (j : ℕ) → (k ≡ j → ⊥) → tally j (set names n x) (n + 1) ≡ tally j names n
+  tally-other j q = rw (add-one n, get_or-set_same names n x blank h, class_of, ne_eqb k j q, tally-set j names n x n (omega arith))
 
 -- THE DECLARATIONS WITH ONE NAME MORE
 module _ (text : List ℕ) (d : Declared) (a e : ℕ) (v : Valid text d) (l : Limited d) (h : a ≤ e) (k : e ≤ length text) where
-  pub room : (tally 0 d.codes d.count < limit.states) ⊎ (tally 1 d.codes d.count + tally 2 d.codes d.count + tally 3 d.codes d.count < limit.rels) → d.count < limit.declared
-  room r = ⊎_elim (λ (q : tally 0 d.codes d.count < limit.states). omega (arith, l.total, l.derived)) (λ (q : tally 1 d.codes d.count + tally 2 d.codes d.count + tally 3 d.codes d.count < limit.rels). omega (arith, l.total, l.states)) r
+  pub room : (tally 0 d.names d.count < limit.states) ⊎ (tally 1 d.names d.count + tally 2 d.names d.count + tally 3 d.names d.count < limit.rels) → d.count < limit.declared
+  room r = ⊎_elim (λ (q : tally 0 d.names d.count < limit.states). omega (arith, l.total, l.derived)) (λ (q : tally 1 d.names d.count + tally 2 d.names d.count + tally 3 d.names d.count < limit.rels). omega (arith, l.total, l.states)) r
 
   module _ (j : ℕ) (few : d.count < limit.declared) where
-    abbrev code : ℕ
-    code = 32 * j + tally j d.codes d.count
+    pub entered-valid : j < 4 → Valid text (added d (next_name d a e j))
+    entered-valid q = valid-added v few (next_name d a e j) (omega arith) (omega (arith, tally-small l j q))
 
-    pub entered-valid : j < 4 → Valid text (added d a (e - a) code)
-    entered-valid q = valid-added v few a (e - a) code (omega arith) (omega (arith, tally-small l j q))
-
-    pub entered-names : declared_of text (added d a (e - a) code) ≡ declared_of text d ++ ((slice a e text, code) ∷ [])
-    entered-names = let z : a + (e - a) ≡ e = omega arith in rw (declared-added v few a (e - a) code, z)
+    pub entered-names : declared_of text (added d (next_name d a e j)) ≡ declared_of text d ++ ((slice a e text, 32 * j + tally j d.names d.count) ∷ [])
+    entered-names = let z : a + (e - a) ≡ e = omega arith in rw (declared-added v few (next_name d a e j), z)
 
 -- one relation more of class k
 abbrev bump : ℕ → ℕ → ℕ
@@ -122,30 +125,30 @@ bumps (suc (suc zero)) h = refl
 bumps (suc (suc (suc zero))) h = refl
 bumps (suc (suc (suc (suc k)))) h = absurd (omega arith)
 
-tally-after : (codes : List ℕ) (n k t j : ℕ) → n < length codes → t < 32 → tally j (set codes n (32 * k + t)) (n + 1) ≡ tally j codes n + bump k j
-tally-after codes n k t j h small = ⊎_elim
-    (λ (q : eqb k j ≡ true). let z = eqb-true k j q in rw (q, ← z) (tally-own codes n k t h small))
-    (λ (q : eqb k j ≡ false). rw q (tally-other codes n k t h small j (eqb-false k j q) ∙ sym (add-zero (tally j codes n)))) (either (eqb k j))
+tally-after : (names : List Name) (n k t start len j : ℕ) → n < length names → t < 32 → tally j (set names n (record { code = 32 * k + t; start = start; len = len })) (n + 1) ≡ tally j names n + bump k j
+tally-after names n k t start len j h small = ⊎_elim
+    (λ (q : eqb k j ≡ true). let z = eqb-true k j q in rw (q, ← z) (tally-own names n k t start len h small))
+    (λ (q : eqb k j ≡ false). rw q (tally-other names n k t start len h small j (eqb-false k j q) ∙ sym (add-zero (tally j names n)))) (either (eqb k j))
 
-module _ (d : Declared) (name len k : ℕ) (c : length d.codes ≡ limit.declared) (l : Limited d) (few : d.count < limit.declared) where
+module _ (d : Declared) (a e k : ℕ) (c : length d.names ≡ limit.declared) (l : Limited d) (few : d.count < limit.declared) where
   abbrev T : ℕ → ℕ
-  T j = tally j d.codes d.count
+  T j = tally j d.names d.count
 
-  limited-added : k < 4 → T 0 + bump k 0 ≤ limit.states → T 1 + bump k 1 + (T 2 + bump k 2) + (T 3 + bump k 3) ≤ limit.rels → Limited (added d name len (32 * k + T k))
-  limited-added q a b =
-      let o : (j : ℕ) → tally j (set d.codes d.count (32 * k + T k)) (d.count + 1) ≡ T j + bump k j = λ j. tally-after d.codes d.count k (T k) j (omega arith) (tally-small l k q) in
+  limited-added : k < 4 → T 0 + bump k 0 ≤ limit.states → T 1 + bump k 1 + (T 2 + bump k 2) + (T 3 + bump k 3) ≤ limit.rels → Limited (added d (next_name d a e k))
+  limited-added q s b =
+      let o : (j : ℕ) → tally j (set d.names d.count (next_name d a e k)) (d.count + 1) ≡ T j + bump k j = λ j. tally-after d.names d.count k (T k) a (e - a) j (omega arith) (tally-small l k q) in
       let m = bumps k q in
-      record { total = rw (o 0, o 1, o 2, o 3) (omega (arith, l.total)); states = rw (o 0) a; derived = rw (o 1, o 2, o 3) b }
+      record { total = rw (o 0, o 1, o 2, o 3) (omega (arith, l.total)); states = rw (o 0) s; derived = rw (o 1, o 2, o 3) b }
 
-pub limited-state : (d : Declared) (name len : ℕ) → length d.codes ≡ limit.declared → Limited d → d.count < limit.declared → tally 0 d.codes d.count < limit.states → Limited (added d name len (32 * 0 + tally 0 d.codes d.count))
-limited-state d name len c l few h = limited-added d name len 0 c l few (omega arith) (omega arith) (omega (arith, l.derived))
+pub limited-state : (d : Declared) (a e : ℕ) → length d.names ≡ limit.declared → Limited d → d.count < limit.declared → tally 0 d.names d.count < limit.states → Limited (added d (next_name d a e 0))
+limited-state d a e c l few h = limited-added d a e 0 c l few (omega arith) (omega arith) (omega (arith, l.derived))
 
-pub limited-rel : (d : Declared) (name len n : ℕ) → length d.codes ≡ limit.declared → Limited d → d.count < limit.declared → n ≤ 2 → tally 1 d.codes d.count + tally 2 d.codes d.count + tally 3 d.codes d.count < limit.rels
-    → Limited (added d name len (32 * (n + 1) + tally (n + 1) d.codes d.count))
-limited-rel d name len n c l few h k =
+pub limited-rel : (d : Declared) (a e n : ℕ) → length d.names ≡ limit.declared → Limited d → d.count < limit.declared → n ≤ 2 → tally 1 d.names d.count + tally 2 d.names d.count + tally 3 d.names d.count < limit.rels
+    → Limited (added d (next_name d a e (n + 1)))
+limited-rel d a e n c l few h k =
     let z : bump (n + 1) 0 ≡ 0 = (rw (ne_eqb (n + 1) 0 (λ y. absurd (omega arith)))) in
     let m = bumps (n + 1) (omega arith) in
-    limited-added d name len (n + 1) c l few (omega arith) (omega (arith, l.states)) (omega arith)
+    limited-added d a e (n + 1) c l few (omega arith) (omega (arith, l.states)) (omega arith)
 
 -- THE END OF A DECLARATION
 module _ (text : List ℕ) (d : Declared) (at e : ℕ) (h : name (drop at text) ≡ some (slice at e text, drop e text)) (k : after (bytes ")") (drop e text) ≡ some (drop (e + 1) text)) where
@@ -163,32 +166,22 @@ module _ (text : List ℕ) (d : Declared) (at e : ℕ) (h : name (drop at text) 
     state-whole : whole (state_rest (drop at text)) ≡ some (forms.state_form w)
     state-whole = rw state-reads (whole-all (forms.state_form w) text (e + 1) (omega arith))
 
-    pub state-faulty : {o : prelude.Option Row} {r : Declared} → row_number o ≡ state_number (declared_of text d) w → (row_number o ≡ 0 → ⊥) → DeclarationEnd text d (state_rest (drop at text)) (record { row = o; declared = r })
+    pub state-faulty : (x : Row) → number_of x ≡ state_number (declared_of text d) w → DeclarationEnd text d (state_rest (drop at text)) (Err x)
     unfolding state_number fault
-    state-faulty z y = record {
-      form = forms.state_form w;
-      reads = state-whole;
-      number = λ c. z;
-      accepted = λ n. absurd (y n);
-    }
+    state-faulty x z = shaped (forms.state_form w) state-whole (λ c. z) tt
 
-    pub state-added : {r : Declared} → Valid text d → Limited d → at ≤ e → e ≤ length text → state_number (declared_of text d) w ≡ 0 → tally 0 d.codes d.count < limit.states → Entered d at e 0 r
-        → DeclarationEnd text d (state_rest (drop at text)) (record { row = prelude.None; declared = r })
+    pub state-added : {r : Declared} → Valid text d → Limited d → at ≤ e → e ≤ length text → state_number (declared_of text d) w ≡ 0 → tally 0 d.names d.count < limit.states → Entered d at e 0 r
+        → DeclarationEnd text d (state_rest (drop at text)) (Ok r)
     unfolding state_number fault declare
     state-added v l b c z f en = let few = room text d at e v l b c (inl f) in
-        record {
-          form = forms.state_form w;
-          reads = state-whole;
-          number = λ cl. sym z;
-          accepted = λ n. (
-            rw en (entered-valid text d at e v l b c 0 few (omega arith)),
-            rw en (limited-state d at (e - at) v.codes l few f),
-            rw en (entered-names text d at e v l b c 0 few ∙ rw (tally-count text d 0) (let y : 32 * 0 + tally 0 d.codes d.count ≡ tally 0 d.codes d.count = omega arith in rw y)),
-          );
-        }
+        shaped (forms.state_form w) state-whole (λ cl. sym z) (record {
+          valid = rw en (entered-valid text d at e v l b c 0 few (omega arith));
+          limited = rw en (limited-state d at e v.names l few f);
+          declared = rw en (entered-names text d at e v l b c 0 few ∙ rw (tally-count text d 0) (let y : 32 * 0 + tally 0 d.names d.count ≡ tally 0 d.names d.count = omega arith in rw y));
+        })
 
 -- the state relations are few where the number is none
-pub state-few : (text : List ℕ) (d : Declared) (u : Word) → state_number (declared_of text d) u ≡ 0 → tally 0 d.codes d.count < limit.states
+pub state-few : (text : List ℕ) (d : Declared) (u : Word) → state_number (declared_of text d) u ≡ 0 → tally 0 d.names d.count < limit.states
 unfolding state_number
 state-few text d u z = ⊎_elim
     (λ (q : leb limit.states (count 0 (declared_of text d)) ≡ true). absurd (let y = rw (q, crowded (again (lookup u (declared_of text d)))) at z in omega arith))
@@ -214,7 +207,7 @@ module _ (text : List ℕ) (at : ℕ) where
     }
 
 -- `rel`
-pub rel-few : (text : List ℕ) (d : Declared) (u : Word) (n : ℕ) → rel_number (declared_of text d) u n ≡ 0 → tally 1 d.codes d.count + tally 2 d.codes d.count + tally 3 d.codes d.count < limit.rels
+pub rel-few : (text : List ℕ) (d : Declared) (u : Word) (n : ℕ) → rel_number (declared_of text d) u n ≡ 0 → tally 1 d.names d.count + tally 2 d.names d.count + tally 3 d.names d.count < limit.rels
 unfolding rel_number
 rel-few text d u n z =
     let D = declared_of text d in
@@ -246,27 +239,17 @@ module _ (text : List ℕ) (d : Declared) (at e n : ℕ) (h : name (drop at text
       rel-whole : whole (rel_rest (drop at text)) ≡ some (forms.rel_form v n)
       rel-whole = rw rel-reads (whole-all (forms.rel_form v n) text (e + 3) (omega arith))
 
-      pub rel-faulty : {o : prelude.Option Row} {r : Declared} → row_number o ≡ rel_number (declared_of text d) v n → (row_number o ≡ 0 → ⊥) → DeclarationEnd text d (rel_rest (drop at text)) (record { row = o; declared = r })
+      pub rel-faulty : (x : Row) → number_of x ≡ rel_number (declared_of text d) v n → DeclarationEnd text d (rel_rest (drop at text)) (Err x)
       unfolding rel_number fault
-      rel-faulty z y = record {
-        form = forms.rel_form v n;
-        reads = rel-whole;
-        number = λ c. z;
-        accepted = λ m. absurd (y m);
-      }
+      rel-faulty x z = shaped (forms.rel_form v n) rel-whole (λ c. z) tt
 
       pub rel-added : {r : Declared} → n ≤ 2 → Valid text d → Limited d → at ≤ e → e ≤ length text → rel_number (declared_of text d) v n ≡ 0
-          → tally 1 d.codes d.count + tally 2 d.codes d.count + tally 3 d.codes d.count < limit.rels → Entered d at e (n + 1) r
-          → DeclarationEnd text d (rel_rest (drop at text)) (record { row = prelude.None; declared = r })
+          → tally 1 d.names d.count + tally 2 d.names d.count + tally 3 d.names d.count < limit.rels → Entered d at e (n + 1) r
+          → DeclarationEnd text d (rel_rest (drop at text)) (Ok r)
       unfolding rel_number fault declare
       rel-added m vd l b' c z f en = let few = room text d at e vd l b' c (inr f) in
-          record {
-            form = forms.rel_form v n;
-            reads = rel-whole;
-            number = λ cl. sym z;
-            accepted = λ y. (
-              rw en (entered-valid text d at e vd l b' c (n + 1) few (omega arith)),
-              rw en (limited-rel d at (e - at) n vd.codes l few m f),
-              rw en (entered-names text d at e vd l b' c (n + 1) few ∙ rw (tally-count text d (n + 1))),
-            );
-          }
+          shaped (forms.rel_form v n) rel-whole (λ cl. sym z) (record {
+            valid = rw en (entered-valid text d at e vd l b' c (n + 1) few (omega arith));
+            limited = rw en (limited-rel d at e n vd.names l few m f);
+            declared = rw en (entered-names text d at e vd l b' c (n + 1) few ∙ rw (tally-count text d (n + 1)));
+          })

@@ -5,63 +5,62 @@ ghost use Rattle.std.specs.Prelude.{◌≡◌, ◌+◌, ◌≤◌, ◌<◌, leng
 ghost use Rattle.std.proofs.Math.Option.{none};
 ghost use Rattle.std.proofs.Math.Seq.{slice};
 ghost use Rattle.limits.specs.Limits as limit;
-ghost use Rattle.grammar.specs.Shapes.{arity, state_rest, rel_rest, whole};
-ghost use Rattle.rows.specs.Rows.{row_number};
+ghost use Rattle.grammar.specs.Shapes.{arity, state_rest, rel_rest};
+ghost use Rattle.text_faults.specs.Faults.{fault_in};
 ghost use Rattle.text_names.specs.Names as names;
 ghost use Rattle.text_declarations.specs.Declares.{Limited, state_number, rel_number, Entered, ArityAt, DeclarationEnd};
 
 use limits::{PAIRS, RELS, STATES};
 use rows::Row;
-use text_names::Declared;
+use text_names::{Declared, Name};
 
-// A declaration: its row if it is refused, and the declared names with it.
-#[derive(Clone, Copy)]
-pub struct Declaration {
-    pub row: Option<Row>,
-    pub declared: Declared,
-}
-
-// Row 4, then 5, for a state relation with the name from a to e.
-fn state_row(text: &[u8], d: Declared, a: usize, e: usize) -> Option<Row>
+// Room for a state relation with the name from a to e, or row 4, then 5.
+// Names and the two ends of one stay three parameters: a struct of them would be made for a line, and taken apart again by `enter`.
+fn state_room(text: &[u8], d: Declared, a: usize, e: usize) -> Result<(), Row>
     requires { names.Valid text.now d × (a ≤ e) × (e ≤ length text.now) }
-    ensures { row_number result ≡ state_number (names.declared_of text.now d) (slice a e text.now) }
+    ensures { fault_in result ≡ state_number (names.declared_of text.now d) (slice a e text.now) }
 {
     if STATES <= text_names::tally_of(d, 0) {
-        return Some(Row::Count);
+        return Err(Row::Count);
     }
-    if text_names::find(text, d, a, e) == text_names::UNDECLARED {
-        return None;
+    if let Some(_) = text_names::find(text, d, a, e) {
+        return Err(Row::Again);
     }
-    Some(Row::Again)
+    Ok(())
 }
 
-// Row 4, then 5, for a derived relation of arity n with the name from a to e.
-fn rel_row(text: &[u8], d: Declared, a: usize, e: usize, n: u32) -> Option<Row>
+// Room for a derived relation of arity n with the name from a to e, or row 4, then 5.
+fn rel_room(text: &[u8], d: Declared, a: usize, e: usize, n: u32) -> Result<(), Row>
     requires { names.Valid text.now d × (a ≤ e) × (e ≤ length text.now) }
-    ensures { row_number result ≡ rel_number (names.declared_of text.now d) (slice a e text.now) n }
+    ensures { fault_in result ≡ rel_number (names.declared_of text.now d) (slice a e text.now) n }
 {
     let nullary = text_names::tally_of(d, 1);
     let single = text_names::tally_of(d, 2);
     let pairs = text_names::tally_of(d, 3);
     if RELS <= nullary + single + pairs {
-        return Some(Row::Count);
+        return Err(Row::Count);
     }
     if n == 2 && PAIRS <= pairs {
-        return Some(Row::Count);
+        return Err(Row::Count);
     }
-    if text_names::find(text, d, a, e) == text_names::UNDECLARED {
-        return None;
+    if let Some(_) = text_names::find(text, d, a, e) {
+        return Err(Row::Again);
     }
-    Some(Row::Again)
+    Ok(())
 }
 
 // The name from a to e is declared with the next code of its class.
 fn enter(d: Declared, a: usize, e: usize, class: u32) -> Declared
-    requires { (d.count < limit.declared) × (length d.codes ≡ limit.declared) × (a ≤ e) × (e < 4294967296) × (class < 4) }
+    requires { (d.count < limit.declared) × (length d.names ≡ limit.declared) × (a ≤ e) × (e < 4294967296) × (class < 4) }
     ensures { Entered d a e class result }
 {
     let index = text_names::tally_of(d, class);
-    text_names::add(d, a as u32, (e - a) as u32, 32 * class + index as u32)
+    let name = Name {
+        code: 32 * class + index as u32,
+        start: a as u32,
+        len: (e - a) as u32,
+    };
+    text_names::add(d, name)
 }
 
 // The arity that is next.
@@ -78,51 +77,43 @@ fn arity_at(text: &[u8], at: usize) -> Option<u32>
 }
 
 // `(state A)`.
-pub fn read_state(text: &[u8], d: Declared, at: usize) -> Option<Declaration>
+pub fn read_state(text: &[u8], d: Declared, at: usize) -> Result<Declared, Row>
     requires { (at ≤ length text.now) × (length text.now < 4294967296) × names.Valid text.now d × Limited d }
-    ensures { MatchOption result (whole (state_rest (drop at text.now)) ≡ none) (DeclarationEnd text.now d (state_rest (drop at text.now))) }
+    ensures { DeclarationEnd text.now d (state_rest (drop at text.now)) result }
 {
-    let e = text_scan::name_end(text, at)?;
+    let Some(e) = text_scan::name_end(text, at) else {
+        return Err(Row::Shape);
+    };
     if !text_scan::at_byte(text, e, b')') {
-        return None;
+        return Err(Row::Shape);
     }
     if e + 1 != text.len() {
-        return None;
+        return Err(Row::Shape);
     }
-    let row = state_row(text, d, at, e);
-    if row.is_some() {
-        return Some(Declaration { row, declared: d });
-    }
-    let r = enter(d, at, e, 0);
-    Some(Declaration {
-        row: None,
-        declared: r,
-    })
+    state_room(text, d, at, e)?;
+    Ok(enter(d, at, e, 0))
 }
 
 // `(rel R n)`.
-pub fn read_rel(text: &[u8], d: Declared, at: usize) -> Option<Declaration>
+pub fn read_rel(text: &[u8], d: Declared, at: usize) -> Result<Declared, Row>
     requires { (at ≤ length text.now) × (length text.now < 4294967296) × names.Valid text.now d × Limited d }
-    ensures { MatchOption result (whole (rel_rest (drop at text.now)) ≡ none) (DeclarationEnd text.now d (rel_rest (drop at text.now))) }
+    ensures { DeclarationEnd text.now d (rel_rest (drop at text.now)) result }
 {
-    let e = text_scan::name_end(text, at)?;
+    let Some(e) = text_scan::name_end(text, at) else {
+        return Err(Row::Shape);
+    };
     if !text_scan::at_byte(text, e, b' ') {
-        return None;
+        return Err(Row::Shape);
     }
-    let n = arity_at(text, e + 1)?;
+    let Some(n) = arity_at(text, e + 1) else {
+        return Err(Row::Shape);
+    };
     if !text_scan::at_byte(text, e + 2, b')') {
-        return None;
+        return Err(Row::Shape);
     }
     if e + 3 != text.len() {
-        return None;
+        return Err(Row::Shape);
     }
-    let row = rel_row(text, d, at, e, n);
-    if row.is_some() {
-        return Some(Declaration { row, declared: d });
-    }
-    let r = enter(d, at, e, n + 1);
-    Some(Declaration {
-        row: None,
-        declared: r,
-    })
+    rel_room(text, d, at, e, n)?;
+    Ok(enter(d, at, e, n + 1))
 }

@@ -3,25 +3,21 @@
 
 ghost use Rattle.std.specs.Prelude.{◌≡◌};
 ghost use Rattle.grammar.specs.Declarations.{arity_of};
-ghost use Rattle.grammar.specs.Rows.{lower, name_fault, head_fault, plain_fault, negated_fault};
-ghost use Rattle.rows.specs.Rows.{row_number};
+ghost use Rattle.grammar.specs.Rows.{name_fault, head_fault};
 ghost use Rattle.text_names.specs.Names.{found};
+ghost use Rattle.text_faults.specs.Faults.{sign_fault, Both, Coded};
 
 use rows::Row;
 
-// The lower of two rows.
-pub fn lower_of(a: Option<Row>, b: Option<Row>) -> Option<Row>
-    ensures { row_number result ≡ lower (row_number a) (row_number b) }
+// Both values, or the lowest row of the two.
+pub fn both<A: Copy, B: Copy>(a: Result<A, Row>, b: Result<B, Row>) -> Result<(A, B), Row>
+    ensures { Both a b result }
 {
     match (a, b) {
-        (None, _) => b,
-        (_, None) => a,
-        (Some(x), Some(y)) => {
-            if x.number() < y.number() {
-                return a;
-            }
-            b
-        }
+        (Ok(x), Ok(y)) => Ok((x, y)),
+        (Ok(_), Err(y)) => Err(y),
+        (Err(x), Ok(_)) => Err(x),
+        (Err(x), Err(y)) => Err(x.min(y)),
     }
 }
 
@@ -35,60 +31,45 @@ pub fn arity(code: u32) -> u32
     code / 32 - 1
 }
 
-// A name of a list.
-pub fn name_fault(code: u32) -> Option<Row>
-    ensures { row_number result ≡ name_fault (found code) }
+// The code of a name of a list.
+pub fn state_code(code: Option<u32>) -> Result<u32, Row>
+    ensures { Coded (name_fault (found code)) code result }
 {
-    if code == text_names::UNDECLARED {
-        return Some(Row::Kind);
+    match code {
+        Some(c) if c < 32 => Ok(c),
+        _ => Err(Row::Kind),
     }
-    if code < 32 {
-        return None;
-    }
-    Some(Row::Kind)
 }
 
-// A rule's head with n variables.
-pub fn head_fault(code: u32, n: usize) -> Option<Row>
-    ensures { row_number result ≡ head_fault (found code) n }
+// The code of a rule's head with n variables.
+pub fn head_code(code: Option<u32>, n: usize) -> Result<u32, Row>
+    ensures { Coded (head_fault (found code) n) code result }
 {
-    if code == text_names::UNDECLARED {
-        return Some(Row::Kind);
+    let Some(c) = code else {
+        return Err(Row::Kind);
+    };
+    if c < 32 {
+        return Err(Row::Kind);
     }
-    if code < 32 {
-        return Some(Row::Kind);
+    if n != arity(c) as usize {
+        return Err(Row::Arity);
     }
-    if n == arity(code) as usize {
-        return None;
-    }
-    Some(Row::Arity)
+    Ok(c)
 }
 
-// A literal without `not`, with n variables.
-pub fn plain_fault(code: u32, n: usize) -> Option<Row>
-    ensures { row_number result ≡ plain_fault (found code) n }
+// The code of a literal with n variables.
+// The flag stays beside the code: it is the text's `not`, which stands apart from the relation's name.
+pub fn literal_code(negated: bool, code: Option<u32>, n: usize) -> Result<u32, Row>
+    ensures { Coded (sign_fault negated (found code) n) code result }
 {
-    if code == text_names::UNDECLARED {
-        return Some(Row::Kind);
+    let Some(c) = code else {
+        return Err(Row::Kind);
+    };
+    if n != arity(c) as usize {
+        return Err(Row::Arity);
     }
-    if n == arity(code) as usize {
-        return None;
+    if negated && 32 <= c {
+        return Err(Row::Negation);
     }
-    Some(Row::Arity)
-}
-
-// A literal with `not`, with n variables.
-pub fn negated_fault(code: u32, n: usize) -> Option<Row>
-    ensures { row_number result ≡ negated_fault (found code) n }
-{
-    if code == text_names::UNDECLARED {
-        return Some(Row::Kind);
-    }
-    if n == arity(code) as usize {
-        if code < 32 {
-            return None;
-        }
-        return Some(Row::Negation);
-    }
-    Some(Row::Arity)
+    Ok(c)
 }

@@ -4,10 +4,10 @@ use mathlib.Core.List.{List, [], ◌∷◌, ◌++◌, append-nil}
 use mathlib.Core.Logic.{⊎_elim}
 use mathlib.Core.Bool.{true, false}
 use mathlib.Core.Option.{none, some}
-use Prim.Native.Nat.{ℕ, suc, ◌+◌, ◌≤◌}
+use Prim.Native.Nat.{ℕ, suc, ◌≤◌}
 use native.Mathlib.Omega.{arith}
 use lib.Dec.{eqb}
-use lib.ListN.{length, take, get_or}
+use lib.ListN.{length, take}
 use lib.Seq.{length-take-le}
 use borrow.Author.Tests.{eqb-true, eq-eqb, ne_eqb}
 use Rattle.semantics.specs.Models.{Program}
@@ -19,7 +19,7 @@ use Rattle.grammar.specs.Rows.{fault}
 use Rattle.grammar.specs.Models.{declare, clause, question_of}
 use Rattle.grammar.specs.Texts.{Outcome, accepted, refused, bad, judge, Step, wrong, adds, asks, effect, step, finish, read_lines}
 use Rattle.grammar.proofs.Tests.{either}
-use Rattle.text_names.specs.Names.{entry, declared_of, Valid}
+use Rattle.text_names.specs.Names.{name_at, begin, end, entry, declared_of, Valid}
 use Rattle.text_names.specs.declared.Declared.{Declared}
 use Rattle.text_names.proofs.Laws.{list_of-same, slice-prefix}
 use Rattle.text_lines.proofs.Forms.{no-option, Only, only_none, only-either, state-only, rel-only, rule-only, new-only, next-only}
@@ -29,9 +29,7 @@ module _ (text : List ℕ) (d : Declared) (a b : ℕ) (h : a ≤ b) (k : b ≤ l
   pub valid-longer : Valid (take b text) d
   valid-longer = record {
     count = v.count;
-    codes = v.codes;
     names = v.names;
-    lengths = v.lengths;
     within = λ i l. let w = v.within i l in omega (arith, length-take-le a text (omega arith), length-take-le b text k);
     coded = v.coded;
   }
@@ -39,10 +37,9 @@ module _ (text : List ℕ) (d : Declared) (a b : ℕ) (h : a ≤ b) (k : b ≤ l
   pub declared-longer : declared_of (take b text) d ≡ declared_of (take a text) d
   unfolding declared_of
   declared-longer = list_of-same d.count (entry (take b text) d) (entry (take a text) d) (λ i l.
-      let n = get_or d.names i 0 in
-      let e = n + get_or d.lengths i 0 in
-      let w : e ≤ a = (let u = v.within i l in omega (arith, length-take-le a text (omega arith))) in
-      rw (slice-prefix text n e b (omega arith), slice-prefix text n e a w))
+      let n = name_at d i in
+      let w : end n ≤ a = (let u = v.within i l in omega (arith, length-take-le a text (omega arith))) in
+      rw (slice-prefix text (begin n) (end n) b (omega arith), slice-prefix text (begin n) (end n) a w))
 
 -- ONE LINE of the spec-level reader
 module _ (n : ℕ) (D : grammar.Declared) (P : Program) (ls : List Line) where

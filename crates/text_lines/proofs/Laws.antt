@@ -1,15 +1,14 @@
 -- Laws of lines.
-use mathlib.Core.Path.{◌≡◌, refl, sym, ap, ◌∙◌}
+use mathlib.Core.Path.{◌≡◌, refl, sym, ap, subst, ◌∙◌}
 use mathlib.Core.Logic.{⊎_elim}
 use mathlib.Core.Bool.{true, false}
 use mathlib.Core.List.{List, [], ◌∷◌, append-nil}
 use mathlib.Core.Option.{none, some}
-use Prim.Native.Nat.{ℕ, ◌+◌, ◌≤◌, ◌<◌}
+use Prim.Native.Nat.{ℕ, ◌<◌}
 use native.Mathlib.Omega.{arith}
 use lib.Dec.{leb}
 use lib.ListN.{length, drop}
 use borrow.Author.Tests.{leb-false}
-use Rattle.limits.specs.Limits as limit
 use Rattle.semantics.specs.Models as meaning
 use Rattle.semantics.specs.Models.{Program}
 use Rattle.model.specs.Records.{line_of}
@@ -23,20 +22,30 @@ use Rattle.grammar.specs.Declarations as grammar
 use Rattle.grammar.specs.Models.{declare, clause}
 use Rattle.grammar.proofs.Tests.{either}
 use Rattle.grammar.proofs.Lower.{lower-none}
-use Rattle.rows.specs.Rows.{row_number}
+use Rattle.std.specs.Prelude.{Result, Ok, Err, IfErr}
+use Rattle.rows.specs.declared.Row.{Row}
+use Rattle.rows.specs.declared.Row.TheVariants.{Shape}
+use Rattle.rows.proofs.Laws.{some-number}
+use Rattle.text_faults.specs.Faults.{fault_in, unshaped, shaped}
 use Rattle.text_names.specs.Names.{Valid, declared_of}
 use Rattle.text_names.specs.declared.Declared.{Declared}
 use Rattle.text_declarations.specs.Declares.{Limited, DeclarationEnd}
-use Rattle.text_declarations.specs.declared.Declaration.{Declaration}
 use Rattle.text_literals.specs.declared.Frame.{Frame}
-use Rattle.text_clauses.specs.Clauses.{ClauseEnd, body_in}
+use Rattle.text_clauses.specs.Clauses.{GoodClause, ClauseEnd, body_in}
 use Rattle.text_clauses.specs.declared.Reading.{Reading}
 use Rattle.text_record.specs.Stored as stored
 use Rattle.text_record.specs.Stored.{with_clause}
 use Rattle.text_record.proofs.Laws.{stored-room, stored as stored-law}
-use Rattle.text_lines.specs.Lines.{declaring, Stepped, Aside, LineEnd}
+use Rattle.text_lines.specs.Lines.{declaring, GoodStep, Stepped, Aside, Storable, LineEnd}
 use Rattle.text_lines.specs.declared.Step.{Step}
 use Rattle.text_lines.proofs.Forms.{Only, state-only, rel-only}
+
+-- ANSWERS
+pub ok-err : {A B : Type 0} {a : A} {x : Row} → ◌≡◌ {A = Result A Row} (Ok a) (Err x) → B
+ok-err {x = x} q = absurd (some-number x (sym (ap fault_in q)))
+
+row-same : {A : Type 0} {x y : Row} → ◌≡◌ {A = Result A Row} (Err x) (Err y) → x ≡ y
+row-same {A} {x} q = subst (λ (r : Result A Row). IfErr r (λ z. x ≡ z)) q refl
 
 -- A FORM THAT ADDS A CLAUSE leaves the declarations, and there was room for it
 none-some : {A B : Type 0} {x : A} {xs : List A} → ◌≡◌ {A = List A} [] (x ∷ xs) → B
@@ -54,33 +63,35 @@ clause-form D k n l (new_form w b) e c = (row-four k (lower-none (row 4 (many_cl
 clause-form D k n l (next_form x p q b) e c = (row-four k (lower-none (row 4 (many_clauses k)) _ e).0, refl)
 clause-form D k n l (ask_form qs) e c = none-some c
 
-module _ {text : List ℕ} {d : Declared} {m : Model} {P : Program} (n : ℕ) {read : Read Form} {r : Reading} (so : stored.Holds m P) (v : Valid text d) (li : Limited d)
-    (c : ClauseEnd text (declared_of text d) m.clausecount read r) where
-  pub clause-refused : (row_number r.row ≡ 0 → ⊥) → Stepped text d P n read (record { row = r.row; declared = d; model = m })
-  clause-refused z = record {
-    form = c.form;
-    reads = c.reads;
-    number = c.number ∙ ap (λ (k : ℕ). fault (declared_of text d) k c.form) so.count;
-    accepted = λ x. absurd (z x);
+-- the clause of a good form is stored
+module _ {text : List ℕ} {d : Declared} {m : Model} {P : Program} (n : ℕ) {form : Form} {r : Reading} (so : stored.Holds m P) (v : Valid text d) (li : Limited d)
+    (c : GoodClause (declared_of text d) form r) (z : 0 ≡ fault (declared_of text d) m.clausecount form) where
+  few : (m.clausecount < 64) × (declare (declared_of text d) form ≡ declared_of text d)
+  few = clause-form (declared_of text d) m.clausecount n (line_of r.action (body_in r.frame)) form (sym z) (c.says n)
+
+  clause-room : Storable m r
+  clause-room = record { clauses = few.0; literals = stored-room m P n r.action r.frame so few.0 c.size c.codes; size = c.size; count = c.count }
+
+  clause-good : GoodStep text d P n form (record { declared = d; model = with_clause m n r.action r.frame })
+  clause-good = record {
+    valid = v;
+    limited = li;
+    declared = sym few.1;
+    stored = rw (c.says n) (stored-law m P n r.action r.frame so few.0 c.size c.codes c.numbered);
   }
 
-  module _ (z : row_number r.row ≡ 0) where
-    pub clause-room : (m.clausecount < 64) × (m.literalcount + r.frame.size ≤ limit.literals) × (r.frame.size ≤ 8) × (r.frame.scope.count ≤ 3)
-    clause-room =
-        let g = c.accepted z in
-        let q = clause-form (declared_of text d) m.clausecount n (line_of r.action (body_in r.frame)) c.form (sym c.number ∙ z) (g.3 n) in
-        (q.0, stored-room m P n r.action r.frame so q.0 g.0 g.1, g.0, g.2)
+module _ {text : List ℕ} {d : Declared} {m : Model} {P : Program} (n : ℕ) {read : Read Form} (so : stored.Holds m P) (v : Valid text d) (li : Limited d) where
+  pub clause-storable : {r : Reading} → ClauseEnd (declared_of text d) m.clausecount read (Ok r) → Storable m r
+  clause-storable (unshaped w q) = absurd (ok-err q)
+  clause-storable (shaped form w q g) = clause-room n so v li g q
 
-    pub clause-accepted : Stepped text d P n read (record { row = r.row; declared = d; model = with_clause m n r.action r.frame })
-    clause-accepted =
-        let g = c.accepted z in
-        let q = clause-form (declared_of text d) m.clausecount n (line_of r.action (body_in r.frame)) c.form (sym c.number ∙ z) (g.3 n) in
-        record {
-          form = c.form;
-          reads = c.reads;
-          number = c.number ∙ ap (λ (k : ℕ). fault (declared_of text d) k c.form) so.count;
-          accepted = λ x. (v, li, sym q.1, rw (g.3 n) (stored-law m P n r.action r.frame so q.0 g.0 g.1 g.4));
-        }
+  pub clause-refused : (x : Row) → ClauseEnd (declared_of text d) m.clausecount read (Err x) → Stepped text d P n read (Err x)
+  clause-refused x (unshaped w q) = unshaped w (ap Err (row-same q))
+  clause-refused x (shaped form w q g) = shaped form w (q ∙ ap (λ (k : ℕ). fault (declared_of text d) k form) so.count) tt
+
+  pub clause-accepted : {r : Reading} → ClauseEnd (declared_of text d) m.clausecount read (Ok r) → Stepped text d P n read (Ok (record { declared = d; model = with_clause m n r.action r.frame }))
+  clause-accepted (unshaped w q) = absurd (ok-err q)
+  clause-accepted (shaped form w q g) = shaped form w (q ∙ ap (λ (k : ℕ). fault (declared_of text d) k form) so.count) (clause-good n so v li g q)
 
 -- A RECORD with one clause more, or none, keeps the rest
 pub none-aside : {m : Model} → Aside m m
@@ -90,14 +101,14 @@ pub clause-aside : {m : Model} (n : ℕ) (action : Action) (f : Frame) → Aside
 clause-aside n action f = record { relations = refl; names = refl; lengths = refl; stages = refl; stagecount = refl; carried = refl; lines = refl }
 
 -- A DECLARATION leaves the program
-pub declaration-step : {text : List ℕ} {d : Declared} {m : Model} {P : Program} {n : ℕ} {read : Read Form} {r : Declaration} → stored.Holds m P → DeclarationEnd text d read r
-    → Only (λ f. clause (declared_of text d) n f ≡ []) read → Stepped text d P n read (declaring m r)
-declaration-step {P = P} so e h = record {
-  form = e.form;
-  reads = e.reads;
-  number = e.number (length P);
-  accepted = λ x. let g = e.accepted x in (g.0, g.1, g.2, rw (h e.form e.reads, append-nil P) so);
-}
+module _ {text : List ℕ} {d : Declared} {m : Model} {P : Program} {n : ℕ} {read : Read Form} (so : stored.Holds m P) (h : Only (λ f. clause (declared_of text d) n f ≡ []) read) where
+  pub declaration-refused : (x : Row) → DeclarationEnd text d read (Err x) → Stepped text d P n read (Err x)
+  declaration-refused x (unshaped w q) = unshaped w (ap Err (row-same q))
+  declaration-refused x (shaped form w q g) = shaped form w (q (length P)) tt
+
+  pub declaration-step : {r : Declared} → DeclarationEnd text d read (Ok r) → Stepped text d P n read (Ok (declaring m r))
+  declaration-step (unshaped w q) = absurd (ok-err q)
+  declaration-step (shaped form w q g) = shaped form w (q (length P)) (record { valid = g.valid; limited = g.limited; declared = g.declared; stored = rw (h form w, append-nil P) so })
 
 -- what a `state` or `rel` line reads is no clause
 module _ (D : grammar.Declared) (n : ℕ) where
@@ -140,6 +151,13 @@ unfolding line
 line-none s a b c d e f = rw (a, b, c, d, e, f)
 
 -- the line with another word is judged by what follows the word
+pub line-refused : {text : List ℕ} {at : ℕ} {d : Declared} {m : Model} {n : ℕ} (x : Row) (read : Read Form) → line (drop at text) ≡ read
+    → ((P : Program) → stored.Holds m P → Stepped text d P n read (Err x)) → LineEnd text at d m n (Err x)
+line-refused x read h k = record { steps = λ y P so. rw h (k P so); aside = tt }
+
 pub line-steps : {text : List ℕ} {at : ℕ} {d : Declared} {m : Model} {n : ℕ} {r : Step} (read : Read Form) → line (drop at text) ≡ read
-    → ((P : Program) → stored.Holds m P → Stepped text d P n read r) → Aside m r.model → LineEnd text at d m n r
-line-steps read h k a = record { steps = λ P so. rw h (k P so); aside = a }
+    → ((P : Program) → stored.Holds m P → Stepped text d P n read (Ok r)) → Aside m r.model → LineEnd text at d m n (Ok r)
+line-steps read h k a = record { steps = λ y P so. rw h (k P so); aside = a }
+
+pub line-unshaped : {text : List ℕ} {at : ℕ} {d : Declared} {m : Model} {n : ℕ} → (after (bytes "(ask ") (drop at text) ≡ none → line (drop at text) ≡ none) → LineEnd text at d m n (Err Shape)
+line-unshaped h = record { steps = λ y P so. unshaped (rw (h (y refl))) refl; aside = tt }

@@ -1,6 +1,6 @@
 -- Laws of lists.
 use mathlib.Core.Path.{◌≡◌, refl, sym, ap, subst, ◌∙◌}
-use Rattle.std.specs.Prelude.{Option, Some, None, MatchOption}
+use Rattle.std.specs.Prelude.{Option, Some, None, Result, Ok, Err, MatchOption}
 use mathlib.Core.Logic.{⊎_elim}
 use mathlib.Core.Bool.{true, false, ◌||◌, or_assoc}
 use mathlib.Core.List as seq
@@ -10,29 +10,28 @@ use Prim.Native.Nat.{ℕ, ◌+◌, ◌-◌, ◌*◌, ◌%◌, ◌^◌, ◌≤◌
 use native.Mathlib.Nat.{one-mul, mod-eq_of_lt}
 use native.Mathlib.Omega.{arith}
 use lib.Dec.{eqb}
-use lib.Bits.{or_zero_r}
+use lib.Bits.{bit_or, or_zero_r}
 use lib.ListN.{length, drop}
 use lib.Pow.{pow-lt}
 use lib.Seq.{slice}
-use borrow.Author.Tests.{ne_eqb, le-ltb}
+use borrow.Author.Tests.{ltb-true}
 use Rattle.limits.specs.Limits as limit
 use Rattle.semantics.specs.Labels.{union, set_of}
 use Rattle.semantics.specs.Models.{elem}
 use Rattle.semantics.proofs.Sets.{has-union, has-ext, has-set_of}
 use Rattle.grammar.specs.Bytes.{bytes, Word}
 use Rattle.grammar.specs.Shapes.{after, name, rest, bracket, list}
-use Rattle.grammar.specs.Declarations.{Declared, lookup}
+use Rattle.grammar.specs.Declarations.{is_state, Declared, lookup}
 use Rattle.grammar.specs.Rows.{lower, name_fault, list_fault}
 use Rattle.grammar.specs.Models.{code_of, codes}
-use Rattle.grammar.proofs.Lower.{lower-second, lower-assoc, lower-none}
+use Rattle.grammar.proofs.Lower.{lower-second, lower-assoc}
 use Rattle.grammar.proofs.Tests.{either}
 use Rattle.grammar.proofs.Reading.{Reading, reading-start, reading-more, reading-closed}
-use Rattle.rows.specs.Rows.{row_number}
 use Rattle.rows.specs.declared.Row.{Row}
 use Rattle.text_scan.specs.Found.{NameEnd}
 use Rattle.text_names.specs.Names.{found}
-use Rattle.text_lists.specs.Lists.{Holds, Extends, NameAdded, RestEnd, ListEnd}
-use Rattle.text_lists.specs.declared.Chosen.{Chosen}
+use Rattle.text_faults.specs.Faults.{fault_in, Both, Coded}
+use Rattle.text_lists.specs.Lists.{Chosen, Holds, Extends, NameAdded, RestEnd, ListEnd}
 use Rattle.text_lists.specs.declared.List.{List}
 
 -- ONE NAME MORE
@@ -57,31 +56,41 @@ map_more : {A B : Type 0} (f : A → B) (a : seq.List A) (x : A) → map f (a ++
 map_more f [] x = refl
 map_more f (y ∷ a) x = ap (λ (l : seq.List _). f y ∷ l) (map_more f a x)
 
-module _ {text : seq.List ℕ} {D : Declared} {s : Chosen} {a e : ℕ} (c : ℕ) (f : lookup (slice a e text) D ≡ found c) where
-  pub state-added : {n : Option Row} {m : ℕ} → row_number n ≡ lower (row_number s.fault) (name_fault (found c)) → c < 32 → m ≡ union s.set (2 ^ c) → NameAdded text D s a e (record { fault = n; set = m })
-  state-added {n} {m} p h q = record {
-    added = λ ws so.
-        let w = slice a e text in
-        record {
-          number = p ∙ rw (so.number, ← f) (sym (fault-more D ws w));
-          set = λ z. let y = so.set (lower-none (row_number s.fault) (name_fault (found c)) (sym p ∙ z)).0 in
-              let g : lookup w D ≡ some c = f ∙ rw (ne_eqb c 128 (λ t. absurd (omega arith))) in
-              q ∙ rw (y, map_more (code_of D) ws w, set_more (codes D ws) (code_of D w), g);
-        };
-  }
+-- the code's `1 << c`
+bit-of : (c : ℕ) → c < 32 → (1 * 2 ^ c) % 4294967296 ≡ 2 ^ c
+bit-of c h = let p : 2 ^ c < 2 ^ 32 = pow-lt h in rw (one-mul (2 ^ c), mod-eq_of_lt p)
 
-  pub other-added : {n : Option Row} {m : ℕ} → row_number n ≡ lower (row_number s.fault) (name_fault (found c)) → 32 ≤ c → NameAdded text D s a e (record { fault = n; set = m })
-  other-added {n} {m} p h = record {
-    added = λ ws so.
-        let w = slice a e text in
+module _ (text : seq.List ℕ) (D : Declared) (a e : ℕ) {s : Chosen} {o : Option ℕ} {code : Chosen} {r : Result (ℕ × ℕ) Row}
+    (f : lookup (slice a e text) D ≡ found o) (k : Coded (name_fault (found o)) o code) (t : Both s code r) where
+  -- the row of the names with the one more
+  number-more : {ws : seq.List Word} → Holds D ws s → fault_in r ≡ list_fault D (ws ++ (slice a e text ∷ []))
+  number-more {ws} so = t.number ∙ rw (so.number, k.row, ← f) (sym (fault-more D ws (slice a e text)))
+
+  pub name-faulty : (x : Row) → r ≡ Err x → NameAdded text D s a e (Err x)
+  name-faulty x q = record { added = λ ws so. record { number = ap fault_in (sym q) ∙ number-more so; set = tt } }
+
+  module _ (set c : ℕ) (q : r ≡ Ok (set, c)) where
+    parts : (s ≡ Ok set) × (code ≡ Ok c)
+    parts = rw q at t.values
+
+    coded : o ≡ Some c
+    coded = rw (parts.1) at k.value
+
+    small : c < 32
+    small = ⊎_elim (λ (y : is_state c ≡ true). ltb-true c 32 y) (λ (y : is_state c ≡ false). absurd (let z = rw (parts.1, coded, y) at k.row in omega arith)) (either (is_state c))
+
+    pub name-added : NameAdded text D s a e (Ok (bit_or set ((1 * 2 ^ c) % 4294967296)))
+    unfolding union
+    name-added =
+        let g : lookup (slice a e text) D ≡ some c = (rw coded at f) in
         record {
-          number = p ∙ rw (so.number, ← f) (sym (fault-more D ws w));
-          set = λ z. absurd (let y = (lower-none (row_number s.fault) (name_fault (found c)) (sym p ∙ z)).1 in six y);
-        };
-  }
-    where
-      six : name_fault (found c) ≡ 0 → ⊥
-      six y = ⊎_elim (λ (t : eqb c 128 ≡ true). let g = rw t at y in omega arith) (λ (t : eqb c 128 ≡ false). let g = rw (t, le-ltb c 32 h) at y in omega arith) (either (eqb c 128))
+          added = λ ws so.
+              let z : set ≡ set_of (codes D ws) = (rw (parts.0) at so.set) in
+              record {
+                number = ap fault_in (sym q) ∙ number-more so;
+                set = ap (bit_or set) (bit-of c small) ∙ rw (z, map_more (code_of D) ws (slice a e text), set_more (codes D ws) (code_of D (slice a e text)), g);
+              };
+        }
 
 -- READING NAMES
 pub record NamesSo (text : seq.List ℕ) (D : Declared) (at n : ℕ) (s t : Chosen) (i k : ℕ) : Type 0 where
@@ -111,12 +120,12 @@ module _ {text : seq.List ℕ} {D : Declared} {at n : ℕ} {s t : Chosen} {i k :
   }
 
 -- LISTS
-pub empty-list : (D : Declared) → Holds D [] (record { fault = None; set = 0 })
+pub empty-list : (D : Declared) → Holds D [] (Ok 0)
 unfolding list_fault set_of
-empty-list D = record { number = refl; set = λ z. refl }
+empty-list D = record { number = refl; set = refl }
 
 module _ (text : seq.List ℕ) (at : ℕ) where
-  pub list-empty : {D : Declared} → at + 2 ≤ length text → after (bytes "()") (drop at text) ≡ some (drop (at + 2) text) → ListEnd text D at (record { chosen = record { fault = None; set = 0 }; end = at + 2 })
+  pub list-empty : {D : Declared} → at + 2 ≤ length text → after (bytes "()") (drop at text) ≡ some (drop (at + 2) text) → ListEnd text D at (record { chosen = Ok 0; end = at + 2 })
   unfolding list
   list-empty {D} h p = record { ws = []; begins = omega arith; ends = h; read = rw p; holds = empty-list D }
 
@@ -135,7 +144,7 @@ module _ (text : seq.List ℕ) (at : ℕ) where
         unfolding list bracket
         list-unended v = rw (p, q, m.read, v)
 
-        list-found : {D : Declared} {t : Chosen} {r : List} → NameAdded text D (record { fault = None; set = 0 }) (at + 1) e t → RestEnd text D e (limit.list - 1) t r → ListEnd text D at r
+        list-found : {D : Declared} {t : Chosen} {r : List} → NameAdded text D (Ok 0) (at + 1) e t → RestEnd text D e (limit.list - 1) t r → ListEnd text D at r
         unfolding list bracket
         list-found {D} ad v = record {
           ws = slice (at + 1) e text ∷ v.more;
@@ -145,11 +154,7 @@ module _ (text : seq.List ℕ) (at : ℕ) where
           holds = v.holds (slice (at + 1) e text ∷ []) (ad.added [] (empty-list D));
         }
 
-        pub list-read : {D : Declared} {t : Chosen} (r : Option List) → NameAdded text D (record { fault = None; set = 0 }) (at + 1) e t
+        pub list-read : {D : Declared} {t : Chosen} (r : Option List) → NameAdded text D (Ok 0) (at + 1) e t
             → MatchOption r (rest name (limit.list - 1) (drop e text) ≡ none) (RestEnd text D e (limit.list - 1) t) → MatchOption r (list (drop at text) ≡ none) (ListEnd text D at)
         list-read None ad v = list-unended v
         list-read (Some r) ad v = list-found ad v
-
--- the code's `1 << c`
-pub bit-of : (c : ℕ) → c < 32 → (1 * 2 ^ c) % 4294967296 ≡ 2 ^ c
-bit-of c h = let p : 2 ^ c < 2 ^ 32 = pow-lt h in rw (one-mul (2 ^ c), mod-eq_of_lt p)

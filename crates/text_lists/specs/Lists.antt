@@ -1,5 +1,5 @@
 -- What the readers of lists find.
-use Rattle.std.specs.Prelude.{◌≡◌, [], ◌∷◌, ◌++◌, ℕ, ◌≤◌, ◌<◌, length, drop}
+use Rattle.std.specs.Prelude.{◌≡◌, [], ◌∷◌, ◌++◌, ℕ, ◌≤◌, ◌<◌, length, drop, Result, IfOk}
 use mathlib.Core.List as seq
 use Rattle.std.proofs.Math.Option.{some}
 use Rattle.std.proofs.Math.Seq.{slice}
@@ -9,14 +9,18 @@ use Rattle.grammar.specs.Shapes.{name, rest, list}
 use Rattle.grammar.specs.Declarations.{Declared}
 use Rattle.grammar.specs.Rows.{list_fault}
 use Rattle.grammar.specs.Models.{codes}
-use Rattle.rows.specs.Rows.{row_number}
-use Rattle.text_lists.specs.declared.Chosen.{Chosen}
+use Rattle.rows.specs.declared.Row.{Row}
+use Rattle.text_faults.specs.Faults.{fault_in}
 use Rattle.text_lists.specs.declared.List.{List}
 
--- the record holds the names ws
+-- the set of the relations so far, or a row
+abbrev pub Chosen : Type 0
+Chosen = Result ℕ Row
+
+-- it is that of the names ws
 pub record Holds (D : Declared) (ws : seq.List Word) (s : Chosen) : Type 0 where
-  pub number : row_number s.fault ≡ list_fault D ws
-  pub set : row_number s.fault ≡ 0 → s.set ≡ set_of (codes D ws)
+  pub number : fault_in s ≡ list_fault D ws
+  pub set : IfOk s (λ n. n ≡ set_of (codes D ws))
 
 -- r holds what s holds and the names more
 abbrev pub Extends : Declared → Chosen → seq.List Word → Chosen → Type 0

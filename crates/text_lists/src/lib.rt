@@ -14,39 +14,26 @@ use text_names::Declared;
 // The names of a list behind its first.
 const FURTHER: usize = LIST - 1;
 
-// The lowest row of the names so far, and the set of their relations, which counts only where there is no fault.
-#[derive(Clone, Copy)]
-pub struct Chosen {
-    pub fault: Option<Row>,
-    pub set: u32,
-}
-
-// A list, and where it ends.
+// The set of the names' relations, or the lowest row of the names, and where the list ends.
 #[derive(Clone, Copy)]
 pub struct List {
-    pub chosen: Chosen,
+    pub chosen: Result<u32, Row>,
     pub end: usize,
 }
 
 // The name from a to e is added.
-fn add_name(text: &[u8], d: Declared, s: Chosen, a: usize, e: usize) -> Chosen
+// A text and its names stay two parameters: the names are kept from line to line, and each line is read in a longer part of the text.
+fn add_name(text: &[u8], d: Declared, s: Result<u32, Row>, a: usize, e: usize) -> Result<u32, Row>
     requires { names.Valid text.now d × (a ≤ e) × (e ≤ length text.now) }
     ensures { NameAdded text.now (names.declared_of text.now d) s a e result }
 {
-    let code = text_names::find(text, d, a, e);
-    let number = text_faults::name_fault(code);
-    let lowest = text_faults::lower_of(s.fault, number);
-    if code < 32 {
-        return Chosen {
-            fault: lowest,
-            set: s.set | (1 << code),
-        };
-    }
-    Chosen { fault: lowest, ..s }
+    let code = text_faults::state_code(text_names::find(text, d, a, e));
+    let (set, c) = text_faults::both(s, code)?;
+    Ok(set | (1 << c))
 }
 
 // At most n names, each after a space, up to the closing bracket, are added.
-fn read_names(text: &[u8], d: Declared, at: usize, s: Chosen, n: usize) -> Option<List>
+fn read_names(text: &[u8], d: Declared, at: usize, s: Result<u32, Row>, n: usize) -> Option<List>
     requires { (at ≤ length text.now) × names.Valid text.now d }
     ensures { MatchOption result (rest name n (drop at text.now) ≡ none) (RestEnd text.now (names.declared_of text.now d) at n s) }
 {
@@ -74,13 +61,9 @@ pub fn read_list(text: &[u8], d: Declared, at: usize) -> Option<List>
     requires { (at ≤ length text.now) × names.Valid text.now d }
     ensures { MatchOption result (list (drop at text.now) ≡ none) (ListEnd text.now (names.declared_of text.now d) at) }
 {
-    let chosen = Chosen {
-        fault: None,
-        set: 0,
-    };
     if text_scan::at_bytes(text, at, b"()") {
         return Some(List {
-            chosen,
+            chosen: Ok(0),
             end: at + 2,
         });
     }
@@ -88,5 +71,5 @@ pub fn read_list(text: &[u8], d: Declared, at: usize) -> Option<List>
         return None;
     }
     let e = text_scan::name_end(text, at + 1)?;
-    read_names(text, d, e, add_name(text, d, chosen, at + 1, e), FURTHER)
+    read_names(text, d, e, add_name(text, d, Ok(0), at + 1, e), FURTHER)
 }

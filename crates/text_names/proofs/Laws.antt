@@ -18,8 +18,11 @@ use Rattle.grammar.specs.Declarations.{lookup, count, class}
 use Rattle.grammar.proofs.Tests.{either}
 use Rattle.text_scan.proofs.Laws.{slice-part}
 use Rattle.text_names.specs.Rows.{list_of}
-use Rattle.text_names.specs.Names.{entry, declared_of, Valid, found, tally, added}
+use Rattle.text_names.specs.Names.{blank, name_at, begin, end, entry, declared_of, Valid, found, tally, added}
+use Rattle.text_names.specs.declared.Name.{Name}
 use Rattle.text_names.specs.declared.Declared.{Declared}
+use Rattle.std.specs.Prelude as prelude
+use Rattle.std.specs.Prelude.{IfSome}
 
 -- ROWS
 pub list_of-same : {A : Type 0} (n : ℕ) (f g : ℕ → A) → ((i : ℕ) → i < n → f i ≡ g i) → list_of n f ≡ list_of n g
@@ -69,41 +72,36 @@ count-append k (e ∷ D) d = ⊎_elim
     (λ (q : eqb (class e.1) k ≡ true). rw (q, count-append k D d) (⊎_elim (λ (p : eqb (class d.1) k ≡ true). rw p) (λ (p : eqb (class d.1) k ≡ false). rw p) (either (eqb (class d.1) k))))
     (λ (q : eqb (class e.1) k ≡ false). rw (q, count-append k D d)) (either (eqb (class e.1) k))
 
-pub tally-count : (text : List ℕ) (d : Declared) (k : ℕ) → count k (declared_of text d) ≡ tally k d.codes d.count
+pub tally-count : (text : List ℕ) (d : Declared) (k : ℕ) → count k (declared_of text d) ≡ tally k d.names d.count
 unfolding declared_of count
 tally-count text d k = go d.count
   where
-    go : (n : ℕ) → count k (list_of n (entry text d)) ≡ tally k d.codes n
+    go : (n : ℕ) → count k (list_of n (entry text d)) ≡ tally k d.names n
     go zero = refl
     go (suc n) = count-append k (list_of n (entry text d)) (entry text d n) ∙ rw (go n)
 
 -- ONE NAME MORE
-module _ {text : List ℕ} {d : Declared} (v : Valid text d) (h : d.count < limit.declared) (name len code : ℕ) where
-  pub declared-added : declared_of text (added d name len code) ≡ declared_of text d ++ ((slice name (name + len) text, code) ∷ [])
+module _ {text : List ℕ} {d : Declared} (v : Valid text d) (h : d.count < limit.declared) (name : Name) where
+  pub declared-added : declared_of text (added d name) ≡ declared_of text d ++ ((slice (begin name) (end name) text, name.code) ∷ [])
   unfolding declared_of
   declared-added = rw add-one (
       let n = d.count in
       rw (
-        get_or-set_same d.names n name 0 (omega (arith, v.names)),
-        get_or-set_same d.lengths n len 0 (omega (arith, v.lengths)),
-        get_or-set_same d.codes n code 0 (omega (arith, v.codes)),
-        list_of-same n (entry text (added d name len code)) (entry text d) (λ i l.
-            rw (get_or-set_other d.names n i name 0 (λ z. absurd (omega arith)), get_or-set_other d.lengths n i len 0 (λ z. absurd (omega arith)), get_or-set_other d.codes n i code 0 (λ z. absurd (omega arith)))),
+        get_or-set_same d.names n name blank (omega (arith, v.names)),
+        list_of-same n (entry text (added d name)) (entry text d) (λ i l. rw (get_or-set_other d.names n i name blank (λ z. absurd (omega arith)))),
       ))
 
-  pub valid-added : name + len ≤ length text → code < 128 → Valid text (added d name len code)
+  pub valid-added : end name ≤ length text → name.code < 128 → Valid text (added d name)
   valid-added p q = record {
     count = omega arith;
-    codes = length-set d.codes d.count code ∙ v.codes;
     names = length-set d.names d.count name ∙ v.names;
-    lengths = length-set d.lengths d.count len ∙ v.lengths;
     within = λ i l. ⊎_elim
-        (λ (z : eqb i d.count ≡ true). let e = eqb-true i d.count z in rw (e, get_or-set_same d.names d.count name 0 (omega (arith, v.names)), get_or-set_same d.lengths d.count len 0 (omega (arith, v.lengths))) p)
-        (λ (z : eqb i d.count ≡ false). let e = eqb-false i d.count z in rw (get_or-set_other d.names d.count i name 0 e, get_or-set_other d.lengths d.count i len 0 e) (v.within i (omega arith)))
+        (λ (z : eqb i d.count ≡ true). let e = eqb-true i d.count z in rw (e, get_or-set_same d.names d.count name blank (omega (arith, v.names))) p)
+        (λ (z : eqb i d.count ≡ false). let e = eqb-false i d.count z in rw (get_or-set_other d.names d.count i name blank e) (v.within i (omega arith)))
         (either (eqb i d.count));
     coded = λ i l. ⊎_elim
-        (λ (z : eqb i d.count ≡ true). let e = eqb-true i d.count z in rw (e, get_or-set_same d.codes d.count code 0 (omega (arith, v.codes))) q)
-        (λ (z : eqb i d.count ≡ false). let e = eqb-false i d.count z in rw (get_or-set_other d.codes d.count i code 0 e) (v.coded i (omega arith)))
+        (λ (z : eqb i d.count ≡ true). let e = eqb-true i d.count z in rw (e, get_or-set_same d.names d.count name blank (omega (arith, v.names))) q)
+        (λ (z : eqb i d.count ≡ false). let e = eqb-false i d.count z in rw (get_or-set_other d.names d.count i name blank e) (v.coded i (omega arith)))
         (either (eqb i d.count));
   }
 
@@ -114,33 +112,28 @@ slice-prefix text a b e h = rw (take-take b e text h)
 -- FINDING A NAME
 module _ (text : List ℕ) (d : Declared) (a e i : ℕ) (v : Valid text d) (h : a ≤ e) (k : i < d.count)
     (so : lookup (slice a e text) (list_of i (entry text d)) ≡ none) where
-  abbrev pub begin : ℕ
-  begin = get_or d.names i 0
+  abbrev pub n : Name
+  n = name_at d i
 
-  abbrev pub end : ℕ
-  end = get_or d.names i 0 + get_or d.lengths i 0
+  same-entry : same (slice a e text) (entry text d i).0 ≡ same (take (e - a) (drop a text)) (take (end n - begin n) (drop (begin n) text))
+  same-entry = rw (slice-part text a e h, slice-part text (begin n) (end n) (omega arith))
 
-  same-entry : same (slice a e text) (entry text d i).0 ≡ same (take (e - a) (drop a text)) (take (end - begin) (drop begin text))
-  same-entry = rw (slice-part text a e h, slice-part text begin end (omega arith))
-
-  pub find-more : same (take (e - a) (drop a text)) (take (end - begin) (drop begin text)) ≡ false → lookup (slice a e text) (list_of (i + 1) (entry text d)) ≡ none
+  pub find-more : same (take (e - a) (drop a text)) (take (end n - begin n) (drop (begin n) text)) ≡ false → lookup (slice a e text) (list_of (i + 1) (entry text d)) ≡ none
   find-more q = lookup-more (slice a e text) (entry text d) i so (same-entry ∙ q)
 
-  pub find-hit : same (take (e - a) (drop a text)) (take (end - begin) (drop begin text)) ≡ true
-      → (get_or d.codes i 0 ≤ 128) × (lookup (slice a e text) (declared_of text d) ≡ found (get_or d.codes i 0))
+  pub find-hit : same (take (e - a) (drop a text)) (take (end n - begin n) (drop (begin n) text)) ≡ true
+      → IfSome (prelude.Some n.code) (λ c. c < 128) × (lookup (slice a e text) (declared_of text d) ≡ found (prelude.Some n.code))
   unfolding declared_of
-  find-hit q =
-      let c = v.coded i k in
-      (omega arith, lookup-hit (slice a e text) (entry text d) d.count i k so (same-entry ∙ q) ∙ rw (ne_eqb (get_or d.codes i 0) 128 (λ z. absurd (omega arith))))
+  find-hit q = (v.coded i k, lookup-hit (slice a e text) (entry text d) d.count i k so (same-entry ∙ q))
 
 pub find_none : (text : List ℕ) (d : Declared) (w : Word) (i : ℕ) → i ≤ d.count → d.count ≤ i → lookup w (list_of i (entry text d)) ≡ none → lookup w (declared_of text d) ≡ none
 unfolding declared_of
 find_none text d w i h k so = let z : d.count ≡ i = omega arith in rw z so
 
 -- COUNTING ON
-module _ (k : ℕ) (codes : List ℕ) (i sum : ℕ) (so : sum ≡ tally k codes i) where
-  pub tally-hit : get_or codes i 0 / 32 ≡ k → sum + 1 ≡ tally k codes (i + 1)
-  tally-hit e = rw (add-one, add-one, eq-eqb (get_or codes i 0 / 32) k e) (ap suc so)
+module _ (k : ℕ) (names : List Name) (i sum : ℕ) (so : sum ≡ tally k names i) where
+  pub tally-hit : (get_or names i blank).code / 32 ≡ k → sum + 1 ≡ tally k names (i + 1)
+  tally-hit e = rw (add-one, add-one, eq-eqb ((get_or names i blank).code / 32) k e) (ap suc so)
 
-  pub tally-miss : (get_or codes i 0 / 32 ≡ k → ⊥) → sum ≡ tally k codes (i + 1)
-  tally-miss e = rw (add-one, ne_eqb (get_or codes i 0 / 32) k e) so
+  pub tally-miss : ((get_or names i blank).code / 32 ≡ k → ⊥) → sum ≡ tally k names (i + 1)
+  tally-miss e = rw (add-one, ne_eqb ((get_or names i blank).code / 32) k e) so

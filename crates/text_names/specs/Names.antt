@@ -1,16 +1,32 @@
 -- The declarations that a table of declared names stands for.
 use Rattle.std.specs.Prelude.{◌≡◌, cond, List, ℕ, zero, suc, ◌+◌, ◌/◌, ◌≤◌, ◌<◌, eqb, length, get_or, set}
+use Rattle.std.specs.Prelude as prelude
 use Rattle.std.proofs.Math.Option.{Option, none, some}
 use Rattle.std.proofs.Math.Seq.{slice}
 use Rattle.limits.specs.Limits as limit
 use Rattle.grammar.specs.Bytes.{Word}
 use Rattle.grammar.specs.Declarations as grammar
 use Rattle.text_names.specs.Rows.{list_of}
+use Rattle.text_names.specs.declared.Name.{Name}
 use Rattle.text_names.specs.declared.Declared.{Declared}
+
+-- what stands in a place that no name has taken
+abbrev pub blank : Name
+blank = record { code = 0; start = 0; len = 0 }
+
+abbrev pub name_at : Declared → ℕ → Name
+name_at d i = get_or d.names i blank
+
+-- where a name begins and ends
+abbrev pub begin : Name → ℕ
+begin n = n.start
+
+abbrev pub end : Name → ℕ
+end n = n.start + n.len
 
 -- name i with its code
 abbrev pub entry : List ℕ → Declared → ℕ → Word × ℕ
-entry text d i = (slice (get_or d.names i 0) (get_or d.names i 0 + get_or d.lengths i 0) text, get_or d.codes i 0)
+entry text d i = (slice (begin (name_at d i)) (end (name_at d i)) text, (name_at d i).code)
 
 unfoldable pub declared_of : List ℕ → Declared → grammar.Declared
 declared_of text d = list_of d.count (entry text d)
@@ -18,26 +34,20 @@ declared_of text d = list_of d.count (entry text d)
 -- each name stands in the text, and has a code
 pub record Valid (text : List ℕ) (d : Declared) : Type 0 where
   pub count : d.count ≤ limit.declared
-  pub codes : length d.codes ≡ limit.declared
   pub names : length d.names ≡ limit.declared
-  pub lengths : length d.lengths ≡ limit.declared
-  pub within : (i : ℕ) → i < d.count → get_or d.names i 0 + get_or d.lengths i 0 ≤ length text
-  pub coded : (i : ℕ) → i < d.count → get_or d.codes i 0 < 128
+  pub within : (i : ℕ) → i < d.count → end (name_at d i) ≤ length text
+  pub coded : (i : ℕ) → i < d.count → (name_at d i).code < 128
 
--- what a number says: 128 that there is none
-abbrev pub found : ℕ → Option ℕ
-found r = cond (eqb r 128) none (some r)
+-- the code that is found, as the grammar has it
+abbrev pub found : prelude.Option ℕ → Option ℕ
+found prelude.None = none
+found (prelude.Some c) = some c
 
--- how many of the first n codes are of class k
-abbrev pub tally : ℕ → List ℕ → ℕ → ℕ
-tally k codes zero = 0
-tally k codes (suc n) = cond (eqb (get_or codes n 0 / 32) k) (suc (tally k codes n)) (tally k codes n)
+-- how many of the first n names are of class k
+abbrev pub tally : ℕ → List Name → ℕ → ℕ
+tally k names zero = 0
+tally k names (suc n) = cond (eqb ((get_or names n blank).code / 32) k) (suc (tally k names n)) (tally k names n)
 
 -- one name more
-abbrev pub added : Declared → ℕ → ℕ → ℕ → Declared
-added d name len code = record {
-  codes = set d.codes d.count code;
-  names = set d.names d.count name;
-  lengths = set d.lengths d.count len;
-  count = d.count + 1;
-}
+abbrev pub added : Declared → Name → Declared
+added d name = record { names = set d.names d.count name; count = d.count + 1 }

@@ -1,16 +1,23 @@
 -- What the blank record holds, and the record with the declared names.
-use mathlib.Core.Path.{◌≡◌, refl, sym, ◌∙◌}
-use mathlib.Core.List.{List, [], ◌∷◌, map-append}
-use Prim.Native.Nat.{ℕ, zero, suc, ◌≤◌}
+use mathlib.Core.Path.{◌≡◌, refl, sym, subst, ◌∙◌}
+use mathlib.Core.Logic.{⊎_elim}
+use mathlib.Core.Bool.{true, false}
+use mathlib.Core.List.{List, [], ◌∷◌, map, map-append}
+use Prim.Native.Nat.{ℕ, zero, suc, ◌+◌, ◌≤◌, ◌<◌}
 use native.Mathlib.Omega.{arith}
-use lib.ListN.{length, take}
-use lib.Seq.{take-suc}
+use lib.Dec.{eqb}
+use lib.ListN.{length, take, get_or, set, get_or-map, length-map, length-set}
+use lib.Seq.{take-suc, get_or-set_same, get_or-set_other, ext_get_or}
+use borrow.Author.Tests.{eqb-true, eqb-false}
+use Rattle.limits.specs.Limits as limit
+use Rattle.grammar.proofs.Tests.{either}
 use Rattle.semantics.specs.Models.{Program}
 use Rattle.model.specs.Records.{program_of}
 use Rattle.model.specs.declared.Model.{Model}
 use Rattle.acceptance.specs.Represents.{codes_of}
 use Rattle.text_names.specs.Rows.{list_of}
-use Rattle.text_names.specs.Names.{entry, declared_of, Valid}
+use Rattle.text_names.specs.Names.{blank as no_name, name_at, entry, declared_of, Valid}
+use Rattle.text_names.specs.declared.Name.{Name}
 use Rattle.text_names.specs.declared.Declared.{Declared}
 use Rattle.text_names.proofs.Laws.{length-list_of}
 use Rattle.text_record.specs.Stored as stored
@@ -39,13 +46,38 @@ pub length_declared : (text : List ℕ) (d : Declared) → length (declared_of t
 unfolding declared_of
 length_declared text d = length-list_of d.count (entry text d)
 
-pub declared-codes : (text : List ℕ) (d : Declared) → Valid text d → codes_of (declared_of text d) ≡ take d.count d.codes
+pub declared-codes : (text : List ℕ) (d : Declared) → Valid text d → codes_of (declared_of text d) ≡ take d.count (map (λ x. x.code) d.names)
 unfolding declared_of
-declared-codes text d v = go d.count (let c = v.count in omega (arith, v.codes))
+declared-codes text d v = go d.count (let c = v.count in omega (arith, v.names))
   where
-    go : (n : ℕ) → n ≤ length d.codes → codes_of (list_of n (entry text d)) ≡ take n d.codes
+    code-at : (n : ℕ) → get_or (map (λ (x : Name). x.code) d.names) n 0 ≡ (name_at d n).code
+    code-at n = get_or-map (λ (x : Name). x.code) d.names n no_name
+
+    go : (n : ℕ) → n ≤ length d.names → codes_of (list_of n (entry text d)) ≡ take n (map (λ (x : Name). x.code) d.names)
     go zero h = refl
-    go (suc n) h = map-append (λ e. e.1) (list_of n (entry text d)) (entry text d n ∷ []) ∙ rw (go n (omega arith), take-suc d.codes n 0 (omega arith))
+    go (suc n) h = map-append (λ e. e.1) (list_of n (entry text d)) (entry text d n ∷ []) ∙ rw (go n (omega arith), take-suc (map (λ (x : Name). x.code) d.names) n 0 (rw length-map (omega arith)), code-at n)
+
+-- a row of the record has what f says of the first i names
+pub record Column (d : Declared) (f : Name → ℕ) (row : List ℕ) (i : ℕ) : Type 0 where
+  pub long : length row ≡ limit.declared
+  pub same : (j : ℕ) → j < i → get_or row j 0 ≡ f (name_at d j)
+
+module _ {d : Declared} (f : Name → ℕ) {row : List ℕ} where
+  pub column-start : length row ≡ limit.declared → Column d f row 0
+  column-start l = record { long = l; same = λ j h. absurd (omega arith) }
+
+  pub column-more : {i : ℕ} → Column d f row i → i < limit.declared → Column d f (set row i (f (name_at d i))) (i + 1)
+  column-more {i} so h = record {
+    long = length-set row i (f (name_at d i)) ∙ so.long;
+    same = λ j l. ⊎_elim
+        (λ (q : eqb j i ≡ true). rw (eqb-true j i q) (get_or-set_same row i (f (name_at d i)) 0 (omega (arith, so.long))))
+        (λ (q : eqb j i ≡ false). let z = eqb-false j i q in get_or-set_other row i j (f (name_at d i)) 0 z ∙ so.same j (omega arith))
+        (either (eqb j i));
+  }
+
+  pub column-all : {i : ℕ} → Column d f row i → i ≡ limit.declared → length d.names ≡ limit.declared → f no_name ≡ 0 → row ≡ map f d.names
+  column-all so e l z = ext_get_or 0 row (map f d.names) (so.long ∙ sym (length-map d.names f ∙ l))
+      (λ j h. so.same j (omega (arith, so.long)) ∙ sym (subst (λ (n : ℕ). get_or (map f d.names) j n ≡ f (name_at d j)) z (get_or-map f d.names j no_name)))
 
 -- AT THE `ask` LINE, in a text of n lines
 module _ {m : Model} {P : Program} (d : Declared) (n : ℕ) (so : stored.Holds m P) where
@@ -69,6 +101,6 @@ module _ {m : Model} {P : Program} (d : Declared) (n : ℕ) (so : stored.Holds m
     program = fitted-program;
     clause = λ i h. let c = so.clause i h in record { within = c.within; numbered = c.numbered };
     lines = refl;
-    codes = v.codes;
+    codes = length-map d.names (λ (x : Name). x.code) ∙ v.names;
     row = so.clauses;
   }

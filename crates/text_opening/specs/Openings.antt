@@ -1,5 +1,5 @@
 -- The model record of a text before its first line and at its `ask` line.
-use Rattle.std.specs.Prelude.{ℕ, replicate}
+use Rattle.std.specs.Prelude.{ℕ, map, replicate}
 use Rattle.limits.specs.Limits as limit
 use Rattle.model.specs.declared.Action.TheVariants.{New}
 use Rattle.model.specs.declared.Model.{Model}
@@ -24,9 +24,9 @@ blank = record {
 -- the record with the declared names, for a text of n lines
 abbrev pub fitted : Model → Declared → ℕ → Model
 fitted m d n = record {
-  relations = record { codes = d.codes; count = d.count };
-  names = d.names;
-  lengths = d.lengths;
+  relations = record { codes = map (λ x. x.code) d.names; count = d.count };
+  names = map (λ x. x.start) d.names;
+  lengths = map (λ x. x.len) d.names;
   clauses = m.clauses;
   clausecount = m.clausecount;
   literals = m.literals;

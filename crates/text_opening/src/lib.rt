@@ -48,9 +48,15 @@ pub fn blank() -> Model
 pub fn fit(mut m: Model, d: Declared, n: u32) -> Model
     ensures { result ≡ fitted m d n }
 {
-    let codes = d.codes;
-    let names = d.names;
-    let lengths = d.lengths;
+    let mut codes = [0u32; DECLARED];
+    let mut names = [0u32; DECLARED];
+    let mut lengths = [0u32; DECLARED];
+    for i in 0..DECLARED {
+        let name = d.names[i];
+        codes[i] = name.code;
+        names[i] = name.start;
+        lengths[i] = name.len;
+    }
     let relations = Relations {
         codes,
         count: d.count,

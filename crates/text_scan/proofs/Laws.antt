@@ -20,7 +20,7 @@ use Rattle.grammar.specs.Bytes.{bytes, letter, alphanumeric, allowed, every, Lin
 use Rattle.grammar.specs.Shapes.{after, word, after_word, name}
 use Rattle.grammar.specs.Texts.{judge, bad}
 use Rattle.grammar.proofs.Tests.{either, clash, and_left, and_right, and_both}
-use Rattle.text_scan.specs.Found.{NextByte, NextBytes, WordEnd, NameEnd, LineEnd}
+use Rattle.text_scan.specs.Found.{NextByte, NextBytes, WordEnd, NameEnd, BadLine, LineEnd}
 
 -- PLACES
 module _ (text : List ℕ) (i : ℕ) where
@@ -216,25 +216,22 @@ module _ {text : List ℕ} {at i : ℕ} (so : LineSo text at i) where
 
   pub line-found : i < length text → get_or text i 0 ≡ 10 → LineEnd text at i
   line-found h k = record {
-    within = so.ends;
-    found = λ q. (so.begins, so.good, so.read ∙ rw (next text i h, eq-eqb (get_or text i 0) 10 k) (in_fronts-ended (slice at i text) [] (lines (drop (i + 1) text)) ∙ rw append-nil));
-    refused = λ q. absurd (omega arith);
+    begins = so.begins;
+    ends = h;
+    good = so.good;
+    read = so.read ∙ rw (next text i h, eq-eqb (get_or text i 0) 10 k) (in_fronts-ended (slice at i text) [] (lines (drop (i + 1) text)) ∙ rw append-nil);
   }
 
-  pub line-bad : i < length text → (get_or text i 0 ≡ 10 → ⊥) → allowed (get_or text i 0) ≡ false → LineEnd text at (length text)
+  pub line-bad : i < length text → (get_or text i 0 ≡ 10 → ⊥) → allowed (get_or text i 0) ≡ false → BadLine text at
   unfolding BadFirst
   line-bad h k a =
       let r = bad-byte (slice at i text) (get_or text i 0) (lines (drop (i + 1) text)) a in
-      record { within = omega arith; found = λ q. absurd (q refl); refused = λ q. (r.0, r.1, so.read ∙ rw (next text i h, ne_eqb (get_or text i 0) 10 k) r.2, r.3) }
+      (r.0, r.1, so.read ∙ rw (next text i h, ne_eqb (get_or text i 0) 10 k) r.2, r.3)
 
-  pub line-unended : at < length text → length text ≤ i → LineEnd text at (length text)
+  pub line-unended : at < length text → length text ≤ i → BadLine text at
   unfolding judge
   line-unended h k =
       let z : i ≡ length text = omega (arith, so.ends) in
       let w = slice (suc at) i text in
       let b = get_or text at 0 in
-      record {
-        within = omega arith;
-        found = λ q. absurd (q refl);
-        refused = λ q. (unended (b ∷ w), [], so.read ∙ rw (nothing text i k, slice-cons at i text 0 (omega arith) so.ends) (in_fronts-open b w), refl);
-      }
+      (unended (b ∷ w), [], so.read ∙ rw (nothing text i k, slice-cons at i text 0 (omega arith) so.ends) (in_fronts-open b w), refl)

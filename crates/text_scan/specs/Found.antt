@@ -29,8 +29,13 @@ pub record NameEnd (text : List ℕ) (at e : ℕ) : Type 0 where
   pub ends : e ≤ length text
   pub read : name (drop at text) ≡ some (slice at e text, drop e text)
 
--- the line that is next ends at byte 10, which stands at e; e is the text's length if row 2 refuses the line
+-- row 2 refuses the line that is next
+abbrev pub BadLine : List ℕ → ℕ → Type 0
+BadLine text at = (l : Line) × (ls : List Line) × (lines (drop at text) ≡ l ∷ ls) × (judge l ≡ bad 2)
+
+-- the line that is next ends at byte 10, which stands at e
 pub record LineEnd (text : List ℕ) (at e : ℕ) : Type 0 where
-  pub within : e ≤ length text
-  pub found : (e ≡ length text → ⊥) → (at ≤ e) × (every allowed (slice at e text) ≡ true) × (lines (drop at text) ≡ ended (slice at e text) ∷ lines (drop (e + 1) text))
-  pub refused : e ≡ length text → (l : Line) × (ls : List Line) × (lines (drop at text) ≡ l ∷ ls) × (judge l ≡ bad 2)
+  pub begins : at ≤ e
+  pub ends : e < length text
+  pub good : every allowed (slice at e text) ≡ true
+  pub read : lines (drop at text) ≡ ended (slice at e text) ∷ lines (drop (e + 1) text)

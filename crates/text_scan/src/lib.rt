@@ -5,7 +5,7 @@ ghost use Rattle.std.specs.Prelude.{◌≡◌, ◌<◌, ◌≤◌, length, drop,
 ghost use Rattle.std.proofs.Math.Option.{none};
 ghost use Rattle.grammar.specs.Bytes.{alphanumeric, allowed, every, same, is_name};
 ghost use Rattle.grammar.specs.Shapes.{name};
-ghost use Rattle.text_scan.specs.Found.{NextByte, NextBytes, WordEnd, NameEnd, LineEnd};
+ghost use Rattle.text_scan.specs.Found.{NextByte, NextBytes, WordEnd, NameEnd, BadLine, LineEnd};
 
 use limits::NAME;
 
@@ -32,6 +32,7 @@ pub fn at_byte(text: &[u8], at: usize, b: u8) -> bool
 }
 
 // Whether the bytes of w are next.
+// A text and a place within it stay two parameters: each reader answers a place alone, so a struct of both would be made anew at each call.
 pub fn at_bytes(text: &[u8], at: usize, w: &[u8]) -> bool
     requires { at ≤ length text.now }
     ensures { NextBytes text.now at w.now result }
@@ -40,6 +41,7 @@ pub fn at_bytes(text: &[u8], at: usize, w: &[u8]) -> bool
 }
 
 // Whether two words are the same.
+// It stays a function beside `==`: its one proof joins std's equality with the grammar's for all that look up a word.
 pub fn same_words(a: &[u8], b: &[u8]) -> bool
     ensures { result ≡ same a.now b.now }
 {
@@ -47,6 +49,7 @@ pub fn same_words(a: &[u8], b: &[u8]) -> bool
 }
 
 // Where the word that is next ends.
+// The text and the place stay apart, as in `at_bytes`.
 pub fn word_end(text: &[u8], at: usize) -> usize
     requires { at ≤ length text.now }
     ensures { WordEnd text.now at result }
@@ -59,21 +62,21 @@ pub fn word_end(text: &[u8], at: usize) -> usize
     text.len()
 }
 
-// Where the line that is next ends, or the text's length if row 2 refuses it.
-pub fn line_end(text: &[u8], at: usize) -> usize
+// Where the line that is next ends, if row 2 does not refuse it.
+pub fn line_end(text: &[u8], at: usize) -> Option<usize>
     requires { at < length text.now }
-    ensures { LineEnd text.now at result }
+    ensures { MatchOption result (BadLine text.now at) (LineEnd text.now at) }
 {
     for i in at..text.len() {
         let b = text[i];
         if b == b'\n' {
-            return i;
+            return Some(i);
         }
         if !is_allowed(b) {
-            return text.len();
+            return None;
         }
     }
-    text.len()
+    None
 }
 
 // Whether a word of letters and digits is a name.
@@ -88,6 +91,7 @@ fn is_named(word: &[u8]) -> bool
 }
 
 // Where the name that is next ends.
+// The text and the place stay apart, as in `at_bytes`.
 pub fn name_end(text: &[u8], at: usize) -> Option<usize>
     requires { at ≤ length text.now }
     ensures { MatchOption result (name (drop at text.now) ≡ none) (NameEnd text.now at) }

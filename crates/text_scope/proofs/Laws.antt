@@ -8,24 +8,31 @@ use native.Mathlib.Nat.{add-zero}
 use native.Mathlib.Numerals.{add-one}
 use native.Mathlib.Omega.{arith}
 use lib.Dec.{eqb}
-use lib.ListN.{length, take, drop, get_or, set, length-set}
+use lib.ListN.{length, take, drop, set, length-set}
 use lib.Seq.{slice, get_or-set_same, get_or-set_other, ext_get_or}
-use borrow.Author.Tests.{eqb-true, eqb-false, lt-ltb, le-ltb}
+use borrow.Author.Tests.{eqb-true, eqb-false}
 use Rattle.grammar.specs.Bytes.{Word, same}
 use Rattle.grammar.specs.Declarations.{member, extend, place}
 use Rattle.grammar.specs.Words.{Distinct, all_marked}
 use Rattle.grammar.proofs.Tests.{either, clash}
-use Rattle.grammar.proofs.Words.{same-eq, member-append, member-last, member-left, place-hit, place-miss, place_none, place-below, marks, marks-new, marks-old, marks-append}
+use Rattle.grammar.proofs.Words.{same-eq, member-append, member-last, member-left, place-hit, place-miss, place_none, place-below, marks-new, marks-old, marks-append}
 use Rattle.text_scan.proofs.Laws.{slice-part}
 use Rattle.text_names.specs.Rows.{list_of}
 use Rattle.text_names.proofs.Laws.{list_of-same, length-list_of, get_or-list_of}
-use Rattle.text_scope.specs.Scopes.{variable, known_of, marks_of, Valid, marked, appended, entered, Holds}
+use Rattle.text_scope.specs.Scopes.{blank, variable_at, variable, known_of, mark, marks_of, Valid, Known, marking, added, Holds}
+use Rattle.text_scope.specs.declared.Variable.{Variable}
 use Rattle.text_scope.specs.declared.Scope.{Scope}
 
 -- PLACES IN A ROW
 module _ (w : Word) (f : ℕ → Word) where
   pub member-more : (i : ℕ) → member w (list_of i f) ≡ false → same w (f i) ≡ false → member w (list_of (i + 1) f) ≡ false
   member-more i e q = rw (add-one, member-append w (list_of i f) (f i ∷ []), e, q)
+
+  pub member-list_of : (n i : ℕ) → i < n → same w (f i) ≡ true → member w (list_of n f) ≡ true
+  member-list_of zero i h q = absurd (omega arith)
+  member-list_of (suc n) i h q = ⊎_elim
+      (λ (p : eqb i n ≡ true). member-append w (list_of n f) (f n ∷ []) ∙ rw (← eqb-true i n p, q) (or-true (member w (list_of i f))))
+      (λ (p : eqb i n ≡ false). member-left w (list_of n f) (f n ∷ []) (member-list_of n i (let z = eqb-false i n p in omega arith) q)) (either (eqb i n))
 
   pub place-list_of : (n i : ℕ) → i < n → member w (list_of i f) ≡ false → same w (f i) ≡ true → place (list_of n f) w ≡ i
   unfolding place
@@ -35,21 +42,15 @@ module _ (w : Word) (f : ℕ → Word) where
       (place-miss w (list_of i f) (f i ∷ []) e ∙ rw (q, length-list_of i f, add-zero)))
       (λ (p : eqb i n ≡ false). let k : i < n = (let z = eqb-false i n p in omega arith) in
       place-hit w (list_of n f) (f n ∷ []) (member-list_of n i k q) ∙ place-list_of n i k e q) (either (eqb i n))
-    where
-      member-list_of : (n i : ℕ) → i < n → same w (f i) ≡ true → member w (list_of n f) ≡ true
-      member-list_of zero i h q = absurd (omega arith)
-      member-list_of (suc n) i h q = ⊎_elim
-          (λ (p : eqb i n ≡ true). member-append w (list_of n f) (f n ∷ []) ∙ rw (← eqb-true i n p, q) (or-true (member w (list_of i f))))
-          (λ (p : eqb i n ≡ false). member-left w (list_of n f) (f n ∷ []) (member-list_of n i (let z = eqb-false i n p in omega arith) q)) (either (eqb i n))
 
 -- FINDING A VARIABLE
-module _ (text : List ℕ) (s : Scope) (a e i : ℕ) (v : Valid text s) (h : a ≤ e) (k : i < s.count)
+module _ {N : ℕ} (text : List ℕ) (s : Scope N) (a e i : ℕ) (v : Valid text s) (h : a ≤ e) (k : i < s.count)
     (so : member (slice a e text) (list_of i (variable text s)) ≡ false) where
   abbrev begin : ℕ
-  begin = get_or s.starts i 0
+  begin = (variable_at s i).start
 
   abbrev end : ℕ
-  end = get_or s.ends i 0
+  end = (variable_at s i).end
 
   same-variable : same (slice a e text) (variable text s i) ≡ same (take (e - a) (drop a text)) (take (end - begin) (drop begin text))
   same-variable = rw (slice-part text a e h, slice-part text begin end (v.within i k).0)
@@ -57,13 +58,16 @@ module _ (text : List ℕ) (s : Scope) (a e i : ℕ) (v : Valid text s) (h : a �
   pub find-more : same (take (e - a) (drop a text)) (take (end - begin) (drop begin text)) ≡ false → member (slice a e text) (list_of (i + 1) (variable text s)) ≡ false
   find-more q = member-more (slice a e text) (variable text s) i so (same-variable ∙ q)
 
-  pub find-hit : same (take (e - a) (drop a text)) (take (end - begin) (drop begin text)) ≡ true → i ≡ place (known_of text s) (slice a e text)
+  pub find-hit : same (take (e - a) (drop a text)) (take (end - begin) (drop begin text)) ≡ true → Known (known_of text s) (slice a e text) i
   unfolding known_of
-  find-hit q = sym (place-list_of (slice a e text) (variable text s) s.count i k so (same-variable ∙ q))
+  find-hit q = record {
+    known = member-list_of (slice a e text) (variable text s) s.count i k (same-variable ∙ q);
+    number = sym (place-list_of (slice a e text) (variable text s) s.count i k so (same-variable ∙ q));
+  }
 
-pub find_none : (text : List ℕ) (s : Scope) (w : Word) (i : ℕ) → i ≤ s.count → s.count ≤ i → member w (list_of i (variable text s)) ≡ false → i ≡ place (known_of text s) w
+pub find_none : {N : ℕ} (text : List ℕ) (s : Scope N) (w : Word) (i : ℕ) → i ≡ s.count → member w (list_of i (variable text s)) ≡ false → member w (known_of text s) ≡ false
 unfolding known_of
-find_none text s w i h k so = let z : s.count ≡ i = omega arith in rw z (sym (place_none w (list_of i (variable text s)) so ∙ length-list_of i (variable text s)))
+find_none text s w i z so = rw (sym z) so
 
 -- MARKS IN A ROW
 all_marked-append : (a : List Bool) (m : Bool) → all_marked (a ++ (m ∷ [])) ≡ (all_marked a && m)
@@ -80,28 +84,87 @@ module _ (f : ℕ → Bool) where
       (λ (p : eqb i n ≡ true). rw (← eqb-true i n p, q) (and-false (all_marked (list_of i f))))
       (λ (p : eqb i n ≡ false). rw (marked-none n i (let z = eqb-false i n p in omega arith) q)) (either (eqb i n))
 
--- ONE VARIABLE MORE
-list_of-set : (ms : List Bool) (n i : ℕ) → i < n → n ≤ length ms → list_of n (λ j. get_or (set ms i true) j false) ≡ set (list_of n (λ j. get_or ms j false)) i true
-list_of-set ms n i h k = ext_get_or false _ _
-    (length-list_of n _ ∙ sym (length-set (list_of n (λ j. get_or ms j false)) i true ∙ length-list_of n _))
-    (λ j l. let l' : j < n = (let z = length-list_of n (λ j. get_or (set ms i true) j false) in omega arith) in
-    get_or-list_of n (λ j. get_or (set ms i true) j false) j false l' ∙ ⊎_elim
-    (λ (q : eqb j i ≡ true). rw (eqb-true j i q, get_or-set_same ms i true false (omega arith))
-    (sym (get_or-set_same (list_of n (λ j. get_or ms j false)) i true false (omega (arith, length-list_of n (λ j. get_or ms j false))))))
-    (λ (q : eqb j i ≡ false). rw (get_or-set_other ms i j true false (eqb-false j i q))
-    (sym (get_or-set_other (list_of n (λ j. get_or ms j false)) i j true false (eqb-false j i q) ∙ get_or-list_of n (λ j. get_or ms j false) j false l')))
+-- A VARIABLE IS MARKED
+list_of-set : (f g : ℕ → Bool) (n i : ℕ) → i < n → g i ≡ true → ((j : ℕ) → (j ≡ i → ⊥) → g j ≡ f j) → list_of n g ≡ set (list_of n f) i true
+list_of-set f g n i h at_i other = ext_get_or false _ _
+    (length-list_of n g ∙ sym (length-set (list_of n f) i true ∙ length-list_of n f))
+    (λ j l. let l' : j < n = (let z = length-list_of n g in omega arith) in
+    get_or-list_of n g j false l' ∙ ⊎_elim
+    (λ (q : eqb j i ≡ true). rw (eqb-true j i q, at_i) (sym (get_or-set_same (list_of n f) i true false (omega (arith, length-list_of n f)))))
+    (λ (q : eqb j i ≡ false). other j (eqb-false j i q) ∙ sym (get_or-set_other (list_of n f) i j true false (eqb-false j i q) ∙ get_or-list_of n f j false l'))
     (either (eqb j i)))
 
--- what a row has after its end does not count
-row-set : {A : Type 0} (xs : List A) (n : ℕ) (x d : A) → list_of n (λ j. get_or (set xs n x) j d) ≡ list_of n (λ j. get_or xs j d)
-row-set xs n x d = list_of-same n _ _ (λ j l. get_or-set_other xs n j x d (λ z. absurd (omega arith)))
+module _ {N : ℕ} (s : Scope N) (i : ℕ) where
+  abbrev with_mark : Variable
+  with_mark = record { start = (variable_at s i).start; end = (variable_at s i).end; marked = true }
 
-module _ {text : List ℕ} {s : Scope} {vs S : List Word} (so : Holds text s vs S) where
+  pub mark-other : (j : ℕ) → (j ≡ i → ⊥) → mark (marking s i) j ≡ mark s j
+  mark-other j z = ap (λ (v : Variable). v.marked) (get_or-set_other s.variables i j with_mark blank z)
+
+  module _ (l : i < length s.variables) where
+    pub mark-same : mark (marking s i) i ≡ true
+    mark-same = ap (λ (v : Variable). v.marked) (get_or-set_same s.variables i with_mark blank l)
+
+    place-kept : (j : ℕ) → ((variable_at (marking s i) j).start ≡ (variable_at s j).start) × ((variable_at (marking s i) j).end ≡ (variable_at s j).end)
+    place-kept j = ⊎_elim
+        (λ (q : eqb j i ≡ true). rw (eqb-true j i q, get_or-set_same s.variables i with_mark blank l) (refl, refl))
+        (λ (q : eqb j i ≡ false). rw (get_or-set_other s.variables i j with_mark blank (eqb-false j i q)) (refl, refl))
+        (either (eqb j i))
+
+    pub known-marking : (text : List ℕ) → known_of text (marking s i) ≡ known_of text s
+    unfolding known_of
+    known-marking text = list_of-same s.count (variable text (marking s i)) (variable text s) (λ j q. let p = place-kept j in rw (p.0, p.1))
+
+    pub valid-marking : {text : List ℕ} → Valid text s → Valid text (marking s i)
+    valid-marking v = record {
+      count = v.count;
+      variables = length-set s.variables i with_mark ∙ v.variables;
+      within = λ j q. let p = place-kept j in rw (p.0, p.1) (v.within j q);
+    }
+
+-- ONE VARIABLE MORE
+module _ {N : ℕ} {text : List ℕ} (s : Scope N) (a e : ℕ) (p : Bool) (v : Valid text s) (room : s.count < N) where
+  abbrev fresh : Variable
+  fresh = record { start = a; end = e; marked = p }
+
+  last-added : variable_at (added s a e p) s.count ≡ fresh
+  last-added = get_or-set_same s.variables s.count fresh blank (omega (arith, v.variables))
+
+  others-kept : (j : ℕ) → (j ≡ s.count → ⊥) → variable_at (added s a e p) j ≡ variable_at s j
+  others-kept j z = get_or-set_other s.variables s.count j fresh blank z
+
+  pub mark-added : mark (added s a e p) s.count ≡ p
+  mark-added = ap (λ (v : Variable). v.marked) last-added
+
+  pub mark-kept : (j : ℕ) → (j ≡ s.count → ⊥) → mark (added s a e p) j ≡ mark s j
+  mark-kept j z = ap (λ (v : Variable). v.marked) (others-kept j z)
+
+  pub valid-added : a ≤ e → e ≤ length text → Valid text (added s a e p)
+  valid-added h k = record {
+    count = omega arith;
+    variables = length-set s.variables s.count fresh ∙ v.variables;
+    within = λ j q. ⊎_elim
+        (λ (y : eqb j s.count ≡ true). rw (eqb-true j s.count y, last-added) (h, k))
+        (λ (y : eqb j s.count ≡ false). let t = eqb-false j s.count y in rw (others-kept j t) (v.within j (omega arith)))
+        (either (eqb j s.count));
+  }
+
+  pub known-added : known_of text (added s a e p) ≡ known_of text s ++ (slice a e text ∷ [])
+  unfolding known_of
+  known-added = rw (add-one, last-added) (ap (λ (us : List Word). us ++ (slice a e text ∷ []))
+      (list_of-same s.count (variable text (added s a e p)) (variable text s) (λ j q. rw (others-kept j (λ t. absurd (omega arith))))))
+
+  pub marks-added : marks_of (added s a e p) ≡ marks_of s ++ (p ∷ [])
+  unfolding marks_of
+  marks-added = rw (add-one, mark-added) (ap (λ (ms : List Bool). ms ++ (p ∷ []))
+      (list_of-same s.count (mark (added s a e p)) (mark s) (λ j q. mark-kept j (λ t. absurd (omega arith)))))
+
+module _ {N : ℕ} {text : List ℕ} {s : Scope N} {vs S : List Word} (so : Holds text s vs S) where
   pub counted : length vs ≡ s.count
   unfolding known_of
   counted = rw (← so.known) (length-list_of s.count (variable text s))
 
-  module _ {a e i : ℕ} (z : i ≡ place vs (slice a e text)) (h : a ≤ e) (k : e ≤ length text) (l : i < 3) where
+  module _ (a e : ℕ) where
     abbrev w : Word
     w = slice a e text
 
@@ -112,80 +175,46 @@ module _ {text : List ℕ} {s : Scope} {vs S : List Word} (so : Holds text s vs 
         last_one : (x : Word) → member x S ≡ false → member x (S ++ (w ∷ [])) ≡ true → same x w ≡ true
         last_one x p q = sym (or-false (same x w)) ∙ (rw (member-append x S (w ∷ []), p) at q)
 
-    -- it is known
-    module _ (d : Distinct vs) (m : member w vs ≡ true) where
-      old : i < s.count
-      old = omega (arith, place-below w vs m, counted)
+    -- a variable that is known
+    module _ {i : ℕ} (k : Known vs w i) where
+      pub known-below : i < s.count
+      known-below = omega (arith, k.number, place-below w vs k.known, counted)
 
-      known-plain : Holds text (marked s i true) vs (S ++ (w ∷ []))
-      unfolding marks_of known_of
-      known-plain = record {
-        valid = record {
-          count = so.valid.count;
-          starts = so.valid.starts;
-          ends = so.valid.ends;
-          plain = length-set s.plain i true ∙ so.valid.plain;
-          within = so.valid.within;
-        };
-        known = so.known;
-        marks = list_of-set s.plain s.count i old (omega (arith, so.valid.count, so.valid.plain)) ∙ rw (so.marks, z) (sym (marks-old S vs w d m));
-        within = within_more vs (λ x q. q) m;
-      }
+      pub known-words : extend vs (w ∷ []) ≡ vs
+      unfolding extend
+      known-words = rw k.known
 
-      known-entered : (p : Bool) → Holds text (marked s i p) vs (cond p (S ++ (w ∷ [])) S)
-      known-entered true = known-plain
-      known-entered false = so
-
-    -- it is new
-    module _ (m : member w vs ≡ false) (p : Bool) where
-      fresh : i ≡ s.count
-      fresh = z ∙ place_none w vs m ∙ counted
-
-      new-valid : Valid text (appended s i a e p)
-      new-valid = record {
-        count = omega arith;
-        starts = length-set s.starts i a ∙ so.valid.starts;
-        ends = length-set s.ends i e ∙ so.valid.ends;
-        plain = length-set s.plain i p ∙ so.valid.plain;
-        within = λ j q. ⊎_elim
-            (λ (y : eqb j i ≡ true). rw (eqb-true j i y, get_or-set_same s.starts i a 0 (omega (arith, so.valid.starts)), get_or-set_same s.ends i e 0 (omega (arith, so.valid.ends))) (h, k))
-            (λ (y : eqb j i ≡ false). let t = eqb-false j i y in rw (get_or-set_other s.starts i j a 0 t, get_or-set_other s.ends i j e 0 t) (so.valid.within j (omega (arith, fresh))))
-            (either (eqb j i));
-      }
-
-      before : list_of i (variable text (appended s i a e p)) ≡ vs
-      unfolding known_of
-      before = list_of-same i (variable text (appended s i a e p)) (variable text s)
-          (λ j q. rw (get_or-set_other s.starts i j a 0 (λ t. absurd (omega arith)), get_or-set_other s.ends i j e 0 (λ t. absurd (omega arith))))
-          ∙ subst (λ (n : ℕ). list_of n (variable text s) ≡ vs) (sym fresh) so.known
-
-      new-known : known_of text (appended s i a e p) ≡ vs ++ (w ∷ [])
-      unfolding known_of
-      new-known = rw (add-one, get_or-set_same s.starts i a 0 (omega (arith, so.valid.starts)), get_or-set_same s.ends i e 0 (omega (arith, so.valid.ends)))
-          (ap (λ (us : List Word). us ++ (w ∷ [])) before)
-
-      new-marks : (S' : List Word) → marks S' vs ≡ marks S vs → member w S' ≡ p → marks_of (appended s i a e p) ≡ marks S' (vs ++ (w ∷ []))
+      pub known-marked : Distinct vs → Holds text (marking s i) (extend vs (w ∷ [])) (S ++ (w ∷ []))
       unfolding marks_of
-      new-marks S' q r = rw (add-one, get_or-set_same s.plain i p false (omega (arith, so.valid.plain)), row-set s.plain i p false, fresh, so.marks)
-          (sym (marks-append S' vs (w ∷ []) ∙ rw (q, r)))
+      known-marked d = let l : i < length s.variables = omega (arith, known-below, so.valid.count, so.valid.variables) in rw known-words (record {
+        valid = valid-marking s i l so.valid;
+        known = known-marking s i l text ∙ so.known;
+        marks = list_of-set (mark s) (mark (marking s i)) s.count i known-below (mark-same s i l) (mark-other s i) ∙ rw (so.marks, k.number) (sym (marks-old S vs w d k.known));
+        within = within_more vs (λ x q. q) k.known;
+      })
 
-    new-entered : member w vs ≡ false → (p : Bool) → Holds text (appended s i a e p) (vs ++ (w ∷ [])) (cond p (S ++ (w ∷ [])) S)
-    new-entered m true = record {
-      valid = new-valid m true;
-      known = new-known m true;
-      marks = new-marks m true (S ++ (w ∷ [])) (marks-new S vs w m) (member-last w S);
-      within = within_more (vs ++ (w ∷ [])) (λ x q. member-left x vs (w ∷ []) q) (member-last w vs);
-    }
-    new-entered m false = record {
-      valid = new-valid m false;
-      known = new-known m false;
-      marks = new-marks m false S refl (⊎_elim (λ (q : member w S ≡ true). clash (so.within w q) m) (λ q. q) (either (member w S)));
-      within = λ x q. member-left x vs (w ∷ []) (so.within x q);
-    }
+    -- one that is new
+    module _ (m : member w vs ≡ false) where
+      pub new-words : extend vs (w ∷ []) ≡ vs ++ (w ∷ [])
+      unfolding extend
+      new-words = rw m
 
-    -- the law of `entered`
-    pub entered-holds : Distinct vs → (p : Bool) → Holds text (entered s i a e p) (extend vs (w ∷ [])) (cond p (S ++ (w ∷ [])) S)
-    unfolding entered extend
-    entered-holds d p = ⊎_elim
-        (λ (m : member w vs ≡ true). rw (m, lt-ltb i s.count (old d m)) (known-entered d m p))
-        (λ (m : member w vs ≡ false). rw (m, le-ltb i s.count (let f = fresh m p in omega arith)) (new-entered m p)) (either (member w vs))
+      pub new-number : s.count ≡ place vs w
+      new-number = sym (place_none w vs m ∙ counted)
+
+      pub new-added : s.count < N → a ≤ e → e ≤ length text → (p : Bool) → Holds text (added s a e p) (extend vs (w ∷ [])) (cond p (S ++ (w ∷ [])) S)
+      new-added room h k p = rw new-words (go p)
+        where
+          go : (p : Bool) → Holds text (added s a e p) (vs ++ (w ∷ [])) (cond p (S ++ (w ∷ [])) S)
+          go true = record {
+            valid = valid-added s a e true so.valid room h k;
+            known = known-added s a e true so.valid room ∙ rw so.known;
+            marks = marks-added s a e true so.valid room ∙ rw so.marks (sym (marks-append (S ++ (w ∷ [])) vs (w ∷ []) ∙ rw (marks-new S vs w m, member-last w S)));
+            within = within_more (vs ++ (w ∷ [])) (λ x q. member-left x vs (w ∷ []) q) (member-last w vs);
+          }
+          go false = record {
+            valid = valid-added s a e false so.valid room h k;
+            known = known-added s a e false so.valid room ∙ rw so.known;
+            marks = marks-added s a e false so.valid room ∙ rw so.marks (sym (marks-append S vs (w ∷ []) ∙ rw (⊎_elim (λ (q : member w S ≡ true). clash (so.within w q) m) (λ q. q) (either (member w S)))));
+            within = λ x q. member-left x vs (w ∷ []) (so.within x q);
+          }

@@ -1,43 +1,55 @@
 -- The variables that a table of variables stands for.
-use Rattle.std.specs.Prelude.{◌≡◌, Bool, true, false, cond, List, map, ℕ, ◌+◌, ◌≤◌, ◌<◌, ltb, length, get_or, set}
+use Rattle.std.specs.Prelude.{◌≡◌, Bool, true, false, List, map, ℕ, ◌+◌, ◌≤◌, ◌<◌, length, get_or, set}
 use Rattle.std.proofs.Math.Seq.{slice}
-use Rattle.limits.specs.Limits as limit
 use Rattle.grammar.specs.Bytes.{Word}
-use Rattle.grammar.specs.Declarations.{member}
+use Rattle.grammar.specs.Declarations.{member, place}
 use Rattle.text_names.specs.Rows.{list_of}
+use Rattle.text_scope.specs.declared.Variable.{Variable}
 use Rattle.text_scope.specs.declared.Scope.{Scope}
 
--- variable i
-abbrev pub variable : List ℕ → Scope → ℕ → Word
-variable text s i = slice (get_or s.starts i 0) (get_or s.ends i 0) text
+-- what stands in a place that no variable has taken
+abbrev pub blank : Variable
+blank = record { start = 0; end = 0; marked = false }
 
-unfoldable pub known_of : List ℕ → Scope → List Word
+abbrev pub variable_at : {N : ℕ} → Scope N → ℕ → Variable
+variable_at s i = get_or s.variables i blank
+
+-- variable i
+abbrev pub variable : {N : ℕ} → List ℕ → Scope N → ℕ → Word
+variable text s i = slice (variable_at s i).start (variable_at s i).end text
+
+unfoldable pub known_of : {N : ℕ} → List ℕ → Scope N → List Word
 known_of text s = list_of s.count (variable text s)
 
--- which of them stand in a literal without `not`
-unfoldable pub marks_of : Scope → List Bool
-marks_of s = list_of s.count (λ i. get_or s.plain i false)
+-- whether variable i is marked
+abbrev pub mark : {N : ℕ} → Scope N → ℕ → Bool
+mark s i = (variable_at s i).marked
+
+-- which of them are marked
+unfoldable pub marks_of : {N : ℕ} → Scope N → List Bool
+marks_of s = list_of s.count (mark s)
 
 -- each variable stands in the text
-pub record Valid (text : List ℕ) (s : Scope) : Type 0 where
-  pub count : s.count ≤ limit.variables
-  pub starts : length s.starts ≡ limit.variables
-  pub ends : length s.ends ≡ limit.variables
-  pub plain : length s.plain ≡ limit.variables
-  pub within : (i : ℕ) → i < s.count → (get_or s.starts i 0 ≤ get_or s.ends i 0) × (get_or s.ends i 0 ≤ length text)
+pub record Valid {N : ℕ} (text : List ℕ) (s : Scope N) : Type 0 where
+  pub count : s.count ≤ N
+  pub variables : length s.variables ≡ N
+  pub within : (i : ℕ) → i < s.count → ((variable_at s i).start ≤ (variable_at s i).end) × ((variable_at s i).end ≤ length text)
 
--- variable i stands from a to e, in a literal without `not` or not
-abbrev pub marked : Scope → ℕ → Bool → Scope
-marked s i p = cond p (record { count = s.count; starts = s.starts; ends = s.ends; plain = set s.plain i true }) s
+-- the word w is variable i of vs
+pub record Known (vs : List Word) (w : Word) (i : ℕ) : Type 0 where
+  pub known : member w vs ≡ true
+  pub number : i ≡ place vs w
 
-abbrev pub appended : Scope → ℕ → ℕ → ℕ → Bool → Scope
-appended s i a e p = record { count = i + 1; starts = set s.starts i a; ends = set s.ends i e; plain = set s.plain i p }
+-- variable i is marked
+abbrev pub marking : {N : ℕ} → Scope N → ℕ → Scope N
+marking s i = record { count = s.count; variables = set s.variables i (record { start = (variable_at s i).start; end = (variable_at s i).end; marked = true }) }
 
-unfoldable pub entered : Scope → ℕ → ℕ → ℕ → Bool → Scope
-entered s i a e p = cond (ltb i s.count) (marked s i p) (appended s i a e p)
+-- one variable more, which stands first from a to e
+abbrev pub added : {N : ℕ} → Scope N → ℕ → ℕ → Bool → Scope N
+added s a e p = record { count = s.count + 1; variables = set s.variables s.count (record { start = a; end = e; marked = p }) }
 
 -- THE TABLE HOLDS the variables vs, of which those among S stand in a literal without `not`
-pub record Holds (text : List ℕ) (s : Scope) (vs S : List Word) : Type 0 where
+pub record Holds {N : ℕ} (text : List ℕ) (s : Scope N) (vs S : List Word) : Type 0 where
   pub valid : Valid text s
   pub known : known_of text s ≡ vs
   pub marks : marks_of s ≡ map (λ v. member v S) vs

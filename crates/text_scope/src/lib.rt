@@ -1,76 +1,84 @@
-// The variables of a clause or a stage: at most three, in order of first appearance, each with whether it stands in a literal without `not`.
+// The variables of a clause, a stage or a question: at most N, in order of first appearance, some of them marked.
 #![tactic(auto)]
 
-ghost use Rattle.std.specs.Prelude.{◌≡◌, ◌≤◌, ◌<◌, length};
+ghost use Rattle.std.specs.Prelude.{◌≡◌, false, ◌≤◌, ◌<◌, length, replicate, MatchOption};
 ghost use Rattle.std.proofs.Math.Seq.{slice};
-ghost use Rattle.limits.specs.Limits as limit;
-ghost use Rattle.grammar.specs.Declarations.{place};
+ghost use Rattle.grammar.specs.Declarations.{member};
 ghost use Rattle.grammar.specs.Words.{all_marked};
-ghost use Rattle.text_scope.specs.Scopes.{Valid, known_of, marks_of, entered};
+ghost use Rattle.text_scope.specs.Scopes.{blank, Valid, known_of, marks_of, Known, marking, added};
 
-use limits::VARIABLES;
-
-// Variable i stands first from starts[i] to ends[i].
+// A variable: where it stands first, and whether it is marked.
+// The flag stays beside the place: both count, whether it is set or not.
 #[derive(Clone, Copy)]
-pub struct Scope {
+pub struct Variable {
+    pub start: usize,
+    pub end: usize,
+    pub marked: bool,
+}
+
+// The variables so far.
+// The count stays beside the array: memory is fixed, and the places behind it are not read.
+#[derive(Clone, Copy)]
+pub struct Scope<const N: usize> {
     pub count: usize,
-    pub starts: [usize; VARIABLES],
-    pub ends: [usize; VARIABLES],
-    pub plain: [bool; VARIABLES],
+    pub variables: [Variable; N],
 }
 
 // No variables.
-pub fn empty() -> Scope
-    ensures { (result.count ≡ 0) × (length result.starts ≡ limit.variables) × (length result.ends ≡ limit.variables) × (length result.plain ≡ limit.variables) }
+pub fn empty<const N: usize>() -> Scope<N>
+    ensures { (result.count ≡ 0) × (result.variables ≡ replicate N blank) }
 {
+    let blank = Variable {
+        start: 0,
+        end: 0,
+        marked: false,
+    };
     Scope {
         count: 0,
-        starts: [0; VARIABLES],
-        ends: [0; VARIABLES],
-        plain: [false; VARIABLES],
+        variables: [blank; N],
     }
 }
 
-// The number of the variable from a to e; the number of variables if it is a new one.
-pub fn find(text: &[u8], s: Scope, a: usize, e: usize) -> usize
+// The number of the variable from a to e, if it is known.
+pub fn find<const N: usize>(text: &[u8], s: Scope<N>, a: usize, e: usize) -> Option<usize>
     requires { Valid text.now s × (a ≤ e) × (e ≤ length text.now) }
-    ensures { result ≡ place (known_of text.now s) (slice a e text.now) }
+    ensures { MatchOption result (member (slice a e text.now) (known_of text.now s.entry) ≡ false) (Known (known_of text.now s.entry) (slice a e text.now)) }
 {
     for i in 0..s.count {
-        let b = s.starts[i];
-        let t = s.ends[i];
-        if text_scan::same_words(&text[a..e], &text[b..t]) {
-            return i;
+        let v = s.variables[i];
+        if text_scan::same_words(&text[a..e], &text[v.start..v.end]) {
+            return Some(i);
         }
     }
-    s.count
+    None
 }
 
-// The variable of that number stands from a to e, in a literal without `not` or not.
-pub fn enter(mut s: Scope, i: usize, a: usize, e: usize, plain: bool) -> Scope
-    requires { (i < limit.variables) × (i ≤ s.count) }
-    ensures { result ≡ entered s i a e plain }
+// Variable i is marked.
+pub fn mark<const N: usize>(mut s: Scope<N>, i: usize) -> Scope<N>
+    requires { i < N }
+    ensures { result ≡ marking s.entry i }
 {
-    if i < s.count {
-        if plain {
-            s.plain[i] = true;
-        }
-        return s;
-    }
-    s.starts[i] = a;
-    s.ends[i] = e;
-    s.plain[i] = plain;
-    s.count = i + 1;
+    s.variables[i].marked = true;
     s
 }
 
-// Whether each variable stands in a literal without `not`.
-pub fn all_plain(s: Scope) -> bool
-    requires { (s.count ≤ limit.variables) × (length s.plain ≡ limit.variables) }
-    ensures { result ≡ all_marked (marks_of s) }
+// One variable more, which stands first from start to end.
+pub fn add<const N: usize>(mut s: Scope<N>, start: usize, end: usize, marked: bool) -> Scope<N>
+    requires { s.count < N }
+    ensures { result ≡ added s.entry start end marked }
+{
+    s.variables[s.count] = Variable { start, end, marked };
+    s.count += 1;
+    s
+}
+
+// Whether each variable is marked.
+pub fn all_marked<const N: usize>(s: Scope<N>) -> bool
+    requires { (s.count ≤ N) × (length s.variables ≡ N) }
+    ensures { result ≡ all_marked (marks_of s.entry) }
 {
     for i in 0..s.count {
-        if !s.plain[i] {
+        if !s.variables[i].marked {
             return false;
         }
     }

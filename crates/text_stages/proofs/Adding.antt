@@ -1,9 +1,8 @@
 -- One stage more, whatever its row.
-use mathlib.Core.Path.{◌≡◌, refl, sym, ◌∙◌}
+use mathlib.Core.Path.{◌≡◌, refl, sym, ap, subst, ◌∙◌}
 use mathlib.Core.List.{List, [], ◌∷◌, ◌++◌}
 use Prim.Native.Nat.{ℕ, ◌+◌, ◌≤◌, ◌<◌}
 use native.Mathlib.Omega.{arith}
-use lib.ListN.{length}
 use Rattle.limits.specs.Limits as limit
 use Rattle.model.specs.declared.Model.{Model}
 use Rattle.grammar.specs.Bytes.{Word}
@@ -11,69 +10,73 @@ use Rattle.grammar.specs.Forms as forms
 use Rattle.grammar.specs.Declarations.{Declared}
 use Rattle.grammar.specs.Rows.{lower, body_fault, scope_fault, stages_fault}
 use Rattle.grammar.proofs.Lower.{lower-first, lower-none}
-use Rattle.std.specs.Prelude as prelude
-use Rattle.rows.specs.Rows.{row_number}
+use Rattle.std.specs.Prelude.{Result, Ok, Err, IfOk}
 use Rattle.rows.specs.declared.Row.{Row}
+use Rattle.text_faults.specs.Faults.{fault_in, Both}
 use Rattle.text_scope.specs.Scopes as scopes
 use Rattle.text_literals.specs.Frames as frames
+use Rattle.text_literals.specs.Frames.{Framed}
+use Rattle.text_literals.specs.declared.Frame.{Frame}
 use Rattle.text_bodies.specs.declared.Body.{Body}
-use Rattle.text_clauses.specs.Clauses.{final_number}
-use Rattle.text_clauses.proofs.Laws.{final, final-none, body-short}
+use Rattle.text_clauses.specs.Clauses.{Complete, Completed}
+use Rattle.text_clauses.proofs.Laws.{final, frame-complete, body-short}
 use Rattle.text_carried.specs.Asking as asking
 use Rattle.text_carried.specs.Asking.{each}
 use Rattle.text_carried.specs.declared.Numbering.{Numbering}
-use Rattle.text_stages.specs.Questions.{with_stage, Stored, Holds, Addable, Added}
+use Rattle.text_stages.specs.Questions.{with_stage, Stored, Asked, Holds, Addable, Added}
 use Rattle.text_stages.specs.declared.Asking.{Asking}
 use Rattle.text_stages.proofs.Laws.{fault-more, stored_more}
 
-pub scope-known : {text : List ℕ} {s : Asking} {b : Body} → Addable text s b → row_number b.frame.fault ≡ 0 → (b.frame.scope.count ≤ 3) × (length b.frame.scope.plain ≡ 3)
-scope-known p z = let v = (p.frame.body z).scope.valid in (v.count, v.plain)
+pub frame-known : {text : List ℕ} {s : Asked} {b : Body} → Addable text s b → IfOk b.frame Complete
+frame-known {b = b} p = frame-complete b.frame p.frame
 
 -- the number of the stages with the one more
-module _ (text : List ℕ) (s : Asking) (b : Body) {own number : ℕ} (o : own ≡ final_number b.frame) (n : number ≡ lower (row_number s.row) own) where
+module _ (text : List ℕ) (s : Asked) (b : Body) {own : Framed} {r : Result (Asking × Frame) Row} (o : Completed b.frame own) (t : Both s own r) where
   module _ {D : Declared} {m₀ : Model} {qs : List (List forms.Literal)} {q : List forms.Literal} (so : Holds text D m₀ qs s) (fr : frames.Holds text D [] 0 q b.frame) where
-    own-number : own ≡ lower (body_fault D q) (scope_fault [] q)
-    own-number = o ∙ final (omega arith) fr ∙ lower-first 0 (lower (body_fault D q) (scope_fault [] q)) refl
+    own-number : fault_in own ≡ lower (body_fault D q) (scope_fault [] q)
+    own-number = o.row ∙ final D [] 0 q (omega arith) b.frame fr ∙ lower-first 0 (lower (body_fault D q) (scope_fault [] q)) refl
 
-    number_more : number ≡ stages_fault D (qs ++ (q ∷ []))
-    number_more = n ∙ rw (so.number, own-number) (sym (fault-more q D qs))
+    number_more : fault_in r ≡ stages_fault D (qs ++ (q ∷ []))
+    number_more = t.number ∙ rw (so.number, own-number) (sym (fault-more q D qs))
 
-    -- where there is none
-    module _ (z : number ≡ 0) where
-      none : (row_number s.row ≡ 0) × (own ≡ 0)
-      none = lower-none (row_number s.row) own (sym n ∙ z)
+  pub added-fault : (x : Row) → r ≡ Err x → Added text s b (Err x)
+  added-fault x z = record { added = λ D m₀ qs q few so fr. record { number = ap fault_in (sym z) ∙ number_more so fr; stored = tt } }
 
-      pub stage_body : frames.Body text D [] q b.frame
-      stage_body = fr.body (final-none b.frame (sym o ∙ none.1))
+  -- where there is none
+  module _ (a : Asking) (f : Frame) (z : r ≡ Ok (a, f)) where
+    parts : (s ≡ Ok a) × (own ≡ Ok f)
+    parts = rw z at t.values
 
-      pub stored-before : Stored text D m₀ qs s.table s.model
-      stored-before = so.stored none.0
+    is_frame : b.frame ≡ Ok f
+    is_frame = rw (parts.1) at o.value
 
-      pub faultless : body_fault D q ≡ 0
-      faultless = (lower-none (body_fault D q) (scope_fault [] q) (sym own-number ∙ none.1)).0
+    stage_body : {D : Declared} {q : List forms.Literal} → frames.Holds text D [] 0 q b.frame → frames.Body text D [] q f
+    stage_body {D} {q} fr = subst (λ (g : Framed). IfOk g (frames.Body text D [] q)) is_frame fr.body
 
-  pub added-fault : {a : prelude.Option Row} → row_number a ≡ number → (number ≡ 0 → ⊥) → Added text s b (record { row = a; table = s.table; model = s.model })
-  added-fault q y = record { added = λ D m₀ qs q' few so fr. record { number = q ∙ number_more so fr; stored = λ z. absurd (y (sym q ∙ z)) } }
+    stored-before : {D : Declared} {m₀ : Model} {qs : List (List forms.Literal)} → Holds text D m₀ qs s → Stored text D m₀ qs a.table a.model
+    stored-before {D} {m₀} {qs} so = subst (λ (g : Asked). IfOk g (λ a. Stored text D m₀ qs a.table a.model)) parts.0 so.stored
 
-  module _ (z : number ≡ 0) where
-    pub number-ready : Addable text s b → scopes.Valid text b.frame.scope × (s.table.count + b.frame.scope.count ≤ 12) × ((ws : List Word) × asking.Holds text s.table ws)
+    faultless : {D : Declared} {m₀ : Model} {qs : List (List forms.Literal)} {q : List forms.Literal} → Holds text D m₀ qs s → frames.Holds text D [] 0 q b.frame → body_fault D q ≡ 0
+    faultless {D} {q = q} so fr = (lower-none (body_fault D q) (scope_fault [] q) (sym (own-number so fr) ∙ ap fault_in parts.1)).0
+
+    pub number-ready : Addable text s b → scopes.Valid text f.scope × (a.table.count + f.scope.count ≤ 12) × ((ws : List Word) × asking.Holds text a.table ws)
     number-ready p =
-        let t = stored-before p.holds p.frame z in
-        let v = (stage_body p.holds p.frame z).scope.valid in
-        (v, omega (arith, t.few, v.count, p.few), (each p.qs, t.table))
+        let y = stored-before p.holds in
+        let v = (stage_body p.frame).scope.valid in
+        (v, omega (arith, y.few, v.count, p.few), (each p.qs, y.table))
 
-    pub stage-ready : Addable text s b → (s.model.stagecount < 4) × (s.model.literalcount + b.frame.size ≤ limit.literals) × (b.frame.size ≤ 8) × (b.frame.scope.count ≤ 3)
+    pub stage-ready : Addable text s b → (a.model.stagecount < 4) × (a.model.literalcount + f.size ≤ limit.literals) × (f.size ≤ 8) × (f.scope.count ≤ 3)
     stage-ready p =
-        let t = stored-before p.holds p.frame z in
-        let v = stage_body p.holds p.frame z in
+        let y = stored-before p.holds in
+        let v = stage_body p.frame in
         let h = body-short v in
-        (omega (arith, t.stagecount, p.few), omega (arith, t.room, p.few), h, v.scope.valid.count)
+        (omega (arith, y.stagecount, p.few), omega (arith, y.room, p.few), h, v.scope.valid.count)
 
-    pub added-stage : {g : Numbering} {r : Model} → asking.Numbers text s.table (scopes.known_of text b.frame.scope) g → r ≡ with_stage s.model b.frame g.numbers
-        → Added text s b (record { row = prelude.None; table = g.table; model = r })
-    added-stage {g} {r} nu e = record {
+    pub added-stage : {g : Numbering} {m : Model} → asking.Numbers text a.table (scopes.known_of text f.scope) g → m ≡ with_stage a.model f g.numbers
+        → Added text s b (Ok (record { table = g.table; model = m }))
+    added-stage {g} {m} nu e = record {
       added = λ D m₀ qs q few so fr. record {
-        number = sym z ∙ number_more so fr;
-        stored = λ y. rw e (stored_more (stored-before so fr z) few (faultless so fr z) (stage_body so fr z) (body-short (stage_body so fr z)) nu);
+        number = ap fault_in (sym z) ∙ number_more so fr;
+        stored = rw e (stored_more (stored-before so) few (faultless so fr) (stage_body fr) (body-short (stage_body fr)) nu);
       };
     }

@@ -36,7 +36,8 @@ use Rattle.text_literals.specs.declared.Frame.{Frame}
 use Rattle.text_record.proofs.Laws.{copied, before}
 use Rattle.text_carried.specs.Asking as asking
 use Rattle.text_carried.specs.Asking.{own, each}
-use Rattle.text_carried.specs.declared.Table.{Table}
+use Rattle.text_scope.specs.declared.Scope.{Scope}
+use Rattle.limits.specs.Limits as limit
 use Rattle.text_carried.specs.declared.Numbering.{Numbering}
 use Rattle.text_carried.proofs.Stages.{each-words}
 use Rattle.text_stages.specs.Questions.{new_stage, with_stage, Stored}
@@ -71,7 +72,7 @@ module _ (q : List forms.Literal) where
       map-append (body_of D (ask_words (qs ++ (q ∷ [])))) qs (q ∷ []) ∙ ap (λ (l : List meaning.Body). l ++ (body_of D (ask_words (qs ++ (q ∷ []))) q ∷ [])) e
 
 -- ONE STAGE MORE in the record
-module _ {text : List ℕ} {D : Declared} {m₀ : Model} {qs : List (List forms.Literal)} {t : Table} {m : Model} {q : List forms.Literal} {f : Frame} {g : Numbering}
+module _ {text : List ℕ} {D : Declared} {m₀ : Model} {qs : List (List forms.Literal)} {t : Scope limit.asked} {m : Model} {q : List forms.Literal} {f : Frame} {g : Numbering}
     (so : Stored text D m₀ qs t m) (few : length qs < 4) (faultless : body_fault D q ≡ 0) (body : frames.Body text D [] q f) (short : f.size ≤ 8)
     (numbers : asking.Numbers text t (scopes.known_of text f.scope) g) where
   m' : Model

@@ -1,5 +1,5 @@
 -- The stages of the `ask` line, as a record holds them.
-use Rattle.std.specs.Prelude.{◌≡◌, List, [], ◌∷◌, ◌++◌, ℕ, ◌+◌, ◌*◌, ◌≤◌, ◌<◌, length, take, set}
+use Rattle.std.specs.Prelude.{◌≡◌, List, [], ◌∷◌, ◌++◌, ℕ, ◌+◌, ◌*◌, ◌≤◌, ◌<◌, length, take, set, Result, IfOk}
 use Rattle.std.proofs.Math.Seq.{paste}
 use Rattle.limits.specs.Limits as limit
 use Rattle.model.specs.Records as model
@@ -10,14 +10,15 @@ use Rattle.grammar.specs.Forms as forms
 use Rattle.grammar.specs.Declarations.{Declared}
 use Rattle.grammar.specs.Rows.{stages_fault}
 use Rattle.grammar.specs.Models.{question_of}
-use Rattle.rows.specs.Rows.{row_number}
+use Rattle.rows.specs.declared.Row.{Row}
+use Rattle.text_faults.specs.Faults.{fault_in}
 use Rattle.acceptance.specs.Represents.{HoldsStage}
 use Rattle.text_literals.specs.Frames as frames
 use Rattle.text_literals.specs.declared.Frame.{Frame}
 use Rattle.text_bodies.specs.declared.Body.{Body}
 use Rattle.text_carried.specs.Asking as asking
 use Rattle.text_carried.specs.Asking.{each}
-use Rattle.text_carried.specs.declared.Table.{Table}
+use Rattle.text_scope.specs.declared.Scope.{Scope}
 use Rattle.text_stages.specs.declared.Asking.{Asking}
 
 abbrev pub new_stage : Model → Frame → List ℕ → Stage
@@ -46,7 +47,7 @@ pub record Empty (m : Model) : Type 0 where
   pub stages : length m.stages ≡ limit.stages
 
 -- THE RECORD AFTER the stages qs without fault, where it was m₀ before; the table has their variables
-pub record Stored (text : List ℕ) (D : Declared) (m₀ : Model) (qs : List (List forms.Literal)) (t : Table) (m : Model) : Type 0 where
+pub record Stored (text : List ℕ) (D : Declared) (m₀ : Model) (qs : List (List forms.Literal)) (t : Scope limit.asked) (m : Model) : Type 0 where
   pub table : asking.Holds text t (each qs)
   pub few : t.count ≤ limit.variables * length qs
   pub kept : take m₀.literalcount m.literals ≡ take m₀.literalcount m₀.literals
@@ -64,13 +65,17 @@ pub record Stored (text : List ℕ) (D : Declared) (m₀ : Model) (qs : List (Li
   pub literals : length m.literals ≡ limit.literals
   pub stages : length m.stages ≡ limit.stages
 
+-- the stages so far, or their lowest row
+abbrev pub Asked : Type 0
+Asked = Result Asking Row
+
 -- rows 6 to 9 of the stages qs, and the record where there is no fault
-pub record Holds (text : List ℕ) (D : Declared) (m₀ : Model) (qs : List (List forms.Literal)) (s : Asking) : Type 0 where
-  pub number : row_number s.row ≡ stages_fault D qs
-  pub stored : row_number s.row ≡ 0 → Stored text D m₀ qs s.table s.model
+pub record Holds (text : List ℕ) (D : Declared) (m₀ : Model) (qs : List (List forms.Literal)) (s : Asked) : Type 0 where
+  pub number : fault_in s ≡ stages_fault D qs
+  pub stored : IfOk s (λ a. Stored text D m₀ qs a.table a.model)
 
 -- some stages are held, and there is room for the one that was read
-pub record Addable (text : List ℕ) (s : Asking) (b : Body) : Type 0 where
+pub record Addable (text : List ℕ) (s : Asked) (b : Body) : Type 0 where
   pub D : Declared
   pub m₀ : Model
   pub qs : List (List forms.Literal)
@@ -79,6 +84,6 @@ pub record Addable (text : List ℕ) (s : Asking) (b : Body) : Type 0 where
   pub holds : Holds text D m₀ qs s
   pub frame : frames.Holds text D [] 0 q b.frame
 
-pub record Added (text : List ℕ) (s : Asking) (b : Body) (r : Asking) : Type 0 where
+pub record Added (text : List ℕ) (s : Asked) (b : Body) (r : Asked) : Type 0 where
   pub added : (D : Declared) (m₀ : Model) (qs : List (List forms.Literal)) (q : List forms.Literal) → length qs < limit.stages → Holds text D m₀ qs s → frames.Holds text D [] 0 q b.frame
       → Holds text D m₀ (qs ++ (q ∷ [])) r

@@ -5,18 +5,17 @@ ghost use Rattle.std.specs.Prelude.{◌≡◌, ◌+◌, ◌≤◌, ◌<◌};
 ghost use Rattle.limits.specs.Limits as limit;
 ghost use Rattle.text_stages.specs.Questions.{with_stage, Addable, Added};
 
-use limits::VARIABLES;
+use limits::{ASKED, VARIABLES};
 use model::{Model, Stage};
 use rows::Row;
 use text_bodies::Body;
-use text_carried::Table;
 use text_literals::Frame;
+use text_scope::Scope;
 
-// The lowest row of the stages so far; where there is none, their variables and the record with them.
+// The variables of the stages so far, and the record with them.
 #[derive(Clone, Copy)]
 pub struct Asking {
-    pub row: Option<Row>,
-    pub table: Table,
+    pub table: Scope<ASKED>,
     pub model: Model,
 }
 
@@ -44,31 +43,16 @@ fn add_stage(mut m: Model, f: Frame, numbers: [u32; VARIABLES]) -> Model
     m
 }
 
-// One stage more.
-pub fn add(text: &[u8], s: Asking, b: Body) -> Asking
+// One stage more, or the lowest row of the stages.
+pub fn add(text: &[u8], s: Result<Asking, Row>, b: Body) -> Result<Asking, Row>
     requires { Addable text.now s b }
     ensures { Added text.now s b result }
 {
-    let t = s.table;
-    let m = s.model;
-    let f = b.frame;
-    let own = text_clauses::final_row(f);
-    let row = text_faults::lower_of(s.row, own);
-    if row.is_some() {
-        return Asking {
-            row,
-            table: t,
-            model: m,
-        };
-    }
+    let own = text_clauses::complete(b.frame);
+    let (asking, f) = text_faults::both(s, own)?;
     let v = f.scope;
-    let g = text_carried::number(text, t, v);
-    let u = g.table;
-    let numbers = g.numbers;
-    let r = add_stage(m, f, numbers);
-    Asking {
-        row: None,
-        table: u,
-        model: r,
-    }
+    let g = text_carried::number(text, asking.table, v);
+    let table = g.table;
+    let model = add_stage(asking.model, f, g.numbers);
+    Ok(Asking { table, model })
 }

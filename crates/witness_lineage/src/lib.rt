@@ -33,6 +33,7 @@ fn note(lines: &[u32], line: u32, born: &mut [bool])
 }
 
 // Which of the found states a `new` line made.
+// That the model is well-formed and the states are proper stays in clauses: both are values of any numbers, and both speak by recursion over lists, which a ghost field cannot hold.
 fn firsts(m: Model, s: States) -> [bool; ATOMIC]
     requires { WellFormed m × Proper s }
     ensures { Born m s result }
@@ -55,6 +56,7 @@ fn trace(run: &mut [u32], s: &States, born: &[bool], state: usize, object: u32, 
 {
     let mut i = state;
     let mut at = k;
+    // The loop stays: it goes back to a state that a `new` line made, which no number says before.
     loop {
         let line = s.lines[i];
         run[at] = model::number_of(Place::Step { line, object });

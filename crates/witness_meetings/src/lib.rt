@@ -52,6 +52,8 @@ fn name(stage: Stage, variable: u32, e: usize, c: Choice) -> Choice
 }
 
 // The choice with these elements for the carried variables, where stage k + 1 has them.
+// That the model is well-formed stays in clauses: a model is a value of any numbers, which acceptance alone makes well-formed.
+// The stage and the two numbers stay apart: they are slots in one call and objects of the cast in another, so that a struct would be made anew for each.
 fn name_both(m: Model, k: usize, first: usize, second: usize, c: Choice) -> Choice
     requires { WellFormed m × (k < m.stagecount) }
     ensures { NamesBoth m k first second c result }
@@ -71,6 +73,7 @@ fn name_first(m: Model, e: usize, c: Choice) -> Choice
 }
 
 // A choice of found states, with the fixed ones, for which a body holds, if there is one.
+// That each slot stands for itself stays a clause: facts_find takes any slice of slots, and a struct with this invariant would be opened for each of its calls.
 fn seek(
     work: &[u8],
     slots: &[u8],
@@ -94,6 +97,7 @@ fn seek(
 }
 
 // A choice of found states, with the fixed ones, that meets stage k + 1, if there is one.
+// The work area, the slots, the model and the states stay apart, with what is known of them in clauses: other functions here read the model alone, and the evaluator takes the area and the slots by themselves.
 fn seek_stage(
     work: &[u8],
     slots: &[u8],
@@ -115,6 +119,7 @@ fn seek_stage(
 }
 
 // A choice of found states that meets stage k + 1, with the carried objects in these slots where their variables stand in it.
+// The two slots stay beside the model: they are a pair of a level, another one for each stage.
 fn choose(
     work: &[u8],
     slots: &[u8],
@@ -129,10 +134,11 @@ fn choose(
 {
     let free = facts_holds::free();
     let fixed = name_both(m, k, first, second, free);
-    match seek_stage(work, slots, m, s, k, fixed) {
-        Some(c) => c,
-        None => fixed,
-    }
+    let Some(c) = seek_stage(work, slots, m, s, k, fixed) else {
+        // A level's pair has a choice that meets the stage.
+        unreachable!()
+    };
+    c
 }
 
 // The objects of the states chosen for n variables: they stand behind `base` others.
@@ -166,6 +172,7 @@ fn number(k: usize, n: usize, c: Choice) -> u32
 }
 
 // Writes the meeting of stage k + 1 at index `at` with these objects, but the cast's for the carried variables. Returns the index behind it.
+// The table, the model, the cast and the index stay apart, with the room in clauses: the table is written place by place, and the index is the caller's.
 fn gather(run: &mut [u32], m: Model, cast: Cast, k: usize, objects: Choice, at: usize) -> usize
     requires { WellFormed m × (k < m.stagecount) × (cast.first < limit.objects) × (cast.second < limit.objects) × ((x : ℕ) → x < (stage_at m k).variables → chosen objects x < limit.objects) × (at < length run.old) }
     ensures { (w : ℕ → Option ℕ) (σ : ℕ → ℕ) → Takes m cast k w σ objects → Written (λ ps. ps ≡ gathering m cast w k σ ∷ []) 1 run.old at run.new result }
@@ -238,7 +245,7 @@ pub fn opening(
             }
         }
     }
-    facts_holds::free()
+    unreachable!()
 }
 
 // Writes the meeting of stage 1 for a choice of found states at index `at`, with the object for its first variable. Returns the index behind it.

@@ -1,5 +1,6 @@
 -- THE WALK of the carried objects along the levels, from a pair of slots of the last level back.
 -- A slot is a place in the row of found states. One object of each state stands by; the first carried variable's object is made behind them, and then the second's, if they are not there.
+use Rattle.std.specs.Prelude as std
 use Rattle.std.specs.Prelude.{◌≡◌, ◌⊎◌, ◌≢◌, Bool, true, false, cond, List, [], ℕ, suc, ◌+◌, ◌-◌, ◌*◌, ◌≤◌, ◌<◌, length, get_or}
 use Rattle.std.proofs.Math.Option.{Option, none, some}
 use Rattle.limits.specs.Limits as limit
@@ -13,9 +14,8 @@ use Rattle.model.specs.Records.{program_of, question_of, carried_at}
 use Rattle.facts_bits.specs.Bits.{in_row}
 use Rattle.search_states.specs.declared.States.{States}
 use Rattle.search_states.specs.States.{row}
-use Rattle.search_ways.specs.Moves.{table_bytes, matrix_bytes, Marks, CanTake}
+use Rattle.search_ways.specs.Moves.{Marks, CanTake}
 use Rattle.search_ways.specs.Steps.{Between, OneStep}
-use Rattle.search_levels.specs.declared.Pointing.{Pointing}
 use Rattle.search_levels.specs.Levels.{holder, chosen, pair_at, Moved, Filled}
 use Rattle.witness_lineage.specs.Lineage.{making}
 use Rattle.witness_meetings.specs.declared.Cast.{Cast}
@@ -24,19 +24,16 @@ use Rattle.witness_meetings.specs.Meetings.{Known, Written, pair}
 -- no line adds a state, and the tables have the moves and the single steps between the found states
 pub record Mapped (m : Model) (s : States) (table steps : List ℕ) : Type 0 where
   pub whole : Whole (program_of m) (row s)
-  pub tabled : length table ≡ table_bytes
   pub moves : Marks table (CanTake m s)
-  pub stepped : length steps ≡ matrix_bytes
   pub single : Marks steps (Between s.count (OneStep (program_of m) (row s)))
 
 -- WHAT THE SEARCH RECORDED: the states with their facts and moves, who can come from which to which, and the pairs of each level
 pub record Recorded (m : Model) (w : List ℕ) (s : States) (rows table steps ways : List ℕ) : Type 0 where
   pub known : Known m w s
   pub mapped : Mapped m s table steps
-  pub long : length ways ≡ matrix_bytes
   pub comes : Marks ways (Between s.count (λ e t. Comes (program_of m) (row s) (state (row s) e) (state (row s) t)))
   -- whatever stage 1 asks besides
-  pub asked : Pointing
+  pub asked : std.Option (List ℕ)
   pub levels : Filled m (row s) w ways asked (record { rows = rows })
 
 -- ERRANDS: what a carried object does before a stage is met. Whether its variable stands in the stage, and whether it stood in one before, decide it.

@@ -10,7 +10,7 @@ use Rattle.analyzer_verdict.proofs.conclude.Goals.{Else-not-found}
 
 pub returns-then-not-found : goal.returns-then-not-found
 returns-then-not-found c =
-    (c.requires.3, subst (Verdict (program_of c.args.m) (question_of c.args.m)) c.if-not-found.true c.requires.1.verdict, refl)
+    (c.requires.1.explored.few, subst (Verdict (program_of c.args.m) (question_of c.args.m)) c.if-not-found.true c.requires.1.verdict, refl)
 
 -- the search says reached
 reached : (c : Else-not-found) → c.args.found.reached ≡ true
@@ -29,7 +29,7 @@ overflow_sub-places c =
 pub returns : goal.returns
 returns c =
     let w = c.witness-places in (
-      c.requires.3,
+      c.requires.1.explored.few,
       subst (Verdict (program_of c.args.m) (question_of c.args.m)) (reached (goal.at.returns c).Else-not-found) c.requires.1.verdict,
       shown c.args.m c.requires.0 c.args.run.now _ w.result _ w.ensures c.place_of-last.ensures,
     )

@@ -5,5 +5,5 @@ use borrow.Author.Rules.{rules}
 use Rattle.facts_heads.specs.Heads.{room}
 use Rattle.analyzer_verdict.proofs.decide.Goals as goal
 
-pub search-found-requires : goal.search-found-requires
-search-found-requires c = (search rules, omega (arith, length-replicate {A = ℕ} room 0))
+pub search-searched-requires : goal.search-searched-requires
+search-searched-requires c = (search rules, omega (arith, length-replicate {A = ℕ} room 0))

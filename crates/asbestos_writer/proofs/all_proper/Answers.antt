@@ -6,20 +6,20 @@ use Rattle.asbestos.proofs.Same.{proper-append}
 use Rattle.asbestos_writer.specs.Writing.{kind_at, kinds_of}
 use Rattle.asbestos_writer.proofs.Checks.{proper-all, one-bad}
 use Rattle.asbestos_writer.proofs.all_proper.Goals as goal
-use Rattle.asbestos_writer.proofs.all_proper.Goals.{then-kinds-i-ge-LEVELS-via-then-kinds-i-ge-LEVELS, then-kinds-i-ge-LEVELS-via-else-kinds-i-ge-LEVELS+then-kinds-i-ge-LEVELS-2}
+use Rattle.asbestos_writer.proofs.all_proper.Goals.{then-k-ge-LEVELS-via-then-k-ge-LEVELS, then-k-ge-LEVELS-via-else-k-ge-LEVELS+then-k-ge-LEVELS-2}
 
-pub returns-then-kinds-i-ge-LEVELS : goal.returns-then-kinds-i-ge-LEVELS
-returns-then-kinds-i-ge-LEVELS c =
+pub returns-then-k-ge-LEVELS : goal.returns-then-k-ge-LEVELS
+returns-then-k-ge-LEVELS c =
     let a = c.args in
-    sym (one-bad a.kinds.now a.count c.loop-i.i (omega arith) (λ h. elim c.then-kinds-i-ge-LEVELS.branch [
-      | then-kinds-i-ge-LEVELS-via-then-kinds-i-ge-LEVELS w ↦ omega (arith, h.0, w.if-kinds-i-ge-LEVELS.true)
-      | then-kinds-i-ge-LEVELS-via-else-kinds-i-ge-LEVELS+then-kinds-i-ge-LEVELS-2 w ↦ omega (arith, h.1, w.if-kinds-i-ge-LEVELS-2.true)
+    sym (one-bad a.kinds.now a.count c.loop-i.i (omega arith) (λ h. elim c.then-k-ge-LEVELS.branch [
+      | then-k-ge-LEVELS-via-then-k-ge-LEVELS w ↦ omega (arith, h.0, c.kind_of-k.ensures.send, w.if-k-ge-LEVELS.true)
+      | then-k-ge-LEVELS-via-else-k-ge-LEVELS+then-k-ge-LEVELS-2 w ↦ omega (arith, h.1, c.kind_of-k.ensures.receive, w.if-k-ge-LEVELS-2.true)
     ]))
 
 pub loop-i-preserved : goal.loop-i-preserved
 loop-i-preserved c =
     let l = c.loop-i in
-    rw (add-one l.i) (proper-append (kinds_of c.args.kinds.now l.i) (kind_at c.args.kinds.now l.i) l.invariant (omega arith, omega arith))
+    rw (add-one l.i) (proper-append (kinds_of c.args.kinds.now l.i) (kind_at c.args.kinds.now l.i) l.invariant (omega (arith, c.kind_of-k.ensures.send), omega (arith, c.kind_of-k.ensures.receive)))
 
 pub returns : goal.returns
 returns c =

@@ -14,14 +14,16 @@ put_kind-next-requires c =
     let a = c.args in
     let l = c.loop-i in
     let h = kind-proper a.kinds.now a.count p.1 l.i (omega arith) in
-    (h.0, h.1, omega (arith, p.0, p.2, l.invariant.next, kept l.invariant, kinds-room a.kinds.now a.count p.1 l.i (omega arith)))
+    let k = c.kind_of.ensures in
+    (rw k.send h.0, rw k.receive h.1, omega (arith, p.0, p.2, l.invariant.next, kept l.invariant, kinds-room a.kinds.now a.count p.1 l.i (omega arith)))
 
 pub loop-i-preserved : goal.loop-i-preserved
 loop-i-preserved c =
     let p = c.requires in
     let a = c.args in
     let l = c.loop-i in
-    written-kind a.kinds.now a.count p.1 l.i (omega arith) l.invariant c.put_kind-next.ensures
+    let k = c.kind_of.ensures in
+    written-kind a.kinds.now a.count p.1 l.i (omega arith) l.invariant (rw (k.send, k.receive, k.mark) at c.put_kind-next.ensures)
 
 pub shape_of-out : goal.shape_of-out
 shape_of-out c = kept c.loop-i.invariant

@@ -12,8 +12,8 @@ returns-then-refused c =
     let a = c.args in
     leaves-refused (refuses (kinds_of a.kinds.now a.count) a.port a.level (length a.out.now)) (sym c.refused.ensures ∙ c.if-refused.true) _ a.out.now
 
-pub put_text-length-requires : goal.put_text-length-requires
-put_text-length-requires c =
+pub put_text-requires : goal.put_text-requires
+put_text-requires c =
     let a = c.args in
     let f = fit (kinds_of a.kinds.now a.count) a.port a.level (length a.out.now) (sym c.refused.ensures ∙ c.if-refused.false) in
     (omega (arith, f.few, kinds-long a.kinds.now a.count), f.proper, f.low, f.asked, f.wide)
@@ -21,4 +21,4 @@ put_text-length-requires c =
 pub returns : goal.returns
 returns c =
     let a = c.args in
-    leaves-written (refuses (kinds_of a.kinds.now a.count) a.port a.level (length a.out.now)) (sym c.refused.ensures ∙ c.if-refused.false) c.put_text-length.ensures
+    leaves-written (refuses (kinds_of a.kinds.now a.count) a.port a.level (length a.out.now)) (sym c.refused.ensures ∙ c.if-refused.false) c.put_text.ensures

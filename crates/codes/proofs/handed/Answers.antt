@@ -3,17 +3,20 @@ use mathlib.Core.Path.{refl}
 use native.Mathlib.Omega.{arith}
 use Rattle.codes.proofs.handed.Goals as goal
 
-pub overflow_mul-result-in-Yes-2 : goal.overflow_mul-result-in-Yes-2
-overflow_mul-result-in-Yes-2 c = record { fits = omega (arith, rw c.in-Yes.is at c.requires) }
+pub overflow_mul-result-in-Ok-Some-2 : goal.overflow_mul-result-in-Ok-Some-2
+overflow_mul-result-in-Ok-Some-2 c = let s = c.in-Ok-Some in record { fits = omega (arith, rw (s.is, rw s.is at s.field-0-is) at c.requires) }
 
 pub overflow_add-result : goal.overflow_add-result
-overflow_add-result c = record { fits = omega (arith, rw c.in-Yes.is at c.requires) }
+overflow_add-result c = let s = c.in-Ok-Some in record { fits = omega (arith, rw (s.is, rw s.is at s.field-0-is) at c.requires) }
 
-pub overflow_add-result-in-Yes : goal.overflow_add-result-in-Yes
-overflow_add-result-in-Yes c = record { fits = omega (arith, rw c.in-Yes.is at c.requires) }
+pub overflow_add-result-in-Ok-Some : goal.overflow_add-result-in-Ok-Some
+overflow_add-result-in-Ok-Some c = let s = c.in-Ok-Some in record { fits = omega (arith, rw (s.is, rw s.is at s.field-0-is) at c.requires) }
 
-pub returns-in-Yes : goal.returns-in-Yes
-returns-in-Yes c = rw c.in-Yes.is refl
+pub returns-in-Ok-None : goal.returns-in-Ok-None
+returns-in-Ok-None c = let s = c.in-Ok-None in rw (s.is, rw s.is at s.field-0-is) refl
 
-pub returns-in-Unreadable : goal.returns-in-Unreadable
-returns-in-Unreadable c = rw c.in-Unreadable.is refl
+pub returns-in-Ok-Some : goal.returns-in-Ok-Some
+returns-in-Ok-Some c = let s = c.in-Ok-Some in rw (s.is, rw s.is at s.field-0-is) refl
+
+pub returns-in-Err : goal.returns-in-Err
+returns-in-Err c = rw c.in-Err.is refl

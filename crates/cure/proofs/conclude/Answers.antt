@@ -1,21 +1,12 @@
-use mathlib.Core.Logic.{⊎_elim}
 use native.Mathlib.Omega.{arith}
-use Rattle.cure.proofs.Laws.{answers-crowded, answers-none, answers-some}
+use Rattle.cure.proofs.Laws.{advises-none, advises-some}
 use Rattle.cure.proofs.conclude.Goals as goal
 
-pub returns-then-t : goal.returns-then-t
-returns-then-t c = λ P Q L e f. rw c.refuse.ensures (answers-crowded P Q L c.args.l c.args.t c.requires.0 e f c.if-t.true)
-
-pub returns-then-n-t : goal.returns-then-n-t
-returns-then-n-t c = λ P Q L e f.
-    let n = c.soonest-n in
-    answers-none P Q L c.args.l c.args.t c.requires.0 e f n.result c.if-t.false n.ensures c.if-n-t.true
+pub returns-in_err-n : goal.returns-in_err-n
+returns-in_err-n c = λ P Q L d. rw c.from_residual.ensures (advises-none P Q L c.args.c d c.in_err-n.ensures)
 
 pub overflow_cast-n : goal.overflow_cast-n
-overflow_cast-n c = ⊎_elim (λ w. omega (arith, w.0, c.requires.1)) (λ w. omega (arith, w.0, c.requires.1)) c.soonest-n.ensures.which
+overflow_cast-n c = let h = c.in_ok-n.ensures.within in omega (arith, h, c.requires.1)
 
 pub returns : goal.returns
-returns c = λ P Q L e f.
-    let n = c.soonest-n in
-    let k = c.choose-c in
-    answers-some P Q L c.args.l c.args.t c.requires.0 e f n.result c.if-t.false n.ensures c.if-n-t.false k.result k.ensures
+returns c = λ P Q L d. advises-some P Q L c.args.c d c.in_ok-n.n c.in_ok-n.ensures c.choose.result c.choose.ensures

@@ -1,47 +1,20 @@
-use mathlib.Core.Path.{◌≡◌, refl, sym, ◌∙◌}
-use mathlib.Core.Bool.{false}
-use lib.Dec.{ltb}
-use lib.ListN.{length}
-use Rattle.limits.specs.Limits as limit
-use Rattle.calls.specs.Calls.{early}
-use Rattle.strike_calls.proofs.Laws.{asked-early, asked-room, asked-refused, asked-model, asked-faulty, asked-taken}
+use Rattle.std.proofs.lemmas.Result.{err_from_is_err_and}
+use Rattle.strike_calls.specs.Calls.{asked}
+use Rattle.cure.proofs.Laws.{choice-sizes, tells, refuses}
 use Rattle.cure.proofs.cure.Goals as goal
-use Rattle.cure.proofs.cure.Goals.{Else-row-ne0}
 
-pub returns-then-row-ne0 : goal.returns-then-row-ne0
-returns-then-row-ne0 c =
+pub returns-in_err-choices : goal.returns-in_err-choices
+returns-in_err-choices c =
     let a = c.args in
-    let e = c.early-row in
-    rw (asked-early a.text.now a.list.now a.work.now e.result e.ensures c.if-row-ne0.true) (c.refuse.ensures, refl)
+    let p = err_from_is_err_and c.from_residual.result c.from_residual.ensures.1 in
+    rw (p.1, p.2) (refuses a.list.now a.work.now _ (asked a.text.now a.list.now a.work.now) _ c.in_err-choices.ensures)
 
--- no row before the lines
-none : (c : Else-row-ne0) → let a = c.args in early (length a.text.now) (ltb (length a.work.now) limit.work) false ≡ 0
-none c = sym c.early-row.ensures ∙ c.if-row-ne0.false
-
-pub returns-in-Refused : goal.returns-in-Refused
-returns-in-Refused c =
+pub conclude-requires : goal.conclude-requires
+conclude-requires c =
     let a = c.args in
-    let r = c.read-reading in
-    rw (asked-refused a.text.now a.list.now a.work.now (none (goal.at.returns-in-Refused c).Else-row-ne0) r.result r.ensures c.in-Refused.number c.in-Refused.line c.in-Refused.is) (c.refuse-in-Refused.ensures, refl)
-
-pub faulty-requires : goal.faulty-requires
-faulty-requires c = let a = c.args in asked-model a.text.now a.list.now a.work.now (none (goal.at.faulty-requires c).Else-row-ne0) c.read-reading.result c.read-reading.ensures c.in_default.is
-
-pub returns-then-faulty : goal.returns-then-faulty
-returns-then-faulty c =
-    let a = c.args in
-    let r = c.read-reading in
-    rw (asked-faulty a.text.now a.list.now a.work.now (none (goal.at.returns-then-faulty c).Else-row-ne0) r.result r.ensures c.in_default.is (sym c.faulty.ensures ∙ c.if-faulty.true)) (c.refuse-then-faulty.ensures, refl)
-
-pub judge-requires : goal.judge-requires
-judge-requires c =
-    let a = c.args in
-    let r = c.read-reading in
-    (asked-model a.text.now a.list.now a.work.now (none (goal.at.judge-requires c).Else-row-ne0) r.result r.ensures c.in_default.is, sym c.faulty.ensures ∙ c.if-faulty.false, asked-room a.text.now a.list.now a.work.now (none (goal.at.judge-requires c).Else-row-ne0))
+    choice-sizes a.list.now a.work.now _ (asked a.text.now a.list.now a.work.now) _ c.in_ok-choices.ensures
 
 pub returns : goal.returns
 returns c =
     let a = c.args in
-    let r = c.read-reading in
-    let t = asked-taken a.text.now a.list.now a.work.now (none (goal.at.returns c).Else-row-ne0) r.result r.ensures c.in_default.is (sym c.faulty.ensures ∙ c.if-faulty.false) in
-    rw t.1 c.judge.ensures
+    tells a.list.now a.work.now _ (asked a.text.now a.list.now a.work.now) _ c.conclude.result c.in_ok-choices.ensures c.conclude.ensures

@@ -9,14 +9,14 @@ loop-i-init c = (c.requires.1, scan-start _ _)
 pub loop-i-preserved-then-s-least : goal.loop-i-preserved-then-s-least
 loop-i-preserved-then-s-least c =
     let l = c.loop-i in
-    (l.invariant.0, scan-less _ _ l.i l.best l.least _ (search rules) (omega arith) l.invariant.1 c.size-s.ensures c.if-s-least.true)
+    (l.invariant.0, scan-less _ _ l.i l.least _ l.best (search rules) (omega arith) l.invariant.1 c.size-s.ensures c.if-s-least.true)
 
 pub loop-i-preserved : goal.loop-i-preserved
 loop-i-preserved c =
     let l = c.loop-i in
-    (l.invariant.0, scan-other _ _ l.i l.best l.least _ (search rules) (omega arith) l.invariant.1 c.size-s.ensures (search rules))
+    (l.invariant.0, scan-other _ _ l.i l.least _ l.best (search rules) (omega arith) l.invariant.1 c.size-s.ensures (search rules))
 
 pub returns : goal.returns
 returns c =
     let l = c.loop-i in
-    scan-end _ _ l.i l.best l.least (omega arith) l.invariant.1
+    scan-end _ _ l.i l.least l.best (omega arith) l.invariant.1

@@ -1,33 +1,45 @@
 -- `eon::mark` meets its contract.
 use borrow.Author.Rules.{rules}
-use mathlib.Core.Path.{refl, sym}
+use mathlib.Core.Path.{sym, ap, ◌∙◌}
 use native.Mathlib.Omega.{arith}
-use Prim.Native.Nat.{◌≤◌}
+use Prim.Native.Nat.{ℕ, ◌≤◌}
 use lib.ListN.{length}
 use lib.Seq.{length-take-le}
+use Rattle.analyzer.specs.Analyzing.{Leaves}
 use Rattle.grammar.specs.Texts.{outcome}
-use Rattle.eon.proofs.Laws.{answered, text-ready, text-output}
+use Rattle.listing_lines.specs.Lines.{refused_line}
+use Rattle.eon.proofs.Laws.{answered, text-ready, text-output, text-room}
 use Rattle.eon.proofs.mark.Goals as goal
+use Rattle.eon.proofs.mark.Goals.{After-analyze-analysis}
+
+-- what the analysis leaves, with buffers that have their sizes
+leaves : (c : After-analyze-analysis) → let a = c.args in Leaves (outcome a.text.now) a.work.now a.run.now c.analyze-analysis.result c.analyze-analysis.new.work c.analyze-analysis.new.run
+leaves c = let a = c.args in answered a.text.now a.work.now a.run.now c.analyze-analysis.result c.analyze-analysis.new.work c.analyze-analysis.new.run c.requires.0 c.requires.1 c.analyze-analysis.ensures
 
 pub list-requires : goal.list-requires
 list-requires c =
-    let r = c.read-reading in
-    let a = c.analyze-analysis in
-    let text = c.args.text.now in
-    let work = c.args.work.now in
-    let run = c.args.run.now in
-    let leaves = answered text work run a.result a.new.work a.new.run c.requires.0 c.requires.1 a.ensures in
-    (text-ready text work run r.result a.result a.new.work a.new.run (search rules) (outcome text) refl r.ensures leaves (search rules), c.requires.2)
+    let a = c.args in
+    let k = c.analyze-analysis in
+    (text-ready a.text.now a.work.now a.run.now _ c.in-Ok.ensures k.result k.new.work k.new.run (search rules) (leaves (goal.at.list-requires c).After-analyze-analysis) (search rules), c.requires.2)
 
-pub returns : goal.returns
-returns c =
+pub put_refusal-requires : goal.put_refusal-requires
+put_refusal-requires c = c.requires.2
+
+pub returns-in-Ok : goal.returns-in-Ok
+returns-in-Ok c =
+    let a = c.args in
+    let k = c.analyze-analysis in
     let w = c.list in
-    let r = c.read-reading in
-    let a = c.analyze-analysis in
-    let text = c.args.text.now in
-    let work = c.args.work.now in
-    let run = c.args.run.now in
-    let leaves = answered text work run a.result a.new.work a.new.run c.requires.0 c.requires.1 a.ensures in
-    let o = text-output text work run r.result a.result a.new.work a.new.run (search rules) c.args.out.now w.result w.new.out w.ensures (outcome text) refl r.ensures leaves in
-    let room : w.result ≤ length w.new.out = omega (arith, o.1) in
-    ((a.result, a.ensures, o.0), (room, sym (length-take-le w.result w.new.out room)))
+    let l = leaves (goal.at.returns-in-Ok c).After-analyze-analysis in
+    let said = text-output a.text.now a.work.now a.run.now _ c.in-Ok.ensures k.result k.new.work k.new.run (search rules) l a.out.now w.result w.new.out w.ensures in
+    let fits = text-room a.text.now a.work.now a.run.now _ c.in-Ok.ensures k.result k.new.work k.new.run (search rules) l a.out.now w.result w.new.out w.ensures in
+    let room : w.result ≤ length w.new.out = omega (arith, fits) in
+    ((k.result, k.ensures, said), (room, sym (length-take-le w.result w.new.out room)))
+
+pub returns-in-Err : goal.returns-in-Err
+returns-in-Err c =
+    let k = c.analyze-analysis in
+    let w = c.put_refusal in
+    let fits = w.ensures.room in
+    let room : w.result ≤ length w.new.out = omega (arith, fits) in
+    ((k.result, k.ensures, rw c.in-Err.ensures (w.ensures.front ∙ ap (λ (n : ℕ). refused_line n c.in-Err.refusal.line) c.number.ensures)), (room, sym (length-take-le w.result w.new.out room)))

@@ -5,7 +5,7 @@ use Rattle.model.specs.Records.{program_of, question_of}
 use Rattle.replay_session.specs.declared.Answer.{Answer}
 use Rattle.replay_session.specs.Replays.{Replays}
 use Rattle.replay_runs.specs.Endings.{Ends}
-use Rattle.explain.specs.declared.Explanation.TheVariants.{Refused, Kept, Broken}
+use Rattle.explain.specs.declared.Explanation.TheVariants.{Kept, Broken}
 use Rattle.explain.specs.Explains.{Tells}
 use Rattle.explain.proofs.tell.Goals as goal
 
@@ -19,6 +19,3 @@ returns-in-Kept c = let a = c.args in (subst (λ (y : Answer). Tells (program_of
 
 pub returns-in-Broken : goal.returns-in-Broken
 returns-in-Broken c = let a = c.args in let w = c.why_broken-reason in (subst (λ (y : Answer). Tells (program_of a.m) (question_of a.m) a.run.now y (Broken c.in-Broken.place w.result)) (sym c.in-Broken.is) (w.result, refl, w.ensures.0), w.ensures.1)
-
-pub returns-in-Refused : goal.returns-in-Refused
-returns-in-Refused c = let a = c.args in (subst (λ (y : Answer). Tells (program_of a.m) (question_of a.m) a.run.now y (Refused c.in-Refused.number c.in-Refused.line)) (sym c.in-Refused.is) refl, refl)

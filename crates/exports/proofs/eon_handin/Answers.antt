@@ -9,7 +9,7 @@ use Rattle.exports.proofs.eon_handin.Goals as goal
 pub returns-then-run-lt-RUN : goal.returns-then-run-lt-RUN
 returns-then-run-lt-RUN c =
     let a = c.args in
-    let r = c.refusal.ensures in
+    let r = c.refused.ensures in
     rw r (short-table a.handin.now a.run.now c.if-run-lt-RUN.true)
 
 pub handed-requires : goal.handed-requires

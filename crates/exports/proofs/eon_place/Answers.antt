@@ -8,22 +8,22 @@ use Rattle.exports.proofs.eon_place.Goals as goal
 
 pub pack-left-requires : goal.pack-left-requires
 pack-left-requires c =
-    let r = c.place-reply in
-    let u = c.unpack in
+    let r = c.put-answer in
+    let u = c.unpack-state in
     let text = c.args.text.now in
     let work = c.args.work.now in
-    (place-fits text (narrow work) (eqb u.result.kept limit.run) u.result c.args.place work r.result.answer r.result.session r.new.work u.ensures.1 (place_outcome text u.result work) refl r.ensures).1
+    (place-fits text (narrow work) (eqb u.result.kept limit.run) u.result c.args.place work r.result r.new.s r.new.work u.ensures.1 (place_outcome text u.result work) refl r.ensures).1
 
 pub put-requires : goal.put-requires
 put-requires c =
-    let r = c.place-reply in
-    let u = c.unpack in
+    let r = c.put-answer in
+    let u = c.unpack-state in
     let text = c.args.text.now in
     let work = c.args.work.now in
-    (place-fits text (narrow work) (eqb u.result.kept limit.run) u.result c.args.place work r.result.answer r.result.session r.new.work u.ensures.1 (place_outcome text u.result work) refl r.ensures).0
+    (place-fits text (narrow work) (eqb u.result.kept limit.run) u.result c.args.place work r.result r.new.s r.new.work u.ensures.1 (place_outcome text u.result work) refl r.ensures).0
 
 pub returns : goal.returns
 returns c =
-    let r = c.place-reply in
-    let u = c.unpack in
-    record { answer = r.result.answer; after = r.result.session; puts = rw u.ensures.0 at r.ensures; number = c.put.ensures; cells = c.pack-left.ensures }
+    let r = c.put-answer in
+    let u = c.unpack-state in
+    record { answer = r.result; after = r.new.s; puts = rw u.ensures.0 at r.ensures; number = c.put.ensures; cells = c.pack-left.ensures }

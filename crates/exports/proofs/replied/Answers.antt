@@ -1,13 +1,13 @@
 -- `exports::replied` meets its contract.
-use mathlib.Core.Path.{refl, ◌∙◌}
+use mathlib.Core.Path.{refl}
 use native.Mathlib.Omega.{arith}
 use Rattle.exports.proofs.replied.Goals as goal
 
 pub overflow_add-result : goal.overflow_add-result
-overflow_add-result c = record { fits = omega (arith, rw c.in-Broken.is at c.requires) }
+overflow_add-result c = let s = c.in-Ok-Broken in record { fits = omega (arith, rw (s.is, rw s.is at s.field-0-is) at c.requires) }
 
-pub returns-in-Broken : goal.returns-in-Broken
-returns-in-Broken c = rw c.in-Broken.is refl
+pub returns-in-Ok-Kept : goal.returns-in-Ok-Kept
+returns-in-Ok-Kept c = let s = c.in-Ok-Kept in rw (s.is, rw s.is at s.field-0-is) refl
 
-pub returns-in-Refused : goal.returns-in-Refused
-returns-in-Refused c = c.refusal.ensures ∙ rw c.in-Refused.is refl
+pub returns-in-Ok-Broken : goal.returns-in-Ok-Broken
+returns-in-Ok-Broken c = let s = c.in-Ok-Broken in rw (s.is, rw s.is at s.field-0-is) refl

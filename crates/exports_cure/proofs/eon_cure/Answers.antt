@@ -1,8 +1,4 @@
 -- `exports_cure::eon_cure` meets its contract.
-use borrow.Author.Rules.{rules}
-use mathlib.Core.Path.{◌≡◌}
-use lib.ListN.{length}
-use Rattle.striking.specs.Striking.{most}
 use Rattle.strike_calls.specs.Calls.{asked}
 use Rattle.exports_cure.proofs.Fitting.{advice-fits}
 use Rattle.exports_cure.proofs.eon_cure.Goals as goal
@@ -11,5 +7,4 @@ pub coded-requires : goal.coded-requires
 coded-requires c =
     let a = c.args in
     let r = c.cure-advice in
-    let full : length r.result.lines ≡ most = search rules in
-    advice-fits (asked a.text.now a.list.now a.work.now) a.list.now a.work.now r.result r.new.work full r.ensures
+    advice-fits (asked a.text.now a.list.now a.work.now) a.list.now a.work.now r.result r.new.work r.ensures

@@ -1,8 +1,5 @@
-use mathlib.Core.Path.{refl}
+use native.Mathlib.Omega.{arith}
 use Rattle.exports_game.proofs.coded.Goals as goal
 
-pub returns-in-Told : goal.returns-in-Told
-returns-in-Told c = rw c.in-Told.is refl
-
-pub returns-in-Refused : goal.returns-in-Refused
-returns-in-Refused c = rw c.in-Refused.is refl
+pub overflow_add-result : goal.overflow_add-result
+overflow_add-result c = record { fits = omega (arith, rw c.in-Ok.is at c.requires) }

@@ -1,9 +1,6 @@
-use mathlib.Core.Path.{◌≡◌, refl, sym}
-use lib.ListN.{length}
-use Rattle.search_ways.specs.Moves.{matrix_bytes}
+use mathlib.Core.Path.{refl}
 use Rattle.game_rounds.specs.Board.{Fits}
 use Rattle.game_answer.proofs.Laws.{fits, telling}
-use borrow.Author.Rules.{rules}
 use Rattle.game_answer.proofs.tell.Goals as goal
 use Rattle.game_answer.proofs.tell.Goals.{After-meeting-met}
 
@@ -13,23 +10,15 @@ board c =
     let a = c.args in
     let o = c.own-ours in
     let t = c.own-theirs in
-    let p : length o.result ≡ matrix_bytes = search rules in
-    let q : length t.result ≡ matrix_bytes = search rules in
-    fits a.m c.requires.0 c.requires.1 a.facts.now a.found c.requires.2 a.attacker.now a.guardian.now o.result t.result c.meeting-met.result o.ensures t.ensures c.meeting-met.ensures p q
-
-pub slice_bounds-own-end : goal.slice_bounds-own-end
-slice_bounds-own-end c = sym c.requires.2.moves.tabled
+    fits a.m c.requires.0 c.requires.1 a.facts.now a.found c.requires.2 a.attacker.now a.guardian.now o.result t.result c.meeting-met.result o.ensures t.ensures c.meeting-met.ensures
 
 pub own-ours-requires : goal.own-ours-requires
 own-ours-requires c =
-    let h = c.requires.2 in (c.requires.0, h.proper, h.whole, h.moves.tabled, h.moves.table)
-
-pub slice_bounds-own-end-2 : goal.slice_bounds-own-end-2
-slice_bounds-own-end-2 c = sym c.requires.2.moves.tabled
+    let h = c.requires.2 in (c.requires.0, h.proper, h.whole, h.moves.table)
 
 pub own-theirs-requires : goal.own-theirs-requires
 own-theirs-requires c =
-    let h = c.requires.2 in (c.requires.0, h.proper, h.whole, h.moves.tabled, h.moves.table)
+    let h = c.requires.2 in (c.requires.0, h.proper, h.whole, h.moves.table)
 
 pub meeting-met-requires : goal.meeting-met-requires
 meeting-met-requires c =
@@ -49,4 +38,4 @@ returns c =
     let t = c.own-theirs in
     let k = c.meeting-met in
     let v = c.solve-ranks in
-    (refl, telling a.m c.requires.0 c.requires.1 a.facts.now a.found c.requires.2 a.attacker.now a.guardian.now o.result t.result k.result o.ensures t.ensures k.ensures v.result (board (goal.at.returns c).After-meeting-met) v.ensures _ c.arranged-moves.ensures refl refl)
+    telling a.m c.requires.0 c.requires.1 a.facts.now a.found c.requires.2 a.attacker.now a.guardian.now o.result t.result k.result o.ensures t.ensures k.ensures v.result (board (goal.at.returns c).After-meeting-met) v.ensures _ c.arranged-moves.ensures refl refl

@@ -15,11 +15,11 @@ returns-then-attacks c =
     let a = c.args in
     let w = c.row in
     let v = c.vacant in
-    rw c.if-attacks.true (ready-some a.moves.now a.e a.n c.requires.0 a.ranks.now a.round w.result w.ensures v.result v.ensures c.requires.4 c.if-vacant.false c.some_sooner.result c.some_sooner.ensures)
+    rw c.if-attacks.true (ready-some a.moves.now a.e a.n c.requires.0 a.ranks.now a.round w.result w.ensures v.result v.ensures c.requires.2 c.if-vacant.false c.some_sooner.result c.some_sooner.ensures)
 
 pub returns : goal.returns
 returns c =
     let a = c.args in
     let w = c.row in
     let v = c.vacant in
-    rw c.if-attacks.false (ready-all a.moves.now a.e a.n c.requires.0 a.ranks.now a.round w.result w.ensures v.result v.ensures c.requires.4 c.if-vacant.false c.all_sooner.result c.all_sooner.ensures)
+    rw c.if-attacks.false (ready-all a.moves.now a.e a.n c.requires.0 a.ranks.now a.round w.result w.ensures v.result v.ensures c.requires.2 c.if-vacant.false c.all_sooner.result c.all_sooner.ensures)

@@ -1,20 +1,17 @@
-use mathlib.Core.Path.{◌≡◌}
-use native.Mathlib.Omega.{arith}
+use mathlib.Core.Path.{ap, ◌∙◌}
+use Prim.Native.Nat.{ℕ}
+use lib.Dec.{eqb}
 use lib.ListN.{length}
-use Rattle.handin.proofs.Laws.{line-start, line-more, line-found, line-all}
-use borrow.Author.Rules.{rules}
+use Rattle.std.proofs.Common.{rules, tests}
+use Rattle.std.specs.Prelude.{Option}
+use Rattle.std.specs.Option.{unwrap_or}
+use Rattle.std.proofs.lemmas.Iterator.{YieldsList-from_slice}
+use Rattle.std.proofs.lemmas.Iterator.Search.{position_from_yields_List}
+use Rattle.handin.proofs.Laws.{position-first}
 use Rattle.handin.proofs.line_end.Goals as goal
-
-pub loop-i-init : goal.loop-i-init
-loop-i-init c = line-start (search rules)
-
-pub returns-then-handin-i-eq10 : goal.returns-then-handin-i-eq10
-returns-then-handin-i-eq10 c = line-found c.loop-i.invariant (search rules) (search rules) c.if-handin-i-eq10.true
-
-pub loop-i-preserved : goal.loop-i-preserved
-loop-i-preserved c = line-more c.loop-i.invariant (search rules) c.if-handin-i-eq10.false
 
 pub returns : goal.returns
 returns c =
-    let e : c.loop-i.i ≡ length c.args.handin.now = omega (arith, c.loop-i.invariant.ends) in
-    rw e at (line-all c.loop-i.invariant (search rules) (search rules))
+    let s = c.args.left.now in
+    let found = position_from_yields_List (λ b. eqb b 10) _ _ c.position.result c.position.ensures.ran (YieldsList-from_slice s cc) (λ x b q k. search (rules, tests)) in
+    c.unwrap_or.ensures ∙ ap (λ (o : Option ℕ). unwrap_or o (length s)) found ∙ position-first s

@@ -2,4 +2,4 @@ use Rattle.handin_lines.proofs.Laws.{DigitsSo}
 use Rattle.handin_lines.proofs.read_digits.Given as goal
 
 abbrev pub invariant-loop-i : goal.invariant-loop-i
-invariant-loop-i l = DigitsSo l.line l.at l.value l.i
+invariant-loop-i l = DigitsSo l.line l.value l.i

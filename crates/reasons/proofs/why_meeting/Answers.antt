@@ -38,7 +38,7 @@ returns-then-beyond c = let a = c.args in
     no-object m (session_in states a.at) v a.work.now l.ready l.left a.first a.second a.third a.stage next (of-record m a.numbers.now a.literals.now (plainly m v (session_in states a.at) a.numbers.now a.literals.now a.slots.now a.work.now (meet a.stage (objects (a.first ∷ a.second ∷ a.third ∷ []))) l) a.at.met l.left c.stage_at-g.result c.stage_at-g.ensures (λ x y. length (objects (a.first ∷ a.second ∷ a.third ∷ [])) ≡ y.variables) (sym c.count.ensures ∙ c.if-count-g.false)) d.0 d.1 d.2
 
 pub any_swapped-requires : goal.any_swapped-requires
-any_swapped-requires c = let a = c.args in (few-variables c.requires.0 a.numbers.now a.literals.now (plainly c.requires.0 c.requires.1 (session_in c.requires.2 a.at) a.numbers.now a.literals.now a.slots.now a.work.now (meet a.stage (objects (a.first ∷ a.second ∷ a.third ∷ []))) c.requires.3) a.at.met c.requires.3.left c.stage_at-g.result c.stage_at-g.ensures, c.requires.3.numbered.long)
+any_swapped-requires c = let a = c.args in (few-variables c.requires.0 a.numbers.now a.literals.now (plainly c.requires.0 c.requires.1 (session_in c.requires.2 a.at) a.numbers.now a.literals.now a.slots.now a.work.now (meet a.stage (objects (a.first ∷ a.second ∷ a.third ∷ []))) c.requires.3) a.at.met c.requires.3.left c.stage_at-g.result c.stage_at-g.ensures)
 
 pub returns-then-any_swapped : goal.returns-then-any_swapped
 returns-then-any_swapped c = let a = c.args in

@@ -1,6 +1,5 @@
 use mathlib.Core.Path.{◌≡◌, sym, ap, ◌∙◌, subst}
 use Prim.Native.Nat.{ℕ}
-use native.Mathlib.Omega.{arith}
 use Rattle.semantics.specs.Models.{line, rule}
 use Rattle.semantics.specs.Runs.{step}
 use Rattle.model.specs.declared.Action.TheVariants.{Rule}

@@ -41,7 +41,7 @@ all_named-objects-requires c =
     let z = session_in c.requires.0.2 a.at in
     let l = c.requires.0.3 in
     let g = c.stage_at-g in
-    (few-variables m a.numbers.now a.literals.now (plainly m v z a.numbers.now a.literals.now a.slots.now a.work.now (meet a.stage (objects (a.first ∷ a.second ∷ a.third ∷ []))) l) a.at.met l.left g.result g.ensures, l.numbered.long, λ x. chosen-small a.first a.second a.third x c.requires.1 c.requires.2 c.requires.3)
+    (few-variables m a.numbers.now a.literals.now (plainly m v z a.numbers.now a.literals.now a.slots.now a.work.now (meet a.stage (objects (a.first ∷ a.second ∷ a.third ∷ []))) l) a.at.met l.left g.result g.ensures, λ x. chosen-small a.first a.second a.third x c.requires.1 c.requires.2 c.requires.3)
 
 pub returns-then-not-all_agree-clause-tried_by : goal.returns-then-not-all_agree-clause-tried_by
 returns-then-not-all_agree-clause-tried_by c =

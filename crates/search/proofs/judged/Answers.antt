@@ -5,7 +5,7 @@ use Rattle.search.proofs.judged.Goals as goal
 pub fill-levels-requires : goal.fill-levels-requires
 fill-levels-requires c =
     let a = c.args in
-    (c.requires.0, surveyed-exactly a.m a.work.now a.e c.requires.1, c.requires.1.moves.closed, c.requires.2)
+    (c.requires.0, surveyed-exactly a.m a.work.now a.explored c.requires.1, c.requires.2)
 
 pub returns : goal.returns
 returns c = record { explored = refl; levels = c.fill-levels.ensures; entered = c.entered-reached.ensures }

@@ -10,14 +10,14 @@ use Rattle.search.proofs.tables.Goals as goal
 
 pub steps-requires : goal.steps-requires
 steps-requires c =
-    (c.requires.0, c.requires.2.proper, search rules, c.takes.ensures c.args.s c.requires.2, search rules)
+    (c.requires.0, c.requires.2.proper, c.takes.ensures c.args.s c.requires.2)
 
 pub close-requires : goal.close-requires
 close-requires c =
     let a = c.args in
     let k = c.steps in
     let few : a.s.count ≤ limit.listed = omega (arith, c.requires.2.proper.count) in
-    (few, search rules, between-inside a.s.count k.new.ways (OneStep (program_of a.m) (row a.s)) k.ensures)
+    (few, between-inside a.s.count k.new.ways (OneStep (program_of a.m) (row a.s)) k.ensures)
 
 pub returns : goal.returns
 returns c =

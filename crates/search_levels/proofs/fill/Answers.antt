@@ -12,7 +12,7 @@ use Rattle.model.specs.Records.{stage_at}
 use Rattle.facts_bits.proofs.Laws.{with-bit-length}
 use Rattle.search_states.specs.States.{row}
 use Rattle.search_states.proofs.Laws.{length-row}
-use Rattle.search_levels.specs.declared.Pointing.{Pointing}
+use Rattle.std.specs.Prelude.{Option}
 use Rattle.search_levels.specs.declared.Meeting.{Meeting}
 use Rattle.search_levels.specs.Levels.{levels_bytes, chosen, pair_at, Passed}
 use Rattle.search_levels.specs.Passing.{besides, Led, Met, Ready, meeting_of, Clear}
@@ -38,7 +38,7 @@ pub asked-t-requires : goal.asked-t-requires
 asked-t-requires c = numbers-long c.args.m c.requires.0 c.loop-k.k c.loop-k-test.true
 
 -- the stage as it is asked
-same-meeting : (g : Stage) (cells : List ℕ) (a a' b b' : Bool) (p p' : Pointing) → a ≡ a' → b ≡ b' → p ≡ p' → meeting_of g cells a b p ≡ meeting_of g cells a' b' p'
+same-meeting : (g : Stage) (cells : List ℕ) (a a' b b' : Bool) (p p' : Option (List ℕ)) → a ≡ a' → b ≡ b' → p ≡ p' → meeting_of g cells a b p ≡ meeting_of g cells a' b' p'
 same-meeting g cells a a' b b' p p' e f h = rw (e, f, h)
 
 met-as : (c : After-asked-t) → let a = c.args in let k = c.loop-k.k in c.asked-t.result ≡ meeting_of (stage_at a.m k) a.m.carried (chosen a.m 0 k) (chosen a.m 1 k) (besides a.p k)
@@ -55,7 +55,7 @@ pass-requires c =
     let here = c.loop-k-test.true in
     let slots = c.slots-slots.result in
     let few : a.s.count ≤ limit.listed = omega (arith, c.requires.1.proper.count) in
-    (subst (λ (t : Meeting). Ready a.work.now slots a.s.count a.m.literals t) (sym (met-as (goal.at.pass-requires c).After-asked-t)) (stage-ready a.m c.requires.0 l.k here a.p c.requires.3 a.work.now slots a.s.count c.requires.1.agree l.invariant.0 few), c.requires.2, l.invariant.1, omega (arith, c.requires.0.stages, here), l.invariant.4)
+    (subst (λ (t : Meeting). Ready a.work.now slots a.s.count a.m.literals t) (sym (met-as (goal.at.pass-requires c).After-asked-t)) (stage-ready a.m c.requires.0 l.k here a.p c.requires.2 a.work.now slots a.s.count c.requires.1.agree l.invariant.0 few), omega (arith, c.requires.0.stages, here), l.invariant.4)
 
 pub loop-k-preserved : goal.loop-k-preserved
 loop-k-preserved c =
@@ -74,7 +74,7 @@ loop-k-preserved c =
       (λ u v g h. let b = l.invariant.5 u v g h in let z = w.kept (limit.listed * 0 + v) u (omega (arith, h)) g in ((λ q. b.0 (sym z ∙ q)), λ q. z ∙ b.1 q)),
       λ S R n. subst (λ (k : ℕ). (j : ℕ) → j < k → Passed a.m S a.work.now a.ways.now a.p j (pair_at new j) (pair_at new (suc j))) e
           (passed-more a.m S a.work.now a.ways.now a.p l.k l.rows new w.kept (l.invariant.6 S R n)
-          (passed-stage a.m c.requires.0 l.k here a.p c.requires.3 S a.work.now a.ways.now l.rows new
+          (passed-stage a.m c.requires.0 l.k here a.p c.requires.2 S a.work.now a.ways.now l.rows new
           (subst (λ (t : Meeting). (u v : ℕ) → u < limit.listed → v < limit.listed → (pair_at new (suc l.k) u v ≡ true) ↔ (Led a.ways.now t (pair_at l.rows l.k) u v × Met S a.work.now a.m.literals t u v)) (met-as (goal.at.loop-k-preserved c).After-asked-t) (p.ensures.1 S R n)))),
     )
 

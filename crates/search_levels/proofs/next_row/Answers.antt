@@ -7,12 +7,12 @@ use Rattle.search_levels.proofs.next_row.Goals as goal
 pub returns-then-not-t : goal.returns-then-not-t
 returns-then-not-t c =
     let a = c.args in
-    λ S R n. paired-all S a.work.now a.literals.now a.ways.now a.t (pair_at a.rows.now a.k) a.f c.led-pairs.result a.able c.both-row.result c.led-pairs.ensures (c.requires.5 S R n) c.both-row.ensures (not-true c.args.t.second.stands c.if-not-t.true)
+    λ S R n. paired-all S a.work.now a.literals.now a.ways.now a.t (pair_at a.rows.now a.k) a.f c.led-pairs.result a.able c.both-row.result c.led-pairs.ensures (c.requires.3 S R n) c.both-row.ensures (not-true c.args.t.second.stands c.if-not-t.true)
 
 pub returns-then-f-n : goal.returns-then-f-n
 returns-then-f-n c =
     let a = c.args in
-    λ S R n. paired-met S a.work.now a.literals.now a.ways.now a.t (pair_at a.rows.now a.k) a.f c.led-pairs.result a.able c.both-row.result c.led-pairs.ensures (c.requires.5 S R n) c.both-row.ensures c.met.result (c.met.ensures S R n)
+    λ S R n. paired-met S a.work.now a.literals.now a.ways.now a.t (pair_at a.rows.now a.k) a.f c.led-pairs.result a.able c.both-row.result c.led-pairs.ensures (c.requires.3 S R n) c.both-row.ensures c.met.result (c.met.ensures S R n)
 
 pub returns : goal.returns
 returns c =

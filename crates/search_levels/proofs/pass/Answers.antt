@@ -1,4 +1,4 @@
-use mathlib.Core.Path.{◌≡◌, sym, ◌∙◌, subst}
+use mathlib.Core.Path.{◌≡◌, sym, subst}
 use Prim.Native.Nat.{ℕ, suc, ◌+◌, ◌*◌, ◌<◌}
 use native.Mathlib.Omega.{arith}
 use Rattle.limits.specs.Limits as limit
@@ -15,7 +15,7 @@ use Rattle.search_levels.proofs.pass.Goals.{After-hopeful-able, At-loop-f}
 pub loop-f-init : goal.loop-f-init
 loop-f-init c =
     let a = c.args in
-    (written_none (limit.listed * suc a.k) a.rows.now c.requires.4, λ S R n e g l q. absurd (omega (arith, q)))
+    (written_none (limit.listed * suc a.k) a.rows.now c.requires.2, λ S R n e g l q. absurd (omega (arith, q)))
 
 -- level k is as it was
 before_same : (c : At-loop-f) → (u v : ℕ) → u < limit.listed → v < limit.listed → pair_at c.loop-f.rows c.args.k u v ≡ pair_at c.args.rows.now c.args.k u v
@@ -26,9 +26,7 @@ next_row-row-requires c =
     let a = c.args in
     let l = c.loop-f in (
       c.requires.0,
-      c.requires.1,
-      l.invariant.0.long ∙ c.requires.2,
-      omega (arith, c.requires.3),
+      omega (arith, c.requires.1),
       c.loop-f-test.true,
       λ S R n.
           has-so c.hopeful-able.result (Hopeful S a.work.now a.literals.now a.ways.now a.t (pair_at a.rows.now a.k)) (Hopeful S a.work.now a.literals.now a.ways.now a.t (pair_at l.rows a.k))
@@ -43,9 +41,9 @@ pub loop-f-preserved : goal.loop-f-preserved
 loop-f-preserved c =
     let a = c.args in
     let l = c.loop-f in
-    let j = c.join in
+    let j = c.widen in
     let at : limit.listed * (a.k + 1) + l.f ≡ limit.listed * suc a.k + l.f = omega arith in
-    let joined = subst (λ (i : ℕ). Joined l.rows i c.next_row-row.result j.new.work) at j.ensures in (
+    let joined = subst (λ (i : ℕ). Joined l.rows i c.next_row-row.result j.new.work) at j.ensures.1 in (
       written-more (limit.listed * suc a.k) l.f a.rows.now l.rows l.invariant.0 c.next_row-row.result j.new.work joined j.auto.work,
       λ S R n. rows_more (limit.listed * suc a.k) l.f a.rows.now l.rows l.invariant.0 c.next_row-row.result j.new.work joined
           (Paired S a.work.now a.literals.now a.ways.now a.t a.rows.now a.k)
@@ -57,9 +55,6 @@ loop-f-preserved c =
           (c.next_row-row.ensures S R n))
           (l.invariant.1 S R n),
     )
-
-pub shape_of-rows : goal.shape_of-rows
-shape_of-rows c = c.loop-f.invariant.0.long
 
 pub returns : goal.returns
 returns c =

@@ -1,17 +1,21 @@
-use mathlib.Core.Path.{refl}
-use Prim.Native.Nat.{◌<◌}
-use native.Mathlib.Omega.{arith}
-use Rattle.facts_bits.specs.Width as width
-use Rattle.search_levels.proofs.Aiming.{fits-here, none_more}
+use mathlib.Core.Path.{◌≡◌, refl}
+use mathlib.Core.Bool.{false≢true}
+use borrow.Author.Rules.{rules}
+use Rattle.search_levels.proofs.Aiming.{none-begins, fits-here, none_more, none-fits}
 use Rattle.search_levels.proofs.somewhere.Goals as goal
+
+pub loop-e-init : goal.loop-e-init
+loop-e-init c =
+    let a = c.args in
+    let at : c.into_iter-e-iterator.result.at ≡ 0 = search rules in
+    (search rules, λ S R m. rw at (none-begins S a.work.now a.literals.now a.part a.c a.row))
 
 pub returns-then-shows : goal.returns-then-shows
 returns-then-shows c =
     let a = c.args in
-    let l = c.loop-e in
-    let small : l.e < width.slots = omega (arith, c.loop-e-test.true, l.invariant.1.few) in
-    λ S R n. (
-      (λ q. fits-here S a.work.now a.literals.now a.part a.c a.row l.invariant.2 l.invariant.1.body l.invariant.3 l.e small c.choose-one.result c.choose-one.ensures c.shows.result (c.shows.ensures S R n) c.if-shows.true (l.invariant.4 small)),
+    let n = rw c.loop-e.invariant.0 at c.in-Some.ensures.steps.2 in
+    λ S R m. (
+      (λ q. fits-here S a.work.now a.literals.now a.part a.c a.row c.requires.1 c.requires.0.body c.requires.2 c.in-Some.e n.most c.choose-one.result c.choose-one.ensures c.shows.result (c.shows.ensures S R m) c.if-shows.true n.set),
       λ q. refl,
     )
 
@@ -19,11 +23,19 @@ pub loop-e-preserved : goal.loop-e-preserved
 loop-e-preserved c =
     let a = c.args in
     let l = c.loop-e in
-    let small : l.e < width.slots = omega (arith, c.loop-e-test.true, l.invariant.1.few) in (
-      c.next-e-in-loop-e.ensures.most,
-      l.invariant.1,
-      l.invariant.2,
-      l.invariant.3,
-      c.next-e-in-loop-e.ensures.set,
-      λ S R n. none_more S a.work.now a.literals.now a.part a.c a.row l.invariant.2 l.invariant.1.body l.invariant.3 l.e small c.choose-one.result c.choose-one.ensures c.shows.result (c.shows.ensures S R n) c.if-shows.false (l.invariant.5 S R n) c.next-e-in-loop-e.result c.next-e-in-loop-e.ensures,
+    let g = c.in-Some.ensures.steps in
+    let n = rw l.invariant.0 at g.2 in (
+      rw g.0 l.invariant.0,
+      λ S R m. rw g.1
+          (none_more S a.work.now a.literals.now a.part a.c a.row c.requires.1 c.requires.0.body c.requires.2 c.in-Some.e n.most c.choose-one.result c.choose-one.ensures c.shows.result (c.shows.ensures S R m) c.if-shows.false l.e-iterator.at (l.invariant.1 S R m) n),
+    )
+
+pub returns : goal.returns
+returns c =
+    let a = c.args in
+    let l = c.loop-e in
+    let none = rw l.invariant.0 at c.in-None.ensures.steps in
+    λ S R m. (
+      (λ q. absurd (false≢true q)),
+      λ q. absurd (none-fits S a.work.now a.literals.now a.part a.c a.row c.requires.1 c.requires.0.body l.e-iterator.at (rw m c.requires.0.few) (l.invariant.1 S R m) none q),
     )

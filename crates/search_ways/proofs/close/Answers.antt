@@ -1,6 +1,7 @@
-use mathlib.Core.Path.{◌≡◌, ◌∙◌, subst}
+use mathlib.Core.Path.{◌≡◌, subst}
 use Prim.Native.Nat.{ℕ}
 use native.Mathlib.Omega.{arith}
+use borrow.Author.Rules.{rules}
 use native.Mathlib.Numerals.{add-one}
 use Rattle.search_ways.specs.Moves.{Marks}
 use Rattle.search_ways.proofs.Closing.{Via, via-more, via-all}
@@ -10,8 +11,8 @@ pub loop-k-preserved : goal.loop-k-preserved
 loop-k-preserved c =
     let a = c.args in
     let l = c.loop-k in (
-      c.pass.auto.ways ∙ l.invariant.0,
-      rw (add-one l.k) (via-more a.ways.now a.n c.requires.0 c.requires.2 l.k (omega arith) l.ways _ l.invariant.1 c.pass.ensures),
+      search rules,
+      rw (add-one l.k) (via-more a.ways.now a.n c.requires.0 c.requires.1 l.k (omega arith) l.ways _ l.invariant.1 c.pass.ensures),
     )
 
 pub returns : goal.returns
@@ -19,4 +20,4 @@ returns c =
     let a = c.args in
     let l = c.loop-k in
     let e : l.k ≡ a.n = omega arith in
-    via-all a.ways.now a.n c.requires.0 c.requires.2 l.ways (subst (λ (k : ℕ). Marks l.ways (Via a.ways.now k)) e l.invariant.1)
+    via-all a.ways.now a.n c.requires.0 c.requires.1 l.ways (subst (λ (k : ℕ). Marks l.ways (Via a.ways.now k)) e l.invariant.1)

@@ -16,10 +16,10 @@ pub returns-in-Some : goal.returns-in-Some
 returns-in-Some c =
     let a = c.args in
     let q = sym (found (goal.at.returns-in-Some c).After-position) ∙ c.in-Some.is in
-    rw c.put.ensures (led-one a.states.now c.requires.0 c.requires.1 a.plus a.minus a.e c.requires.2 a.ways.now c.requires.3 c.in-Some.t (rw c.relabel-led.ensures at q))
+    rw c.put.ensures (led-one a.states.now c.requires.0 c.requires.1 a.plus a.minus a.e c.requires.2 a.ways.now (search rules) c.in-Some.t (rw c.relabel-led.ensures at q))
 
 pub returns-in_default : goal.returns-in_default
 returns-in_default c =
     let a = c.args in
     let q = sym (found (goal.at.returns-in_default c).After-position) ∙ c.in_default.is in
-    led-none a.states.now c.requires.0 c.requires.1 a.plus a.minus a.e c.requires.2 a.ways.now c.requires.3 (rw c.relabel-led.ensures at q)
+    led-none a.states.now c.requires.0 c.requires.1 a.plus a.minus a.e c.requires.2 a.ways.now (search rules) (rw c.relabel-led.ensures at q)

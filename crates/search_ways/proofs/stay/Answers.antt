@@ -13,5 +13,5 @@ loop-e-preserved c =
     let p = c.put.ensures in (
       ap length p ∙ (with-bit-length l.ways _ ∙ l.invariant.0),
       rw p (upto-more a.n (λ (k t : ℕ). k ≡ t) l.e (λ (t : ℕ). l.e ≡ t) (λ t h. ((λ x. x), λ x. x)) a.ways.now l.ways _ l.invariant.1
-          (row_put l.ways l.e a.n l.e (λ (t : ℕ). l.e ≡ t) (omega arith) (omega (arith, c.requires.0)) (omega (arith, c.requires.0, l.invariant.0)) refl (λ u h q. sym q))),
+          (row_put l.ways l.e a.n l.e (λ (t : ℕ). l.e ≡ t) (omega arith) (omega (arith, c.requires)) (omega (arith, c.requires, l.invariant.0)) refl (λ u h q. sym q))),
     )

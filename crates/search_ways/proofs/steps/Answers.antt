@@ -1,6 +1,7 @@
-use mathlib.Core.Path.{◌≡◌, ◌∙◌, subst}
+use mathlib.Core.Path.{◌≡◌, subst}
 use Prim.Native.Nat.{ℕ}
 use native.Mathlib.Omega.{arith}
+use borrow.Author.Rules.{rules}
 use Rattle.search_states.specs.States.{row}
 use Rattle.search_states.proofs.Laws.{length-row}
 use Rattle.search_ways.specs.Moves.{Marks}
@@ -11,13 +12,13 @@ use Rattle.search_ways.proofs.steps.Goals as goal
 pub loop-i-init : goal.loop-i-init
 loop-i-init c =
     let a = c.args in
-    (c.stay.auto.ways ∙ (c.fill.ensures.len ∙ c.requires.4), led-start a.m (row a.s) a.s.count a.table.now _ _ (marks-zero c.fill.new.self _ c.fill.ensures.len c.fill.ensures.clones) c.stay.ensures)
+    (search rules, led-start a.m (row a.s) a.s.count a.table.now _ _ (marks-zero c.fill.new.self _ c.fill.ensures.len c.fill.ensures.clones) c.stay.ensures)
 
 pub loop-i-preserved : goal.loop-i-preserved
 loop-i-preserved c =
     let a = c.args in
     let l = c.loop-i in (
-      c.lead_clause.auto.ways ∙ l.invariant.0,
+      search rules,
       led-more a.m (row a.s) a.s.count a.table.now l.i l.ways _ l.invariant.1 (rw (length-row a.s c.requires.1) at c.lead_clause.ensures),
     )
 
@@ -26,5 +27,5 @@ returns c =
     let a = c.args in
     let l = c.loop-i in
     let e : l.i ≡ a.m.clausecount = omega arith in
-    led-all a.m c.requires.0 a.s c.requires.1 a.table.now c.requires.3 l.ways
+    led-all a.m c.requires.0 a.s c.requires.1 a.table.now c.requires.2 l.ways
     (subst (λ (k : ℕ). Marks l.ways (LedTo a.m (row a.s) a.s.count a.table.now k)) e l.invariant.1)

@@ -1,57 +1,24 @@
-use mathlib.Core.Path.{◌≡◌, refl, sym, ap, ◌∙◌}
-use mathlib.Core.Bool.{Bool, false}
-use Prim.Native.Nat.{ℕ}
+use mathlib.Core.Path.{refl, sym, ◌∙◌}
 use lib.Dec.{ltb}
 use lib.ListN.{length}
 use borrow.Author.Tests.{ltb-false}
+use Rattle.std.proofs.lemmas.Result.{err_from_is_err_and}
 use Rattle.limits.specs.Limits as limit
 use Rattle.semantics.proofs.Tools.{or-false}
-use Rattle.grammar.specs.Texts.{outcome}
-use Rattle.calls.specs.Calls.{early, called, short}
-use Rattle.calls.proofs.Laws.{called-early, called-lines, sizes}
-use Rattle.text.proofs.Laws.{is-refused}
-use Rattle.shortest.proofs.Laws.{good-model, leaves}
+use Rattle.text.proofs.Laws.{not-short, called-well-formed}
 use Rattle.shortest.proofs.way.Goals as goal
-use Rattle.shortest.proofs.way.Goals.{Else-row-ne0}
 
--- the row before the lines
-row : (t w r v : ℕ) (b : Bool) → v ≡ early t b false → b ≡ short w r → v ≡ early t (short w r) false
-row t w r v b e s = e ∙ ap (λ (b : Bool). early t b false) s
-
--- without one the buffers have their sizes, and the lines are read
-none : (c : Else-row-ne0) → let a = c.args in early (length a.text.now) (short (length a.work.now) (length a.run.now)) false ≡ 0
-none c = let a = c.args in sym (row (length a.text.now) (length a.work.now) (length a.run.now) _ _ c.early-row.ensures c.short.ensures) ∙ c.if-row-ne0.false
-
-lines : (c : Else-row-ne0) → let a = c.args in called a.text.now (short (length a.work.now) (length a.run.now)) false ≡ outcome a.text.now
-lines c = let a = c.args in called-lines a.text.now (short (length a.work.now) (length a.run.now)) false (none c)
-
-pub returns-then-row-ne0 : goal.returns-then-row-ne0
-returns-then-row-ne0 c =
-    let a = c.args in
-    let e = row (length a.text.now) (length a.work.now) (length a.run.now) _ _ c.early-row.ensures c.short.ensures in
-    rw (called-early a.text.now (short (length a.work.now) (length a.run.now)) false (λ z. c.if-row-ne0.true (e ∙ z)), ← e) (refl, refl, refl)
-
-pub returns-in-Refused : goal.returns-in-Refused
-returns-in-Refused c =
-    let a = c.args in
-    let r = c.read-reading in
-    rw (lines (goal.at.returns-in-Refused c).Else-row-ne0, is-refused a.text.now r.result (outcome a.text.now) c.in-Refused.number c.in-Refused.line r.ensures c.in-Refused.is) (refl, refl, refl)
+pub returns-in_err-m : goal.returns-in_err-m
+returns-in_err-m c =
+    let p = err_from_is_err_and c.from_residual.result c.from_residual.ensures.1 in
+    rw (p.1, p.2, ← c.short.ensures, c.in_err-m.ensures) ((refl, refl), refl, refl)
 
 pub decide-requires : goal.decide-requires
 decide-requires c =
     let a = c.args in
-    let r = c.read-reading in
-    let s = sizes (length a.text.now) (short (length a.work.now) (length a.run.now)) false (none (goal.at.decide-requires c).Else-row-ne0) in
-    let l = or-false (ltb (length a.work.now) limit.work) (ltb (length a.run.now) limit.run) s.0 in (
-      good-model a.text.now r.result r.ensures c.in_default.is,
-      ltb-false (length a.work.now) limit.work l.0,
-      ltb-false (length a.run.now) limit.run l.1,
-    )
+    let r = c.in_ok-m.ensures in
+    let l = or-false (ltb (length a.work.now) limit.work) (ltb (length a.run.now) limit.run) (sym c.short.ensures ∙ not-short a.text.now _ _ _ r) in
+    (called-well-formed a.text.now _ _ _ r, ltb-false (length a.work.now) limit.work l.0, ltb-false (length a.run.now) limit.run l.1)
 
 pub returns : goal.returns
-returns c =
-    let a = c.args in
-    let r = c.read-reading in
-    let d = c.decide in
-    rw (lines (goal.at.returns c).Else-row-ne0)
-    (leaves a.text.now r.result r.ensures c.in_default.is a.from a.to a.work.now a.run.now _ _ d.result d.ensures)
+returns c = rw (← c.short.ensures, c.in_ok-m.ensures.says) c.decide.ensures

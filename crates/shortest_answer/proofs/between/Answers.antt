@@ -13,8 +13,8 @@ returns-then-not-get c =
     let g = c.get in
     ((λ q. clash ((c.requires.0.comes.bits a.from a.to small).1 (c.requires.1, c.requires.2, q)) (sym g.ensures ∙ c.if-not-get.true)), refl)
 
-pub way-steps-requires : goal.way-steps-requires
-way-steps-requires c =
+pub way-requires : goal.way-requires
+way-requires c =
     let a = c.args in
     let m = c.requires.0 in
     let small : a.to < width.slots = omega (arith, c.requires.2, m.proper.count) in
@@ -22,9 +22,7 @@ way-steps-requires c =
       m.model,
       m.proper,
       m.whole,
-      m.tabled,
       m.moves,
-      m.stepped,
       m.single,
       c.requires.1,
       c.requires.2,
@@ -34,4 +32,4 @@ way-steps-requires c =
 
 pub returns : goal.returns
 returns c =
-    let a = c.args in let w = c.way-steps in shortest-fewest a.m a.s a.from a.to a.run.now _ w.result w.ensures
+    let a = c.args in let w = c.way in shortest-fewest a.m a.s a.from a.to a.run.now _ w.result w.ensures

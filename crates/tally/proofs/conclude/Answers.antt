@@ -1,23 +1,20 @@
 use native.Mathlib.Omega.{arith}
-use Rattle.tally.proofs.Laws.{ones-most, answers-crowded, answers-tally}
+use Rattle.tally.proofs.Laws.{ones-most, tallied}
 use Rattle.tally.proofs.conclude.Goals as goal
-
-pub returns-then-t : goal.returns-then-t
-returns-then-t c = λ P Q L once f. answers-crowded P Q L c.args.t f c.if-t.true
 
 pub overflow_cast-total : goal.overflow_cast-total
 overflow_cast-total c = omega (arith, c.requires.0)
 
 pub overflow_sub-result : goal.overflow_sub-result
-overflow_sub-result c = let t = c.args.t in omega (arith, c.reached-reached.ensures, ones-most t.said t.total)
+overflow_sub-result c = let t = c.args.c.table in omega (arith, c.reached-reached.ensures, ones-most t.said t.total)
 
 pub hundredths-requires : goal.hundredths-requires
-hundredths-requires c = (omega (arith, c.reached-reached.ensures, ones-most c.args.t.said c.args.t.total, c.requires.0), c.requires.1)
+hundredths-requires c = let t = c.args.c.table in (omega (arith, c.reached-reached.ensures, ones-most t.said t.total, c.requires.0), c.requires.1)
 
 pub rest-requires : goal.rest-requires
-rest-requires c = (omega (arith, c.reached-reached.ensures, ones-most c.args.t.said c.args.t.total, c.requires.0), c.requires.1)
+rest-requires c = let t = c.args.c.table in (omega (arith, c.reached-reached.ensures, ones-most t.said t.total, c.requires.0), c.requires.1)
 
 pub returns : goal.returns
-returns c = λ P Q L once f.
+returns c = λ P Q L d.
     let r = c.reached-reached in
-    rw (c.hundredths.ensures, c.rest.ensures) (answers-tally P Q L c.args.t once c.if-t.false f r.result r.ensures)
+    rw (c.hundredths.ensures, c.rest.ensures) (tallied P Q L c.args.c.table d.once d.filled r.result r.ensures)

@@ -1,16 +1,13 @@
-use mathlib.Core.Path.{sym, ◌∙◌}
-use borrow.Author.Tests.{ne_eqb}
-use Rattle.rows.proofs.Laws.{row-some, row-none}
-use Rattle.text_ask.specs.Asks.{finished}
-use Rattle.text_ask.proofs.Ending.{finish-many, finish-carries}
+use mathlib.Core.Path.{sym, ap, ◌∙◌}
+use Rattle.text_faults.proofs.Laws.{passed}
+use Rattle.text_ask.specs.Asks.{carrying_cells, finished}
 use Rattle.text_ask.proofs.finish.Goals as goal
 
-pub returns-then-is_some : goal.returns-then-is_some
-unfolding finished
-returns-then-is_some c = simp (ne_eqb _ _ (row-some c.args.s.row (sym c.is_some.ensures ∙ c.if-is_some.true)))
+pub returns-in_err-asking : goal.returns-in_err-asking
+returns-in_err-asking c = let p = passed c.in_err-asking.was c.from_residual.ensures.1 in p.1 ∙ sym (ap finished p.2)
 
-pub returns-then-c : goal.returns-then-c
-returns-then-c c = finish-many c.args.s (row-none c.args.s.row (sym c.is_some.ensures ∙ c.if-is_some.false)) c.carried-c.ensures c.if-c.true
+pub returns-in_default : goal.returns-in_default
+returns-in_default c = sym (ap finished c.in_ok-asking.was ∙ ap (carrying_cells c.in_ok-asking.asking.model) (sym c.carried.ensures ∙ c.in_default.is))
 
 pub returns : goal.returns
-returns c = finish-carries c.args.s (row-none c.args.s.row (sym c.is_some.ensures ∙ c.if-is_some.false)) c.carried-c.ensures c.if-c.false
+returns c = sym (ap finished c.in_ok-asking.was ∙ ap (carrying_cells c.in_ok-asking.asking.model) (sym c.carried.ensures ∙ c.in-Some.is))

@@ -1,11 +1,13 @@
-use borrow.Author.Tests.{lt-ltb, le-ltb}
-use Rattle.text_carried.specs.Asking.{met}
+use native.Mathlib.Omega.{arith}
+use Rattle.text_carried.proofs.Laws.{met-below, met-known, met-fresh}
+use borrow.Author.Rules.{rules}
 use Rattle.text_carried.proofs.meet.Goals as goal
 
-pub returns-then-i-t : goal.returns-then-i-t
-unfolding met
-returns-then-i-t c = simp (lt-ltb _ _ c.if-i-t.true)
+pub mark-table-requires : goal.mark-table-requires
+mark-table-requires c = (search rules, omega (arith, met-below c.args.text.now c.args.t c.args.a c.args.e c.requires.0 c.in-Some.ensures, c.requires.0.count))
+
+pub returns-in-Some : goal.returns-in-Some
+returns-in-Some c = rw c.mark-table.ensures (met-known c.args.text.now c.args.t c.args.a c.args.e c.requires.0 c.in-Some.ensures)
 
 pub returns : goal.returns
-unfolding met
-returns c = simp (le-ltb _ _ c.if-i-t.false)
+returns c = rw c.add-table.ensures (met-fresh c.args.text.now c.args.t c.args.a c.args.e c.requires.0 c.in_default.ensures c.requires.3 c.requires.1 c.requires.2)

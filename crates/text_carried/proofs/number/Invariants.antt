@@ -1,4 +1,3 @@
-use mathlib.Core.Path.{◌≡◌}
 use mathlib.Core.List.{List}
 use Prim.Native.Nat.{◌+◌, ◌≤◌}
 use Rattle.grammar.specs.Bytes.{Word}

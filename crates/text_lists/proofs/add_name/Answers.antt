@@ -1,12 +1,10 @@
-use mathlib.Core.Path.{◌∙◌, ap}
-use Rattle.semantics.specs.Labels.{union}
-use Rattle.text_lists.proofs.Laws.{state-added, other-added, bit-of}
-use lib.Bits.{bit_or}
+use Rattle.text_names.specs.Names.{declared_of}
+use Rattle.text_faults.proofs.Laws.{passed}
+use Rattle.text_lists.proofs.Laws.{name-faulty, name-added}
 use Rattle.text_lists.proofs.add_name.Goals as goal
 
-pub returns-then-code-lt32 : goal.returns-then-code-lt32
-unfolding union
-returns-then-code-lt32 c = state-added c.find-code.result c.find-code.ensures.1 (c.lower_of-lowest.ensures ∙ rw c.name_fault-number.ensures) c.if-code-lt32.true (ap (bit_or c.args.s.set) (bit-of c.find-code.result c.if-code-lt32.true))
+pub returns-in_err-set : goal.returns-in_err-set
+returns-in_err-set c = let p = passed c.in_err-set.was c.from_residual.ensures.1 in rw p.1 (name-faulty c.args.text.now (declared_of c.args.text.now c.args.d) c.args.a c.args.e c.find.ensures.1 c.state_code-code.ensures c.both.ensures p.0 p.2)
 
 pub returns : goal.returns
-returns c = other-added c.find-code.result c.find-code.ensures.1 (c.lower_of-lowest.ensures ∙ rw c.name_fault-number.ensures) c.if-code-lt32.false
+returns c = name-added c.args.text.now (declared_of c.args.text.now c.args.d) c.args.a c.args.e c.find.ensures.1 c.state_code-code.ensures c.both.ensures c.in_ok-set.set c.in_ok-set.c c.in_ok-set.was

@@ -1,4 +1,4 @@
-use mathlib.Core.Path.{◌≡◌, refl, ◌∙◌}
+use mathlib.Core.Path.{◌≡◌, ◌∙◌}
 use native.Mathlib.Omega.{arith}
 use Rattle.text_names.proofs.Laws.{tally-hit, tally-miss}
 use borrow.Author.Rules.{rules}
@@ -10,7 +10,7 @@ loop-i-preserved c = let v = c.loop-i.invariant in let a = c.args in (
   v.0,
   v.1,
   elim (c.if-d-i.branch) [ then-d-i w ↦ omega arith | else-d-i w ↦ omega arith ],
-  elim (c.if-d-i.branch) [ then-d-i w ↦ w.sum-is ∙ tally-hit a.k a.d.codes c.loop-i.i c.loop-i.sum v.3 w.if-d-i.true | else-d-i w ↦ w.sum-is ∙ tally-miss a.k a.d.codes c.loop-i.i c.loop-i.sum v.3 w.if-d-i.false ],
+  elim (c.if-d-i.branch) [ then-d-i w ↦ w.sum-is ∙ tally-hit a.k a.d.names c.loop-i.i c.loop-i.sum v.3 w.if-d-i.true | else-d-i w ↦ w.sum-is ∙ tally-miss a.k a.d.names c.loop-i.i c.loop-i.sum v.3 w.if-d-i.false ],
 )
 
 pub returns : goal.returns

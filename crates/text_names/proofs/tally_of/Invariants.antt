@@ -6,4 +6,4 @@ use Rattle.text_names.specs.Names.{tally}
 use Rattle.text_names.proofs.tally_of.Given as goal
 
 abbrev pub invariant-loop-i : goal.invariant-loop-i
-invariant-loop-i l = (l.d.count ≤ limit.declared) × (length l.d.codes ≡ limit.declared) × (l.sum ≤ l.i) × (l.sum ≡ tally l.k l.d.codes l.i)
+invariant-loop-i l = (l.d.count ≤ limit.declared) × (length l.d.names ≡ limit.declared) × (l.sum ≤ l.i) × (l.sum ≡ tally l.k l.d.names l.i)

@@ -9,4 +9,4 @@ use Rattle.text_scope.specs.Scopes.{variable, Valid}
 use Rattle.text_scope.proofs.find.Given as goal
 
 abbrev pub invariant-loop-i : goal.invariant-loop-i
-invariant-loop-i l = Valid l.text l.s × (l.a ≤ l.e) × (l.e ≤ length l.text) × (member (slice l.a l.e l.text) (list_of l.i (variable l.text l.s)) ≡ false)
+invariant-loop-i g l = Valid l.text l.s × (l.a ≤ l.e) × (l.e ≤ length l.text) × (member (slice l.a l.e l.text) (list_of l.i (variable l.text l.s)) ≡ false)

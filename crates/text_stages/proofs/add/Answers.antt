@@ -1,19 +1,18 @@
-use mathlib.Core.Path.{refl, sym, ◌∙◌}
-use Rattle.rows.proofs.Laws.{row-some, row-none}
-use Rattle.text_stages.proofs.Adding.{scope-known, added-fault, number-ready, stage-ready, added-stage}
+use Rattle.text_faults.proofs.Laws.{passed}
+use Rattle.text_stages.proofs.Adding.{frame-known, added-fault, number-ready, stage-ready, added-stage}
 use Rattle.text_stages.proofs.add.Goals as goal
 
-pub final_row-own-requires : goal.final_row-own-requires
-final_row-own-requires c = λ z. scope-known c.requires z
+pub complete-own-requires : goal.complete-own-requires
+complete-own-requires c = frame-known c.requires
 
-pub returns-then-is_some : goal.returns-then-is_some
-returns-then-is_some c = added-fault _ _ _ c.final_row-own.ensures c.lower_of-row.ensures refl (row-some c.lower_of-row.result (sym c.is_some.ensures ∙ c.if-is_some.true))
+pub returns-in_err-asking : goal.returns-in_err-asking
+returns-in_err-asking c = let p = passed c.in_err-asking.was c.from_residual.ensures.1 in rw p.1 (added-fault c.args.text.now c.args.s c.args.b c.complete-own.ensures c.both.ensures p.0 p.2)
 
 pub number-g-requires : goal.number-g-requires
-number-g-requires c = number-ready _ _ _ c.final_row-own.ensures c.lower_of-row.ensures (row-none c.lower_of-row.result (sym c.is_some.ensures ∙ c.if-is_some.false)) c.requires
+number-g-requires c = number-ready c.args.text.now c.args.s c.args.b c.complete-own.ensures c.both.ensures c.in_ok-asking.asking c.in_ok-asking.f c.in_ok-asking.was c.requires
 
-pub add_stage-r-requires : goal.add_stage-r-requires
-add_stage-r-requires c = stage-ready _ _ _ c.final_row-own.ensures c.lower_of-row.ensures (row-none c.lower_of-row.result (sym c.is_some.ensures ∙ c.if-is_some.false)) c.requires
+pub add_stage-model-requires : goal.add_stage-model-requires
+add_stage-model-requires c = stage-ready c.args.text.now c.args.s c.args.b c.complete-own.ensures c.both.ensures c.in_ok-asking.asking c.in_ok-asking.f c.in_ok-asking.was c.requires
 
 pub returns : goal.returns
-returns c = added-stage _ _ _ c.final_row-own.ensures c.lower_of-row.ensures (row-none c.lower_of-row.result (sym c.is_some.ensures ∙ c.if-is_some.false)) c.number-g.ensures c.add_stage-r.ensures
+returns c = added-stage c.args.text.now c.args.s c.args.b c.complete-own.ensures c.both.ensures c.in_ok-asking.asking c.in_ok-asking.f c.in_ok-asking.was c.number-g.ensures c.add_stage-model.ensures

@@ -1,8 +1,13 @@
-use mathlib.Core.Path.{sym, ◌∙◌}
+use mathlib.Core.Path.{◌≡◌, sym, ◌∙◌}
+use mathlib.Core.Bool.{false}
+use Prim.Native.Nat.{ℕ, ◌<◌}
 use native.Mathlib.Omega.{arith}
 use borrow.Author.Count.{below_more}
+use Rattle.limits.specs.Limits as limit
 use Rattle.semantics.proofs.Tools.{clash}
+use Rattle.facts_bits.specs.Bits.{bit_at}
 use Rattle.witness.proofs.goal.Goals as goal
+use Rattle.witness.proofs.goal.Goals.{in-Some+else-e-lt-LISTED, in_default}
 
 pub loop-f-init : goal.loop-f-init
 loop-f-init c = λ g l. omega arith
@@ -10,17 +15,18 @@ loop-f-init c = λ g l. omega arith
 pub returns-then-e-lt-LISTED : goal.returns-then-e-lt-LISTED
 returns-then-e-lt-LISTED c =
     let r = c.row-row.ensures in
-    let n = c.next-e in
-    (c.if-e-lt-LISTED.true, c.loop-f-test.true, sym (r.bits n.result (omega (arith, c.if-e-lt-LISTED.true))) ∙ n.ensures.set (omega (arith, c.if-e-lt-LISTED.true)))
+    (c.if-e-lt-LISTED.true, c.loop-f-test.true, sym (r.bits c.in-Some.e (omega (arith, c.if-e-lt-LISTED.true))) ∙ c.in-Some.ensures.set)
 
 pub loop-f-preserved : goal.loop-f-preserved
 loop-f-preserved c =
-    below_more _ _ c.loop-f.invariant (λ h.
-    let l = c.if-e-lt-LISTED.false in
-    clash h.2 (sym (c.row-row.ensures.bits h.0 (omega (arith, h.1))) ∙ c.next-e.ensures.clear h.0 (omega arith) (omega (arith, h.1))))
+    let none : (e : ℕ) → e < limit.listed → bit_at c.row-row.result e ≡ false = elim (c.match-first.branch) [
+      | in-Some+else-e-lt-LISTED w ↦ let l = w.if-e-lt-LISTED.false in λ e h. w.in-Some.ensures.clear e (omega arith) (omega arith)
+      | in_default w ↦ λ e h. w.in_default.ensures e (omega arith) (omega arith)
+    ] in
+    below_more _ _ c.loop-f.invariant (λ h. clash h.2 (sym (c.row-row.ensures.bits h.0 (omega (arith, h.1))) ∙ none h.0 h.1))
 
-pub returns : goal.returns
-returns c =
-    let q = c.requires.2 in
-    let s = c.requires.2.2 in
-    absurd (c.loop-f.invariant q.1 (omega (arith, s.1)) (q.0, s.0, s.2))
+pub unreachable-requires : goal.unreachable-requires
+unreachable-requires c =
+    let q = c.requires.1 in
+    let s = c.requires.1.2 in
+    c.loop-f.invariant q.1 (omega (arith, s.1)) (q.0, s.0, s.2)
