@@ -36,14 +36,7 @@ pub enum Reason {
 
 // Why a step of a clause, a `new` line, is not allowed.
 // The view and the states stay in the clauses alone, and what is lent stays apart: the code has the parts that it reads, which come from the view and the stock of facts.
-fn why_new(
-    m: &Model,
-    slots: &[u8],
-    work: &[u8],
-    at: Position,
-    c: Clause,
-    object: u32,
-) -> Reason
+fn why_new(m: &Model, slots: &[u8], work: &[u8], at: Position, c: Clause, object: u32) -> Reason
     requires { (v : View) × (states : List ℕ) × Stepping m.now v (session_in states at) slots.now work.now c }
     ensures { (v : View) (states : List ℕ) (set : ℕ) → Stepping m.now v (session_in states at) slots.now work.now c → c.action ≡ New set → Explains m.now (session_in states at) (step c.line object) result }
 {
@@ -70,14 +63,7 @@ fn why_new(
 }
 
 // Why a step of a clause, a `next` line, is not allowed.
-fn why_next(
-    m: &Model,
-    slots: &[u8],
-    work: &[u8],
-    at: Position,
-    c: Clause,
-    object: u32,
-) -> Reason
+fn why_next(m: &Model, slots: &[u8], work: &[u8], at: Position, c: Clause, object: u32) -> Reason
     requires { ((v : View) × (states : List ℕ) × Stepping m.now v (session_in states at) slots.now work.now c) × (object < limit.objects) }
     ensures { (v : View) (states : List ℕ) (plus minus : ℕ) → Stepping m.now v (session_in states at) slots.now work.now c → c.action ≡ Next plus minus → Explains m.now (session_in states at) (step c.line object) result }
 {
@@ -106,14 +92,7 @@ fn why_next(
 
 // Why a step of a line and an object is not allowed.
 // What is lent stays apart: the slots come from the view, and the table from the stock of facts.
-fn why_step(
-    m: &Model,
-    slots: &[u8],
-    work: &[u8],
-    at: Position,
-    line: u32,
-    object: u32,
-) -> Reason
+fn why_step(m: &Model, slots: &[u8], work: &[u8], at: Position, line: u32, object: u32) -> Reason
     requires { ((v : View) × (states : List ℕ) × Open m.now v (session_in states at) slots.now work.now (step line object)) × (object < limit.objects) }
     ensures { (v : View) (states : List ℕ) → Open m.now v (session_in states at) slots.now work.now (step line object) → Explains m.now (session_in states at) (step line object) result }
 {
@@ -217,13 +196,7 @@ fn why_meeting(
 }
 
 // Why a place, by its number, is not allowed.
-pub fn why_place(
-    m: &Model,
-    slots: &[u8],
-    work: &[u8],
-    at: Position,
-    n: u32,
-) -> Reason
+pub fn why_place(m: &Model, slots: &[u8], work: &[u8], at: Position, n: u32) -> Reason
     requires { (v : View) × (states : List ℕ) × Lent m.now v (session_in states at) slots.now work.now n }
     ensures { (v : View) (states : List ℕ) → Lent m.now v (session_in states at) slots.now work.now n → (p : runs.Place) → place_of n ≡ some p → Explains m.now (session_in states at) p result }
 {
@@ -231,17 +204,13 @@ pub fn why_place(
         return Reason::Done;
     }
     match model::place_of(n) {
-        Place::Step { line, object } => {
-            why_step(m, slots, work, at, line, object)
-        }
+        Place::Step { line, object } => { why_step(m, slots, work, at, line, object) }
         Place::Meeting {
             stage,
             first,
             second,
             third,
-        } => why_meeting(
-            m, slots, work, at, stage, first, second, third,
-        ),
+        } => why_meeting(m, slots, work, at, stage, first, second, third),
         Place::Malformed => Reason::NoLine,
     }
 }

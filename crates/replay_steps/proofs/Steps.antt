@@ -11,7 +11,6 @@ use lib.ListN.{length, take, drop}
 use Rattle.limits.specs.Limits as limit
 use Rattle.semantics.specs.Models.{elem, Body, Line, rule, new, next, other, line, vars, firsts, SafeLine, Supported}
 use Rattle.semantics.specs.Steps.{Enabled}
-use Rattle.semantics.specs.Runs as runs
 use Rattle.semantics.specs.Runs.{step}
 use Rattle.semantics.specs.StandingBy.{First, line_names, EnabledBy, StoodBy}
 use Rattle.semantics.proofs.Tools.{same?}
