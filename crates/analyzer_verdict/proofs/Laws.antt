@@ -45,8 +45,7 @@ module _ (m : Model) (wf : WellFormed m) where
         let e = h.explored in
         record {
           known = record { model = wf; proper = e.proper; found = e.found; agree = e.agree; exact = e.exact };
-          mapped = record { whole = e.whole; tabled = e.moves.tabled; moves = e.moves.table; stepped = e.moves.stepped; single = e.moves.steps };
-          long = e.moves.closed;
+          mapped = record { whole = e.whole; moves = e.moves.table; single = e.moves.steps };
           comes = e.moves.ways;
           asked = None;
           levels = h.levels;

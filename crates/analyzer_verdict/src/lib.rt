@@ -27,7 +27,7 @@ pub enum Answer {
 }
 
 // An answer, and beside a verdict the reachable atomic states by rising number, the empty one first, and how many they are.
-// The count stays beside the array: memory is fixed, and C is lent the whole row of cells.
+// The count stays beside the array: memory is fixed, and C lends cells for the whole row.
 #[derive(Clone, Copy)]
 pub struct Analysis {
     pub answer: Answer,
@@ -50,7 +50,7 @@ pub fn refuse(r: Refusal) -> Analysis
 }
 
 // The verdict that a search gives; the run of a reached question is written.
-// `WellFormed m` stays a clause: the reader fills the record line by line, so that no invariant of its type can say it; the length of `run` stays one too, since C lends a row that may be longer.
+// `WellFormed m` stays a clause: it speaks by recursion over the model's lists, which a ghost field cannot hold, and behind an `impl Model` other crates would read a model only through a method that gives it out whole; the length of `run` stays one too, since C lends a row that may be longer.
 fn conclude(m: Model, facts: &[u8], run: &mut [u32], found: Found) -> Answer
     requires { WellFormed m × Searched m facts.now found × (limit.run ≤ length run.old) }
     ensures { Answered (program_of m) (question_of m) run.old run.new result }

@@ -49,7 +49,7 @@ fn relation_in(text: &[u8], i: usize) -> Option<Declaration>
 }
 
 // Declared relation i of an accepted text, from 0; all 0 where there is none.
-// All 0 stays for none: C reads these numbers.
+// All 0 stays for none: `codes` makes of these numbers the word that C reads, which is 0 for none.
 pub fn relation(text: &[u8], i: usize) -> Declaration
     ensures { ShowsRelation text.now (relation_at (outcome text.now) i) result }
 {
@@ -61,7 +61,7 @@ pub fn relation(text: &[u8], i: usize) -> Declaration
 }
 
 // What is shown of something found: its span, or 0 and 0.
-// 0 and 0 stay for none: C reads these numbers.
+// 0 and 0 stay for none: `codes` makes of them the word that C reads, which is 0 for none.
 fn shown(found: Option<Span>) -> Span
     ensures { result ≡ span_of found }
 {
@@ -77,7 +77,7 @@ fn literal_in(line: &[u8], n: usize, k: usize) -> Option<Span>
 }
 
 // Literal k, from 0, of a line's clause, which is part 0, or of stage n of an `ask` line, from 1; 0 and 0 where there is none.
-// 0 and 0 stay for none: C reads these numbers.
+// 0 and 0 stay for none: `codes` makes of them the word that C reads, which is 0 for none.
 pub fn literal(line: &[u8], n: usize, k: usize) -> Span
     ensures { Shows line.now (literal_at line.now n k) result }
 {
@@ -93,7 +93,7 @@ fn variable_in(line: &[u8], n: usize, j: usize) -> Option<Span>
 }
 
 // Variable j, from 0, of that part in order of first appearance, those of a clause's head first; 0 and 0 where there is none.
-// 0 and 0 stay for none: C reads these numbers.
+// 0 and 0 stay for none: `codes` makes of them the word that C reads, which is 0 for none.
 pub fn variable(line: &[u8], n: usize, j: usize) -> Span
     ensures { Shows line.now (variable_at line.now n j) result }
 {

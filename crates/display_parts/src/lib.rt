@@ -91,6 +91,7 @@ fn next_part(line: &[u8]) -> Option<Part>
 }
 
 // The clause of a line.
+// The three tests stay: each reader asks for a first word of its own, so that a table of functions could not hold all three.
 fn clause_part(line: &[u8]) -> Option<Part>
     ensures { Gives line.now (part_of line.now 0) result }
 {

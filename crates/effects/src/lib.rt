@@ -48,6 +48,7 @@ fn on_line(m: &Model, line: u32, state: u32) -> u64
 }
 
 // What a line of an accepted text makes of an object in a state: 2 × 2^32 and the state of an object that a `new` line creates, 3 × 2^32 and the state that a `next` line gives it; 0 otherwise.
+// 0 stays for nothing made: this is the word that C is told.
 pub fn effect(text: &[u8], line: u32, state: u32) -> u64
     ensures { result ≡ effect_at (outcome text.now) line state }
 {

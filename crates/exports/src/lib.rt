@@ -40,7 +40,7 @@ const KEPT: usize = OBJECTS + 4;
 const SESSION: usize = OBJECTS + 5;
 
 // Copies the numbers into the cells from place `at` on.
-// The name stays: the library's copy is what it asks, and it adds the place.
+// It stays a function of its own: it adds the place to the library's `copy_from_slice`, which takes two slices of one length.
 fn copy(cells: &mut [u32], at: usize, numbers: &[u32])
     requires { at + length numbers.now ≤ length cells.old }
     ensures { cells.new ≡ paste cells.old at numbers.now (length numbers.now) }
@@ -85,7 +85,7 @@ fn put(answer: Result<PlaceAnswer, Refusal>) -> u64
 }
 
 // The number of the shown run's last place, 0 where there is no run.
-// 0 stays for no run: this is the cell that C is lent.
+// 0 stays for no run: this is a cell that C lends.
 fn last_number(answer: analyzer_verdict::Answer, run: &[u32]) -> u32
     requires { Shown (length run.now) answer }
     ensures { result ≡ last_number answer run.now }
@@ -111,6 +111,7 @@ fn table(a: Analysis, last: u32) -> [u32; OUT]
 }
 
 // The replay's state that the cells say.
+// It stays a function: neither `Session` nor the array is a type of this crate, so that no `From` can be written here.
 fn unpack(cells: [u32; SESSION]) -> Session
     ensures { (result ≡ state_of cells) × Small result }
 {
@@ -127,6 +128,7 @@ fn unpack(cells: [u32; SESSION]) -> Session
 }
 
 // The cells of a replay's state.
+// It stays a function: neither `Session` nor the array is a type of this crate, so that no `From` can be written here.
 fn pack(s: Session) -> [u32; SESSION]
     requires { Small s }
     ensures { result ≡ cells_of s }

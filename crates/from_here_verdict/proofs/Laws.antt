@@ -114,8 +114,7 @@ module _ (m : Model) (s : Session) (o : ℕ) (h : Ready m s o) (w : List ℕ) (r
       let e = f.explored in
       record {
         known = record { model = h.model; proper = e.proper; found = e.found; agree = e.agree; exact = e.exact };
-        mapped = record { whole = e.whole; tabled = e.moves.tabled; moves = e.moves.table; stepped = e.moves.stepped; single = e.moves.steps };
-        long = e.moves.closed;
+        mapped = record { whole = e.whole; moves = e.moves.table; single = e.moves.steps };
         comes = e.moves.ways;
         asked = Some f.asked;
         levels = f.levels;

@@ -37,7 +37,7 @@ const MANY_OBJECTS: Refusal = Refusal {
 };
 
 // Writes the run of a reached question. Returns how many places it has.
-// The facts and parameters of the question stay as they are: document 01 has model and state by value, and C lends a row that may be longer.
+// `Ready m s object` stays a clause and its three parameters stay apart, since the search asks for the model and one state alone and a record would be taken apart for it; the length of `run` stays a clause, since C lends a row that may be longer.
 fn show(m: Model, s: Session, object: u32, facts: &[u8], run: &mut [u32], found: Found) -> usize
     requires { Ready m s object × SearchedFrom m (state_in s object) facts.now found × (found.reached ≡ true) × (limit.run ≤ length run.old) }
     ensures { ShownFrom m (there m s) object run.old run.new result }

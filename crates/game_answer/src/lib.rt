@@ -21,7 +21,7 @@ use search::Explored;
 use search_states::{Listing, States};
 
 // The reachable states by rising number, the empty one first, for each the fewest moves of the attacker, 255 where it is the guardian's, and how many states they are.
-// The count stays beside two arrays, and so does 255: these are the cells that C is lent.
+// The count stays beside two arrays, and 255 stays for the guardian: C lends the cells of both, and the count is a part of the number that it is told.
 #[derive(Clone, Copy)]
 pub struct Game {
     pub states: [u32; LISTED],
@@ -43,7 +43,7 @@ fn arranged(s: States, listing: Listing, ranks: [Option<u32>; LISTED]) -> [u32; 
 }
 
 // The game over the explored states.
-// `WellFormed m` stays a clause: the reader fills the record line by line, so that no invariant of its type can say it; the two lists stay beside the model, since C lends them apart.
+// `WellFormed m` stays a clause: it speaks by recursion over the model's lists, which a ghost field cannot hold, and behind an `impl Model` other crates would read a model only through a method that gives it out whole; the two lists stay beside the model, since C lends them apart.
 fn tell(m: Model, attacker: &[u32], guardian: &[u32], facts: &[u8], found: Explored) -> Game
     requires { WellFormed m × OneVariable m × Surveyed m facts.now found }
     ensures { Telling (program_of m) (question_of m) attacker.now guardian.now result }

@@ -42,10 +42,8 @@ fn lead_clause(states: &[u32], c: Clause, table: &[u8; TABLE], i: usize, moves: 
     requires { (length states.now ≤ limit.atomic) × (i < limit.clauses) }
     ensures { Marks moves.new (With moves.old (Goes table.now i states.now c.action)) }
 {
-    match c.action {
-        Action::Rule { .. } => {}
-        Action::New { .. } => {}
-        Action::Next { plus, minus } => lead(states, plus, minus, table, i, moves),
+    if let Action::Next { plus, minus } = c.action {
+        lead(states, plus, minus, table, i, moves);
     }
 }
 

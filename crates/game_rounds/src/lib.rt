@@ -10,6 +10,7 @@ use facts_bits::{BYTES, WIDTH};
 use limits::LISTED;
 
 // The bytes of a matrix of moves, with a row for each slot of a search.
+// The size stays here beside that of search_ways: a board is played without a search, whose crates are not named here.
 const MATRIX: usize = LISTED * BYTES;
 
 // Is the number one of a round before?
@@ -23,7 +24,7 @@ fn sooner(rank: Option<u32>, round: u32) -> bool
 }
 
 // Has some slot of row e a number below the round's?
-// The facts on n and e stay: they are two numbers of one turn, and e is another one for each slot.
+// The facts on n and e stay clauses: e counts up to n within a turn, so that a struct of both would be made anew for each slot.
 // The parameters stay: a turn lends the moves of one side and the numbers of the other, which change places from turn to turn.
 fn some_sooner(
     moves: &[u8; MATRIX],
@@ -53,6 +54,7 @@ fn all_sooner(
 }
 
 // Can the side get a number at slot e in this round? A side without a move passes.
+// The flag `attacks` stays: it is asked here alone, and an enum of two sides would be asked by the same `if`.
 fn ready(
     attacks: bool,
     moves: &[u8; MATRIX],
@@ -74,6 +76,7 @@ fn ready(
 }
 
 // One side's part of a round: each slot without a number that can get one gets the round's. Whether one did.
+// The flag `attacks` stays: it is only handed on.
 fn turn(
     attacks: bool,
     moves: &[u8; MATRIX],

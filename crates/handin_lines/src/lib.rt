@@ -158,6 +158,7 @@ fn end_meeting(line: &[u8], stage: u32, first: u32, second: u32, third: u32) -> 
 }
 
 // The number of the place that is left of a `meet` line after its first word.
+// 255 stays for no object: the place's number is written into the run table that C lends.
 fn read_meeting(line: &[u8]) -> Option<u32>
     ensures { result ≡ number_said (whole (meet_rest line.now)) }
 {

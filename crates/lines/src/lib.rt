@@ -9,6 +9,7 @@ ghost use Rattle.lines.specs.Lines.{nothing, recorded, line_at};
 use model::{Action, Clause, Model};
 
 // The line of a clause and what stands on it: line × 4, and 1 for a rule, 2 for a `new` line, 3 for a `next` line.
+// The kinds stay numbers: they are a part of the word that C is told.
 fn describe(c: Clause) -> u64
     ensures { result ≡ recorded c }
 {

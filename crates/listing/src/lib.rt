@@ -87,6 +87,7 @@ pub fn put_listing(
 }
 
 // Writes the line of a refusal, and says how many bytes it has.
+// The number stays in place of the row: it is printed, and the analyzer's answer has no row.
 pub fn put_refusal(out: &mut [u8], number: u32, line: u32) -> usize
     requires { size ≤ length out.old }
     ensures { WritesLine out.old (refused_line number line) result out.new }

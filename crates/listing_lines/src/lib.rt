@@ -36,6 +36,7 @@ fn put_names(out: &mut [u8], at: usize, text: &[u8], m: &Model, set: u32) -> usi
 }
 
 // Writes the objects of a meeting as items, up to the first 255.
+// 255 stays for no object: a place has it from its number in the run table that C lends.
 fn put_objects(out: &mut [u8], at: usize, first: u32, second: u32, third: u32) -> usize
     requires { at + 33 ≤ length out.old }
     ensures { Writes out.old at (items (map decimal (objects (first ∷ second ∷ third ∷ [])))) result out.new }
@@ -97,6 +98,7 @@ fn step_line(out: &mut [u8], line: u32, object: u32) -> usize
 }
 
 // Writes the line of a meeting; from the first 255 on there is no object.
+// 255 stays for no object: a place has it from its number in the run table that C lends.
 fn meet_line(out: &mut [u8], stage: u32, first: u32, second: u32, third: u32) -> usize
     requires { longest ≤ length out.old }
     ensures { WritesLine out.old (place_line (meet stage (objects (first ∷ second ∷ third ∷ [])))) result out.new }
@@ -125,6 +127,7 @@ pub fn place_line(out: &mut [u8], n: u32) -> usize
 }
 
 // Writes the line of a refusal.
+// The number stays in place of the row: it is printed, and the analyzer's answer has no row.
 pub fn refused_line(out: &mut [u8], number: u32, line: u32) -> usize
     requires { longest ≤ length out.old }
     ensures { WritesLine out.old (refused_line number line) result out.new }

@@ -35,7 +35,7 @@ pub enum Reason {
 }
 
 // Why a step of a clause, a `new` line, is not allowed.
-// The view and the states stay in the clauses alone, and what is lent stays apart: the code has the parts that it reads, which come from the view and the stock of facts.
+// The view and the states stay in the clauses alone: the code reads some parts of them. What is lent stays apart: it is handed on to `blame`, which takes it apart, and a struct would be made for one place and be taken apart again.
 fn why_new(m: &Model, slots: &[u8], work: &[u8], at: Position, c: Clause, object: u32) -> Reason
     requires { (v : View) × (states : List ℕ) × Stepping m.now v (session_in states at) slots.now work.now c }
     ensures { (v : View) (states : List ℕ) (set : ℕ) → Stepping m.now v (session_in states at) slots.now work.now c → c.action ≡ New set → Explains m.now (session_in states at) (step c.line object) result }
@@ -91,7 +91,7 @@ fn why_next(m: &Model, slots: &[u8], work: &[u8], at: Position, c: Clause, objec
 }
 
 // Why a step of a line and an object is not allowed.
-// What is lent stays apart: the slots come from the view, and the table from the stock of facts.
+// What is lent stays apart: the slots are a part of the view, the table is one of the stock of facts, and a struct would be made for one place.
 fn why_step(m: &Model, slots: &[u8], work: &[u8], at: Position, line: u32, object: u32) -> Reason
     requires { ((v : View) × (states : List ℕ) × Open m.now v (session_in states at) slots.now work.now (step line object)) × (object < limit.objects) }
     ensures { (v : View) (states : List ℕ) → Open m.now v (session_in states at) slots.now work.now (step line object) → Explains m.now (session_in states at) (step line object) result }
@@ -119,6 +119,7 @@ fn beyond(c: Choice, n: usize, objects: usize) -> bool
 }
 
 // Does a choice have another object than the carried one for the stage's variable of a number?
+// NONE stays for none: the carried object is a word of the state that C lends.
 fn swapped(g: Stage, number: u32, carried: u32, c: Choice) -> bool
     requires { g.variables ≤ limit.variables }
     ensures { Says (Swapped g number carried c) result }

@@ -47,6 +47,7 @@ fn named(g: Stage, number: u32, c: Choice) -> usize
 }
 
 // Whether an object may be met where another, or none, is carried.
+// NONE stays for none: both are compared as words of the state that C lends.
 fn agrees(carried: u32, object: u32) -> bool
     ensures { Says (Agrees carried object) result }
 {
@@ -54,6 +55,7 @@ fn agrees(carried: u32, object: u32) -> bool
 }
 
 // The carried object after the meeting.
+// NONE stays for none: the answer is a word of the state that C lends.
 fn carry(carried: u32, object: u32) -> u32
     ensures { result ≡ carried_on carried object }
 {

@@ -12,7 +12,7 @@ use limits::{CARRIED, NONE, OBJECTS, RUN};
 use model::{Model, Relations};
 
 // The replay's answer to a run: kept, or broken at a place.
-// It stays an enum: a broken run is an answer and no failure, and a Result in the Result of the call would be no plainer.
+// It stays an enum: document 01 names the answer an enum with data, and a broken run is an answer and no failure.
 #[derive(Clone, Copy)]
 pub enum Answer {
     Kept,
@@ -20,7 +20,7 @@ pub enum Answer {
 }
 
 // The answer to one place: kept with the number of those who stood by, or broken at the count of places kept.
-// It stays an enum: a broken place is an answer and no failure, and a Result in the Result of the call would be no plainer.
+// It stays an enum: document 01 names the answer an enum with data, and a broken place is an answer and no failure.
 #[derive(Clone, Copy)]
 pub enum PlaceAnswer {
     Kept { stood: u32 },
@@ -34,6 +34,7 @@ pub struct Session {
     pub states: [u32; OBJECTS],
     pub objects: usize,
     pub met: usize,
+    // 255 stays for no object: the carried objects are cells of EON_SESSION, which C lends.
     pub carried: [u32; CARRIED],
     pub kept: usize,
 }
@@ -44,6 +45,7 @@ pub struct Session {
 pub struct Position {
     pub objects: usize,
     pub met: usize,
+    // 255 stays for no object: the carried objects are cells of EON_SESSION, which C lends.
     pub carried: [u32; CARRIED],
     pub kept: usize,
 }

@@ -34,7 +34,8 @@ pub struct NewState {
     pub state: u32,
 }
 
-// What an allowed place makes of the state: the state that it gives an object, if it gives one; the position after it; and the number of those who stood by, which is 0 for a meeting.
+// What an allowed place makes of the state: the state that it gives an object, if it gives one; the position after it; and the number of those who stood by.
+// 0 stays for a meeting: the number is a word of the table that C lends, and document 02 has a kept meeting get 0 there.
 #[derive(Clone, Copy)]
 pub struct Outcome {
     pub given: Option<NewState>,
@@ -61,12 +62,8 @@ pub fn clause_on(m: &Model, line: u32) -> Option<Clause>
     requires { m.now.clausecount ≤ limit.clauses }
     ensures { OnLine m.now line result }
 {
-    for i in 0..m.clausecount {
-        if m.clauses[i].line == line {
-            return Some(m.clauses[i]);
-        }
-    }
-    None
+    let i = (0..m.clausecount).find(|i| m.clauses[*i].line == line)?;
+    Some(m.clauses[i])
 }
 
 // The derived relations that a step of a line rests on, as a row of bits.
@@ -81,7 +78,7 @@ pub fn needs(m: &Model, line: u32) -> [u8; BYTES]
 }
 
 // The first choice that has the fixed objects and for which a body holds in a database of n objects, or that there is none.
-// The literals, the slots and the table stay apart: they are lent by the model, the view and the stock of facts, and each is a slice of its own.
+// The literals, the slots and the table stay apart: the slots and the table are written between two places of a run, so that a struct of the three would be made anew for each place.
 pub fn decide(
     literals: &[u32],
     slots: &[u8],
@@ -130,7 +127,7 @@ fn onward(at: Position, objects: usize) -> Position
 }
 
 // A step of a clause, a `new` line.
-// The bound of an object stays a clause, and what is lent stays apart: an object is a part of a place's number, and the position alone changes from place to place.
+// The bound of an object stays a clause: an object is a part of a place's number. What is lent stays apart for the same reason, and the position beside it, which is another one after each place.
 fn create(
     m: &Model,
     slots: &[u8],

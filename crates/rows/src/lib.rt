@@ -33,6 +33,7 @@ pub enum Row {
 
 impl Row {
     // The row's number in the table.
+    // It stays a method: `row.number()` says what the number is, and `u32::from(row)` would not.
     pub fn number(self) -> u32
         ensures { result ≡ number_of self }
     {
@@ -41,7 +42,7 @@ impl Row {
 }
 
 // A row that refuses a text or a call, and the line that it stands on; 0 where no line is to blame.
-// Line 0 stays for no line: the table has it so, and C is told it.
+// 0 stays for no line: the tables of refusals say "line 0", and C is told it and the listing prints it so.
 #[derive(Clone, Copy, PartialEq, Eq)]
 pub struct Refusal {
     pub row: Row,

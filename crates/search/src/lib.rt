@@ -9,14 +9,13 @@ ghost use Rattle.model.specs.WellFormed.{WellFormed};
 ghost use Rattle.facts_heads.specs.Heads.{room};
 ghost use Rattle.search_states.specs.States.{row};
 ghost use Rattle.search_ways.specs.Moves.{Exactly};
-ghost use Rattle.search_levels.specs.Levels.{levels_bytes};
 ghost use Rattle.search_reachable.specs.Reachable.{Reaches};
 ghost use Rattle.search.specs.Search.{Moving, Surveyed, Explores, Entered, Judged, Finds, FindsFrom};
 
 use facts_bits::BYTES;
 use limits::LISTED;
 use model::Model;
-use search_levels::Levels;
+use search_levels::{LEVELS, Levels};
 use search_states::{Listing, States};
 use search_ways::{MATRIX, TABLE};
 
@@ -76,7 +75,7 @@ fn surveyed(work: &[u8], m: Model, states: States) -> Explored
 }
 
 // Explores a well-formed model; it always ends, with all the reachable states and their moves, or with none of them where there are too many states. `work` is a table for the facts that the caller has of its own: it is larger than the work area that an analysis is lent.
-// The room for facts stays a clause: the table is lent as a slice, which the search of states clears and fills.
+// The room for facts stays a clause: an array type would ask more of callers than so many bytes at least.
 pub fn explore(work: &mut [u8], m: Model) -> Option<Explored>
     requires { WellFormed m × (room ≤ length work.old) }
     ensures { Explores m work.new result × (length work.new ≡ length work.old) }
@@ -86,8 +85,8 @@ pub fn explore(work: &mut [u8], m: Model) -> Option<Explored>
 }
 
 // Has level k a pair?
-fn entered(rows: &[u8], k: usize) -> bool
-    requires { (length rows.now ≡ levels_bytes) × (k ≤ limit.stages) }
+fn entered(rows: &[u8; LEVELS], k: usize) -> bool
+    requires { k ≤ limit.stages }
     ensures { (result ≡ true) ↔ Entered rows.now k }
 {
     let at = LISTED * k;

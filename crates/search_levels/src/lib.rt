@@ -26,6 +26,7 @@ pub const LEVELS: usize = (STAGES + 1) * MATRIX;
 
 // Matrix k has the pairs of level k, with k stages met: bit e of its row f is set if the object of the first carried variable can be in slot e while that of the
 // second is in slot f. As long as a variable stood in no stage its slot is 0 and says nothing.
+// Slot 0 stays for no slot: rows and bits are numbered by the slots, and a matrix has no place for none.
 #[derive(Clone, Copy)]
 pub struct Levels {
     pub rows: [u8; LEVELS],
@@ -80,7 +81,7 @@ fn seated(c: Choice, a: Walker, e: usize) -> Choice
 }
 
 // Does the body hold for a choice with the fixed slots, and with a slot of the row for its first variable, which is free?
-// What is lent stays apart: the search lends the work area, the slots are made here, their count is that of the states, the literals are the model's, and the evaluator takes each by itself.
+// What is lent stays apart: the work area, the slots and the literals go to the evaluator alone, which takes each by itself, so that a struct would be made only to be taken apart.
 fn somewhere(
     work: &[u8],
     slots: &[u8],

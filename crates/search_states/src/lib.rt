@@ -8,7 +8,7 @@ ghost use Rattle.search_states.specs.Rising.{Lists};
 
 use limits::{ATOMIC, LISTED};
 
-// State i came by line lines[i] from state origins[i]. The empty state stands beside the row: it moves nothing and stands for no variable.
+// State i came by line lines[i] from state origins[i], and the two are read as a pair. The empty state stands beside the row: it moves nothing and stands for no variable.
 // The flag stays: whether the empty state is found is a fact by itself, and no field counts by it.
 // The count stays beside the arrays: memory is fixed, and the places behind it are not read.
 // The states stay an array of their own: they are a database, which is lent as a slice of numbers.

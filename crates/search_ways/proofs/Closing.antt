@@ -1,25 +1,19 @@
 -- The closure of a matrix, slot by slot.
-use mathlib.Core.Path.{◌≡◌, ap, ◌∙◌, subst}
+use mathlib.Core.Path.{◌≡◌, subst}
 use mathlib.Core.Logic.{◌⊎◌, inl, inr, ⊎_elim, ◌≢◌}
-use mathlib.Core.Bool.{true, ◌&&◌}
+use mathlib.Core.Bool.{true}
 use mathlib.Core.List.{List, [], ◌∷◌, ◌++◌}
 use Prim.Native.Nat.{ℕ, zero, suc, ◌≤◌, ◌<◌}
 use native.Mathlib.Omega.{arith}
 use native.Mathlib.Nat.{not-suc-le-zero}
-use lib.ListN.{replicate}
 use Rattle.limits.specs.Limits as limit
 use Rattle.semantics.proofs.Tools.{same?}
 use Rattle.facts_bits.specs.Width as width
-use Rattle.facts_bits.specs.Bits.{bit_at, in_row, Kept}
-use Rattle.facts_bits.proofs.Laws.{full-bits}
+use Rattle.facts_bits.specs.Bits.{in_row}
 use Rattle.search_ways.specs.Moves.{Marks, With}
 use Rattle.search_ways.specs.Steps.{Between}
 use Rattle.search_ways.specs.Chains.{Inside, Links, Linked, Through}
 use Rattle.search_ways.proofs.Marking.{marks-so}
-
--- row k by value
-pub copied : (w : List ℕ) (k : ℕ) (r : List ℕ) → Kept (replicate width.bytes 255) w k r → (t : ℕ) → t < width.slots → bit_at r t ≡ in_row w k t
-copied w k r h t l = h.bits t (omega arith) ∙ ap (λ b. b && in_row w k t) (full-bits t (omega arith))
 
 -- BY WAY OF THE SLOTS BELOW k
 module _ (w : List ℕ) where

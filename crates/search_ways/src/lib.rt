@@ -13,7 +13,7 @@ ghost use Rattle.model.specs.WellFormed.{WellFormed};
 ghost use Rattle.facts_bits.specs.Width as width;
 ghost use Rattle.facts_heads.specs.Heads.{room};
 ghost use Rattle.search_states.specs.States.{row, Proper};
-ghost use Rattle.search_ways.specs.Moves.{table_bytes, matrix_bytes, Marks, None, With, InRow, Noted, Exactly, CanTake};
+ghost use Rattle.search_ways.specs.Moves.{Marks, None, With, InRow, Noted, Exactly, CanTake};
 ghost use Rattle.search_ways.specs.Steps.{Between, Turns, Led, OneStep};
 ghost use Rattle.search_ways.specs.Chains.{Inside, Linked, Through};
 ghost use Rattle.search_ways.specs.Shortest.{Says, Near, Joins, Joined, Nearest, Shortest};
@@ -29,9 +29,8 @@ pub const TABLE: usize = CLAUSES * BYTES;
 // The bytes of a matrix, with a row for each slot of a search.
 pub const MATRIX: usize = LISTED * BYTES;
 
-// Copies to row i of the table the marks of clause i, if it is a `next` clause.
-// It stays: it sets bits beside those that the row has, and the library's copy would clear them.
-fn copy(work: &[u8], c: Clause, i: usize, table: &mut [u8])
+// Adds to row i of the table the marks of clause i, if it is a `next` clause.
+fn note(work: &[u8], c: Clause, i: usize, table: &mut [u8])
     requires { (room ≤ length work.now) × (i * width.bytes + width.bytes ≤ length table.old) × (i < limit.clauses) }
     ensures { Marks table.new (With table.old (InRow i width.slots (Noted c.action work.now i))) }
 {
@@ -49,7 +48,7 @@ pub fn takes(work: &[u8], m: Model, table: &mut [u8; TABLE])
 {
     table.fill(0);
     for i in 0..m.clausecount {
-        copy(work, m.clauses[i], i, table);
+        note(work, m.clauses[i], i, table);
     }
 }
 
@@ -77,8 +76,15 @@ fn lead_at(states: &[u32], plus: u32, minus: u32, e: usize, ways: &mut [u8; MATR
 }
 
 // Marks where a `next` clause leads from each slot of its row of the table.
-fn lead_next(states: &[u32], plus: u32, minus: u32, table: &[u8], i: usize, ways: &mut [u8; MATRIX])
-    requires { Distinct states.now × (length states.now ≤ limit.listed) × (i < 64) × (length table.now ≡ table_bytes) }
+fn lead_next(
+    states: &[u32],
+    plus: u32,
+    minus: u32,
+    table: &[u8; TABLE],
+    i: usize,
+    ways: &mut [u8; MATRIX],
+)
+    requires { Distinct states.now × (length states.now ≤ limit.listed) × (i < 64) }
     ensures { Marks ways.new (With ways.old (Between (length states.now) (Led table.now i states.now (action.Next plus minus)))) }
 {
     for e in 0..states.len() {
@@ -89,8 +95,8 @@ fn lead_next(states: &[u32], plus: u32, minus: u32, table: &[u8], i: usize, ways
 }
 
 // Marks where a clause leads from each slot of its row of the table.
-fn lead_clause(states: &[u32], c: Clause, table: &[u8], i: usize, ways: &mut [u8; MATRIX])
-    requires { Distinct states.now × (length states.now ≤ limit.listed) × (i < 64) × (length table.now ≡ table_bytes) }
+fn lead_clause(states: &[u32], c: Clause, table: &[u8; TABLE], i: usize, ways: &mut [u8; MATRIX])
+    requires { Distinct states.now × (length states.now ≤ limit.listed) × (i < 64) }
     ensures { Marks ways.new (With ways.old (Between (length states.now) (Led table.now i states.now c.action))) }
 {
     if let Action::Next { plus, minus } = c.action {
@@ -99,9 +105,9 @@ fn lead_clause(states: &[u32], c: Clause, table: &[u8], i: usize, ways: &mut [u8
 }
 
 // The matrix of single steps: row e has slot e and the slots to which some line takes an object of its state.
-// The model, the states and the table stay apart, with what they must be in clauses: the table is made before the other moves, by the work area of a search.
-pub fn steps(m: Model, s: States, table: &[u8], ways: &mut [u8; MATRIX])
-    requires { WellFormed m × Proper s × (length table.now ≡ table_bytes) × Marks table.now (CanTake m s) }
+// The model, the states and the table stay apart, with what they must be in clauses: a struct of references would be made anew for each call, since the search holds the states and the table in two structs, and the model in none.
+pub fn steps(m: Model, s: States, table: &[u8; TABLE], ways: &mut [u8; MATRIX])
+    requires { WellFormed m × Proper s × Marks table.now (CanTake m s) }
     ensures { Marks ways.new (Between s.count (OneStep (program_of m) (row s))) }
 {
     ways.fill(0);
@@ -117,7 +123,7 @@ fn pass(ways: &mut [u8; MATRIX], n: usize, k: usize)
     requires { (n ≤ limit.listed) × (k < n) }
     ensures { Marks ways.new (With ways.old (λ e t. (e < n) × Through ways.old k e t)) }
 {
-    let row = facts_bits::keep(facts_bits::full(), ways, k);
+    let row = facts_bits::row(ways, k);
     for e in 0..n {
         if facts_bits::get(ways, e * WIDTH + k) {
             facts_bits::widen(ways, e, row);
@@ -136,44 +142,44 @@ pub fn close(ways: &mut [u8; MATRIX], n: usize)
 }
 
 // Sets in row j + 1 of the layers the slots to which one pair leads from those of row j.
-fn spread(links: &[u8], n: usize, layers: &mut [u8; MATRIX], j: usize)
-    requires { (n ≤ limit.listed) × (j < limit.atomic) × (length links.now ≡ matrix_bytes) }
+fn spread(links: &[u8; MATRIX], n: usize, layers: &mut [u8; MATRIX], j: usize)
+    requires { (n ≤ limit.listed) × (j < limit.atomic) }
     ensures { Marks layers.new (With layers.old (InRow (j + 1) width.slots (Joined links.now layers.old n j))) }
 {
     for u in 0..n {
         if facts_bits::get(layers, j * WIDTH + u) {
-            let row = facts_bits::keep(facts_bits::full(), links, u);
+            let row = facts_bits::row(links, u);
             facts_bits::widen(layers, j + 1, row);
         }
     }
 }
 
 // The least number of pairs that lead from one slot to another; the layers up to it are laid out.
-fn reach(links: &[u8], n: usize, from: usize, to: usize, layers: &mut [u8; MATRIX]) -> usize
-    requires { (n ≤ limit.listed) × (from < n) × (to < n) × (length links.now ≡ matrix_bytes) × Marks layers.old None × ((j : ℕ) × (j < n) × Near links.now n j from to) }
+fn reach(links: &[u8; MATRIX], n: usize, from: usize, to: usize, layers: &mut [u8; MATRIX]) -> usize
+    requires { (n ≤ limit.listed) × (from < n) × (to < n) × Marks layers.old None × ((j : ℕ) × (j < n) × Near links.now n j from to) }
     ensures { Nearest links.now n from to layers.new result }
 {
     facts_bits::put(layers, from);
-    let mut j = 0;
-    // The loop stays: it ends at the first layer that has the slot, which no number says before.
-    while !facts_bits::get(layers, j * WIDTH + to) {
+    for j in 0..n {
+        if facts_bits::get(layers, j * WIDTH + to) {
+            return j;
+        }
         spread(links, n, layers, j);
-        j += 1;
     }
-    j
+    unreachable!()
 }
 
 // Is slot u in row j of the layers, with a pair that leads from it to slot t?
-fn joins(links: &[u8], layers: &[u8; MATRIX], j: usize, t: usize, u: usize) -> bool
-    requires { (j < limit.listed) × (t < limit.listed) × (u < limit.listed) × (length links.now ≡ matrix_bytes) }
+fn joins(links: &[u8; MATRIX], layers: &[u8; MATRIX], j: usize, t: usize, u: usize) -> bool
+    requires { (j < limit.listed) × (t < limit.listed) × (u < limit.listed) }
     ensures { Says result (Joins links.now layers.now j t u) }
 {
     facts_bits::get(layers, j * WIDTH + u) && facts_bits::get(links, u * WIDTH + t)
 }
 
 // The first slot of row j of the layers with a pair that leads from it to slot t.
-fn before(links: &[u8], layers: &[u8; MATRIX], n: usize, j: usize, t: usize) -> usize
-    requires { (n ≤ limit.listed) × (j < limit.listed) × (t < n) × (length links.now ≡ matrix_bytes) × Joined links.now layers.now n j t }
+fn before(links: &[u8; MATRIX], layers: &[u8; MATRIX], n: usize, j: usize, t: usize) -> usize
+    requires { (n ≤ limit.listed) × (j < limit.listed) × (t < n) × Joined links.now layers.now n j t }
     ensures { (result < n) × Joins links.now layers.now j t result }
 {
     for u in 0..n {
@@ -195,8 +201,8 @@ pub fn turns(c: Clause, from: u32, to: u32) -> bool
 }
 
 // The line of the first clause that takes an object of the state of slot u to that of slot t.
-fn line_to(m: Model, s: States, table: &[u8], u: usize, t: usize) -> u32
-    requires { WellFormed m × Proper s × (length table.now ≡ table_bytes) × Marks table.now (CanTake m s) × (u < s.count) × (t < s.count) × ((ℓ : ℕ) × Takes (program_of m) (row s) (state (row s) u) (state (row s) t) (line (program_of m) ℓ)) }
+fn line_to(m: Model, s: States, table: &[u8; TABLE], u: usize, t: usize) -> u32
+    requires { WellFormed m × Proper s × Marks table.now (CanTake m s) × (u < s.count) × (t < s.count) × ((ℓ : ℕ) × Takes (program_of m) (row s) (state (row s) u) (state (row s) t) (line (program_of m) ℓ)) }
     ensures { Takes (program_of m) (row s) (state (row s) u) (state (row s) t) (line (program_of m) result) }
 {
     let from = s.states[u];
@@ -213,13 +219,13 @@ fn line_to(m: Model, s: States, table: &[u8], u: usize, t: usize) -> u32
 pub fn way(
     m: Model,
     s: States,
-    table: &[u8],
-    links: &[u8],
+    table: &[u8; TABLE],
+    links: &[u8; MATRIX],
     from: usize,
     to: usize,
     out: &mut [u32],
 ) -> usize
-    requires { WellFormed m × Proper s × Whole (program_of m) (row s) × (length table.now ≡ table_bytes) × Marks table.now (CanTake m s) × (length links.now ≡ matrix_bytes) × Marks links.now (Between s.count (OneStep (program_of m) (row s))) × (from < s.count) × (to < s.count) × Comes (program_of m) (row s) (state (row s) from) (state (row s) to) × (s.count ≤ length out.old) }
+    requires { WellFormed m × Proper s × Whole (program_of m) (row s) × Marks table.now (CanTake m s) × Marks links.now (Between s.count (OneStep (program_of m) (row s))) × (from < s.count) × (to < s.count) × Comes (program_of m) (row s) (state (row s) from) (state (row s) to) × (s.count ≤ length out.old) }
     ensures { Shortest (program_of m) (row s) from to out.old out.new result }
 {
     let n = s.count;

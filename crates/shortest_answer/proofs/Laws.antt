@@ -59,11 +59,8 @@ module _ (m : Model) (wf : WellFormed m) (w : List ℕ) (r : Explored) (h : Surv
         model = wf;
         proper = h.proper;
         whole = h.whole;
-        tabled = h.moves.tabled;
         moves = h.moves.table;
-        stepped = h.moves.stepped;
         single = h.moves.steps;
-        long = h.moves.closed;
         comes = h.moves.ways;
       }
 

@@ -19,6 +19,7 @@ use model::Model;
 use rows::{Refusal, Row};
 use search::Explored;
 use search_states::States;
+use search_ways::{MATRIX, TABLE};
 
 // Is the state found?
 fn known(s: States, state: u32) -> bool
@@ -35,9 +36,9 @@ fn known(s: States, state: u32) -> bool
 fn between(
     m: Model,
     s: States,
-    table: &[u8],
-    links: &[u8],
-    ways: &[u8],
+    table: &[u8; TABLE],
+    links: &[u8; MATRIX],
+    ways: &[u8; MATRIX],
     from: usize,
     to: usize,
     run: &mut [u32],
@@ -56,9 +57,9 @@ fn between(
 fn onward(
     m: Model,
     s: States,
-    table: &[u8],
-    links: &[u8],
-    ways: &[u8],
+    table: &[u8; TABLE],
+    links: &[u8; MATRIX],
+    ways: &[u8; MATRIX],
     from: u32,
     to: u32,
     run: &mut [u32],

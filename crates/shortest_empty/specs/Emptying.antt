@@ -9,7 +9,7 @@ use Rattle.model.specs.Records.{program_of}
 use Rattle.model.specs.WellFormed.{WellFormed}
 use Rattle.search_states.specs.declared.States.{States}
 use Rattle.search_states.specs.States.{row, Proper}
-use Rattle.search_ways.specs.Moves.{table_bytes, matrix_bytes, Marks, CanTake}
+use Rattle.search_ways.specs.Moves.{Marks, CanTake}
 use Rattle.search_ways.specs.Steps.{Between, OneStep}
 
 -- THE FOUND STATES MAPPED: no line adds a state, and the tables have the moves, the single steps and the ways between them
@@ -17,11 +17,8 @@ pub record Mapped (m : Model) (s : States) (table steps ways : List ℕ) : Type 
   pub model : WellFormed m
   pub proper : Proper s
   pub whole : Whole (program_of m) (row s)
-  pub tabled : length table ≡ table_bytes
   pub moves : Marks table (CanTake m s)
-  pub stepped : length steps ≡ matrix_bytes
   pub single : Marks steps (Between s.count (OneStep (program_of m) (row s)))
-  pub long : length ways ≡ matrix_bytes
   pub comes : Marks ways (Between s.count (λ e t. Comes (program_of m) (row s) (state (row s) e) (state (row s) t)))
 
 -- line ℓ empties an object of the state of slot u

@@ -1,24 +1,25 @@
 // A shortest way from a found state to the empty one, which has no slot: by the nearest slot from where a line empties the object.
 #![tactic(auto)]
 
-ghost use Rattle.std.specs.Prelude.{◌≡◌, ◌≤◌, ◌<◌, length};
+ghost use Rattle.std.specs.Prelude.{◌≤◌, ◌<◌, length};
 ghost use Rattle.semantics.specs.Facts.{state};
 ghost use Rattle.model.specs.Records.{program_of};
 ghost use Rattle.model.specs.WellFormed.{WellFormed};
 ghost use Rattle.search_states.specs.States.{row, Proper};
-ghost use Rattle.search_ways.specs.Moves.{table_bytes, Marks, CanTake};
+ghost use Rattle.search_ways.specs.Moves.{Marks, CanTake};
 ghost use Rattle.shortest_empty.specs.Emptying.{Emptier, Approach, Nearest, ToEmpty, Mapped};
 
 use facts_bits::WIDTH;
 use limits::ATOMIC;
 use model::Model;
 use search_states::States;
+use search_ways::{MATRIX, TABLE};
 
 // The line of the first clause that takes an object of the state of slot u to the empty state.
-// It stays beside line_to of search_ways: there some line leads to a slot, here none need lead to the empty state, which has no slot.
-// The model, the states and the table stay apart: the table is a part of the moves, which are lent by what was explored.
-fn emptier(m: Model, s: States, table: &[u8], u: usize) -> Option<u32>
-    requires { WellFormed m × Proper s × (length table.now ≡ table_bytes) × Marks table.now (CanTake m s) × (u < s.count) }
+// It stays beside line_to of search_ways: that one returns the line that its contract promises, this one says whether there is one, and the empty state has no slot.
+// The model, the states and the table stay apart: a struct of references would be made anew for each call, since what was explored holds the states and the table in two structs, and the model in none.
+fn emptier(m: Model, s: States, table: &[u8; TABLE], u: usize) -> Option<u32>
+    requires { WellFormed m × Proper s × Marks table.now (CanTake m s) × (u < s.count) }
     ensures { Emptier (program_of m) (row s) u result }
 {
     let from = s.states[u];
@@ -31,22 +32,20 @@ fn emptier(m: Model, s: States, table: &[u8], u: usize) -> Option<u32>
 }
 
 // The fewest steps from one slot to another from where a line empties the object, if there is such a way.
-// What is lent stays apart, with what maps it in a clause: the tables lie in what was explored, and the slots are numbers of a loop.
+// What is lent stays apart, with what maps it in a clause: emptier reads the table alone, a way the table and the links, and this one the ways too, so that a struct would be taken apart for each.
 fn approach(
     m: Model,
     s: States,
-    table: &[u8],
-    links: &[u8],
-    ways: &[u8],
+    table: &[u8; TABLE],
+    links: &[u8; MATRIX],
+    ways: &[u8; MATRIX],
     from: usize,
     to: usize,
 ) -> Option<usize>
     requires { Mapped m s table.now links.now ways.now × (from < s.count) × (to < s.count) }
     ensures { Approach (program_of m) (row s) from to result }
 {
-    if emptier(m, s, table, to).is_none() {
-        return None;
-    }
+    emptier(m, s, table, to)?;
     if !facts_bits::get(ways, from * WIDTH + to) {
         return None;
     }
@@ -55,12 +54,13 @@ fn approach(
 }
 
 // The slot nearest to the given one from where a line empties the object.
+// The number `fewest` stays beside the slot: it begins with the count of the states, which each way is below, so that the first way needs no case of its own.
 fn nearest(
     m: Model,
     s: States,
-    table: &[u8],
-    links: &[u8],
-    ways: &[u8],
+    table: &[u8; TABLE],
+    links: &[u8; MATRIX],
+    ways: &[u8; MATRIX],
     from: usize,
 ) -> Option<usize>
     requires { Mapped m s table.now links.now ways.now × (from < s.count) }
@@ -83,9 +83,9 @@ fn nearest(
 pub fn way(
     m: Model,
     s: States,
-    table: &[u8],
-    links: &[u8],
-    ways: &[u8],
+    table: &[u8; TABLE],
+    links: &[u8; MATRIX],
+    ways: &[u8; MATRIX],
     from: usize,
     out: &mut [u32],
 ) -> Option<usize>

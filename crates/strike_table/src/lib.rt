@@ -21,6 +21,7 @@ use strike_list::Lines;
 pub const CHOICES: usize = 1024;
 
 // What the table says of a choice; before it is decided it says 0.
+// The numbers stay: with `Option<bool>` in their place a goal of `fill` stayed open.
 pub const REACHED: u8 = 1;
 
 pub const UNREACHED: u8 = 2;

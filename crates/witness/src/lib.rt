@@ -1,21 +1,22 @@
 // The run of a reached question, out of what the search recorded.
 #![tactic(auto)]
 
-ghost use Rattle.std.specs.Prelude.{◌≡◌, ℕ, ◌≤◌, length};
+ghost use Rattle.std.specs.Prelude.{ℕ, ◌≤◌, length};
 ghost use Rattle.limits.specs.Limits as limit;
-ghost use Rattle.search_levels.specs.Levels.{levels_bytes};
 ghost use Rattle.witness_walk.specs.Walk.{Recorded, Sits};
 ghost use Rattle.witness.specs.Witness.{Shown};
 
 use limits::LISTED;
 use model::Model;
+use search_levels::LEVELS;
 use search_states::States;
+use search_ways::{MATRIX, TABLE};
 use witness_meetings::Cast;
 use witness_walk::Pair;
 
 // The pair to which the carried objects walk: the first of level k, in the first row that has one.
-pub fn goal(rows: &[u8], k: usize) -> Pair
-    requires { (k ≤ limit.stages) × (length rows.now ≡ levels_bytes) × ((e f : ℕ) × Sits rows.now k e f) }
+pub fn goal(rows: &[u8; LEVELS], k: usize) -> Pair
+    requires { (k ≤ limit.stages) × ((e f : ℕ) × Sits rows.now k e f) }
     ensures { Sits rows.now k result.first result.second }
 {
     for f in 0..LISTED {
@@ -29,10 +30,7 @@ pub fn goal(rows: &[u8], k: usize) -> Pair
             }
         }
     }
-    Pair {
-        first: LISTED,
-        second: LISTED,
-    }
+    unreachable!()
 }
 
 // Writes a run into the table: one object of each state is made, and the carried objects walk to a pair of the last level. Returns how many places it has.
@@ -41,10 +39,10 @@ pub fn witness(
     work: &[u8],
     m: Model,
     s: States,
-    rows: &[u8],
-    table: &[u8],
-    steps: &[u8],
-    ways: &[u8],
+    rows: &[u8; LEVELS],
+    table: &[u8; TABLE],
+    steps: &[u8; MATRIX],
+    ways: &[u8; MATRIX],
 ) -> usize
     requires { Recorded m work.now s rows.now table.now steps.now ways.now × ((e f : ℕ) × Sits rows.now m.stagecount e f) × (limit.run ≤ length run.old) }
     ensures { Shown m run.old run.new result }

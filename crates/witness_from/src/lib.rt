@@ -10,7 +10,7 @@ ghost use Rattle.model.specs.WellFormed.{WellFormed};
 ghost use Rattle.facts_bits.specs.Width as width;
 ghost use Rattle.facts_candidates.specs.Choices.{Own};
 ghost use Rattle.search_states.specs.States.{row, Proper, Discovered};
-ghost use Rattle.search_ways.specs.Moves.{matrix_bytes, Marks};
+ghost use Rattle.search_ways.specs.Moves.{Marks};
 ghost use Rattle.search_ways.specs.Steps.{Between};
 ghost use Rattle.search_levels.specs.Levels.{holder};
 ghost use Rattle.witness_meetings.specs.Meetings.{Known, Written, Numbered, Opens};
@@ -18,7 +18,9 @@ ghost use Rattle.witness_walk.specs.Walk.{Mapped, Recorded, Ready, Sits};
 ghost use Rattle.witness_from.specs.From.{ShownFrom, Openable, first_carried, cast_from, Approach, approached, Opening, opened};
 
 use model::Model;
+use search_levels::LEVELS;
 use search_states::States;
+use search_ways::{MATRIX, TABLE};
 use witness_meetings::Cast;
 use witness_walk::Stand;
 
@@ -32,6 +34,7 @@ fn first_carried(m: Model) -> bool
 }
 
 // The objects of a run from a database with so many objects: behind them one of each of n states, and those of the carried variables; the given object is the first of these if it is carried.
+// The flag `carried` stays: no value goes with it, since the object is given in either case.
 fn cast(carried: bool, existing: u32, n: usize, object: u32) -> Cast
     requires { (existing ≤ limit.earlier) × (n ≤ limit.atomic) }
     ensures { result ≡ cast_from carried existing n object }
@@ -52,13 +55,14 @@ fn cast(carried: bool, existing: u32, n: usize, object: u32) -> Cast
 }
 
 // Writes how the first carried variable's object comes to the slot before stage 1 is met, if it is not there from the start, the last step first, from index `at` on. Returns the index behind it.
-// What is lent stays apart: the run is written, the rest is lent by the search as it lies in what it found, and the object is the call's own.
+// What is lent stays apart: the run is written, and each callee reads another part of the rest, an errand the tables, a meeting the work area and the ways.
+// The flag `carried` stays: no value goes with it, since the object is given in either case.
 fn approach(
     run: &mut [u32],
     m: Model,
     s: States,
-    table: &[u8],
-    steps: &[u8],
+    table: &[u8; TABLE],
+    steps: &[u8; MATRIX],
     carried: bool,
     to: usize,
     object: u32,
@@ -80,16 +84,16 @@ fn open_with(
     slots: &[u8],
     m: Model,
     s: States,
-    table: &[u8],
-    steps: &[u8],
-    ways: &[u8],
+    table: &[u8; TABLE],
+    steps: &[u8; MATRIX],
+    ways: &[u8; MATRIX],
     cast: Cast,
     carried: bool,
     object: u32,
     slot: usize,
     p: Stand,
 ) -> usize
-    requires { Known m work.now s × Mapped m s table.now steps.now × (length ways.now ≡ matrix_bytes) × Marks ways.now (Between s.count (λ e t. Comes (program_of m) (row s) (state (row s) e) (state (row s) t))) × Own width.slots slots.now × Numbered s cast × (object < limit.objects) × (slot < s.count) × (0 < (stage_at m 0).variables) × ((σ : ℕ → ℕ) × Opens m work.now s ways.now slot p.first p.second σ) × (p.at + opened m s carried + s.count ≤ length run.old) }
+    requires { Known m work.now s × Mapped m s table.now steps.now × Marks ways.now (Between s.count (λ e t. Comes (program_of m) (row s) (state (row s) e) (state (row s) t))) × Own width.slots slots.now × Numbered s cast × (object < limit.objects) × (slot < s.count) × (0 < (stage_at m 0).variables) × ((σ : ℕ → ℕ) × Opens m work.now s ways.now slot p.first p.second σ) × (p.at + opened m s carried + s.count ≤ length run.old) }
     ensures { Written (Opening m s cast carried object slot p.first p.second) (opened m s carried) run.old p.at run.new result }
 {
     let first = p.first;
@@ -110,10 +114,10 @@ pub fn witness_from(
     work: &[u8],
     m: Model,
     s: States,
-    rows: &[u8],
-    table: &[u8],
-    steps: &[u8],
-    ways: &[u8],
+    rows: &[u8; LEVELS],
+    table: &[u8; TABLE],
+    steps: &[u8; MATRIX],
+    ways: &[u8; MATRIX],
     existing: u32,
     object: u32,
     slot: usize,

@@ -33,7 +33,7 @@ fn note(lines: &[u32], line: u32, born: &mut [bool])
 }
 
 // Which of the found states a `new` line made.
-// That the model is well-formed and the states are proper stays in clauses: both are values of any numbers, and what makes them so stands where they are made.
+// That the model is well-formed and the states are proper stays in clauses: both are values of any numbers, and both speak by recursion over lists, which a ghost field cannot hold.
 fn firsts(m: Model, s: States) -> [bool; ATOMIC]
     requires { WellFormed m × Proper s }
     ensures { Born m s result }

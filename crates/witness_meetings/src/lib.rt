@@ -53,7 +53,7 @@ fn name(stage: Stage, variable: u32, e: usize, c: Choice) -> Choice
 
 // The choice with these elements for the carried variables, where stage k + 1 has them.
 // That the model is well-formed stays in clauses: a model is a value of any numbers, which acceptance alone makes well-formed.
-// The stage and the two slots stay apart: the slots are those of a pair, of which the first stage has others than the walk.
+// The stage and the two numbers stay apart: they are slots in one call and objects of the cast in another, so that a struct would be made anew for each.
 fn name_both(m: Model, k: usize, first: usize, second: usize, c: Choice) -> Choice
     requires { WellFormed m × (k < m.stagecount) }
     ensures { NamesBoth m k first second c result }
@@ -73,7 +73,7 @@ fn name_first(m: Model, e: usize, c: Choice) -> Choice
 }
 
 // A choice of found states, with the fixed ones, for which a body holds, if there is one.
-// That each slot stands for itself stays a clause: the slots are lent as a slice, of which the evaluator takes the first ones.
+// That each slot stands for itself stays a clause: facts_find takes any slice of slots, and a struct with this invariant would be opened for each of its calls.
 fn seek(
     work: &[u8],
     slots: &[u8],
@@ -97,7 +97,7 @@ fn seek(
 }
 
 // A choice of found states, with the fixed ones, that meets stage k + 1, if there is one.
-// The work area, the slots, the model and the states stay apart, with what is known of them in clauses: they are lent by the search, and the evaluator takes a slice of each.
+// The work area, the slots, the model and the states stay apart, with what is known of them in clauses: other functions here read the model alone, and the evaluator takes the area and the slots by themselves.
 fn seek_stage(
     work: &[u8],
     slots: &[u8],
@@ -134,10 +134,11 @@ fn choose(
 {
     let free = facts_holds::free();
     let fixed = name_both(m, k, first, second, free);
-    match seek_stage(work, slots, m, s, k, fixed) {
-        Some(c) => c,
-        None => fixed,
-    }
+    let Some(c) = seek_stage(work, slots, m, s, k, fixed) else {
+        // A level's pair has a choice that meets the stage.
+        unreachable!()
+    };
+    c
 }
 
 // The objects of the states chosen for n variables: they stand behind `base` others.
@@ -244,7 +245,7 @@ pub fn opening(
             }
         }
     }
-    facts_holds::free()
+    unreachable!()
 }
 
 // Writes the meeting of stage 1 for a choice of found states at index `at`, with the object for its first variable. Returns the index behind it.

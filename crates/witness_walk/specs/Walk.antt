@@ -14,7 +14,7 @@ use Rattle.model.specs.Records.{program_of, question_of, carried_at}
 use Rattle.facts_bits.specs.Bits.{in_row}
 use Rattle.search_states.specs.declared.States.{States}
 use Rattle.search_states.specs.States.{row}
-use Rattle.search_ways.specs.Moves.{table_bytes, matrix_bytes, Marks, CanTake}
+use Rattle.search_ways.specs.Moves.{Marks, CanTake}
 use Rattle.search_ways.specs.Steps.{Between, OneStep}
 use Rattle.search_levels.specs.Levels.{holder, chosen, pair_at, Moved, Filled}
 use Rattle.witness_lineage.specs.Lineage.{making}
@@ -24,16 +24,13 @@ use Rattle.witness_meetings.specs.Meetings.{Known, Written, pair}
 -- no line adds a state, and the tables have the moves and the single steps between the found states
 pub record Mapped (m : Model) (s : States) (table steps : List ℕ) : Type 0 where
   pub whole : Whole (program_of m) (row s)
-  pub tabled : length table ≡ table_bytes
   pub moves : Marks table (CanTake m s)
-  pub stepped : length steps ≡ matrix_bytes
   pub single : Marks steps (Between s.count (OneStep (program_of m) (row s)))
 
 -- WHAT THE SEARCH RECORDED: the states with their facts and moves, who can come from which to which, and the pairs of each level
 pub record Recorded (m : Model) (w : List ℕ) (s : States) (rows table steps ways : List ℕ) : Type 0 where
   pub known : Known m w s
   pub mapped : Mapped m s table steps
-  pub long : length ways ≡ matrix_bytes
   pub comes : Marks ways (Between s.count (λ e t. Comes (program_of m) (row s) (state (row s) e) (state (row s) t)))
   -- whatever stage 1 asks besides
   pub asked : std.Option (List ℕ)

@@ -9,7 +9,6 @@ ghost use Rattle.model.specs.WellFormed.{WellFormed};
 ghost use Rattle.facts_bits.specs.Width as width;
 ghost use Rattle.facts_candidates.specs.Choices.{Own};
 ghost use Rattle.search_states.specs.States.{Proper, Discovered};
-ghost use Rattle.search_ways.specs.Moves.{matrix_bytes};
 ghost use Rattle.search_ways.specs.Shortest.{Says};
 ghost use Rattle.search_levels.specs.Levels.{levels_bytes, holder, chosen, Moved};
 ghost use Rattle.witness_table.specs.Runs.{AllNumerable, backwards};
@@ -19,10 +18,13 @@ ghost use Rattle.witness_walk.specs.Walk.{Mapped, Recorded, Ready, Errand, effor
 use facts_bits::WIDTH;
 use limits::LISTED;
 use model::{Model, Place};
+use search_levels::LEVELS;
 use search_states::States;
+use search_ways::{MATRIX, TABLE};
 use witness_meetings::Cast;
 
 // The slots of the two carried objects; a slot says nothing as long as its variable stood in no stage.
+// Slot 0 stays for no slot: the pair is read in the matrix of its level, which has slot 0 there.
 #[derive(Clone, Copy)]
 pub struct Pair {
     pub first: usize,
@@ -75,13 +77,13 @@ fn tell(run: &mut [u32], lines: &[u32], object: u32, k: usize) -> usize
 }
 
 // Writes a shortest way of the object from one slot to another, the last step first, from index `at` on. Returns the index behind it.
-// The run, the model, the states and the tables stay apart: the run alone is written, and the others are lent by the search as they lie in what it found.
+// The run, the model, the states and the tables stay apart: the run is written, and each callee reads another part of the rest, a way the tables, a making the states alone, a meeting the work area.
 pub fn lead(
     run: &mut [u32],
     m: Model,
     s: States,
-    table: &[u8],
-    steps: &[u8],
+    table: &[u8; TABLE],
+    steps: &[u8; MATRIX],
     from: usize,
     to: usize,
     object: u32,
@@ -100,8 +102,8 @@ pub fn errand(
     run: &mut [u32],
     m: Model,
     s: States,
-    table: &[u8],
-    steps: &[u8],
+    table: &[u8; TABLE],
+    steps: &[u8; MATRIX],
     v: usize,
     k: usize,
     from: usize,
@@ -122,9 +124,9 @@ pub fn errand(
 }
 
 // Can an object go from slot u to slot e before a stage is met?
-// The length of the matrix stays a clause: it is lent as a slice, as the search lends it.
-fn moves(ways: &[u8], stands: bool, began: bool, u: usize, e: usize) -> bool
-    requires { (length ways.now ≡ matrix_bytes) × (u < limit.listed) × (e < limit.listed) }
+// The flags stay: they are two facts about a variable and a stage, and no value goes with them.
+fn moves(ways: &[u8; MATRIX], stands: bool, began: bool, u: usize, e: usize) -> bool
+    requires { (u < limit.listed) × (e < limit.listed) }
     ensures { Says result (Moved ways.now stands began u e) }
 {
     if !stands {
@@ -137,16 +139,30 @@ fn moves(ways: &[u8], stands: bool, began: bool, u: usize, e: usize) -> bool
 }
 
 // The first slot of row j from which an object can go to slot e, if there is one.
-fn source(rows: &[u8], ways: &[u8], j: usize, stands: bool, began: bool, e: usize) -> Option<usize>
-    requires { (length ways.now ≡ matrix_bytes) × (length rows.now ≡ levels_bytes) × (j * width.bytes + width.bytes ≤ levels_bytes) × (e < limit.listed) }
+fn source(
+    rows: &[u8; LEVELS],
+    ways: &[u8; MATRIX],
+    j: usize,
+    stands: bool,
+    began: bool,
+    e: usize,
+) -> Option<usize>
+    requires { (j * width.bytes + width.bytes ≤ levels_bytes) × (e < limit.listed) }
     ensures { MatchOption result ((u : ℕ) → u < limit.listed → Source rows.now ways.now j stands began e u → ⊥) (λ u. (u < limit.listed) × Source rows.now ways.now j stands began e u) }
 {
     (0..LISTED).find(|u| facts_bits::get(rows, j * WIDTH + *u) && moves(ways, stands, began, *u, e))
 }
 
 // A pair of level k that leads to a pair of the next level.
-fn previous(rows: &[u8], ways: &[u8], m: Model, k: usize, first: usize, second: usize) -> Pair
-    requires { WellFormed m × (k < m.stagecount) × (length rows.now ≡ levels_bytes) × (length ways.now ≡ matrix_bytes) × (first < limit.listed) × (second < limit.listed) × ((u v : ℕ) × LeadsTo m rows.now ways.now k first second u v) }
+fn previous(
+    rows: &[u8; LEVELS],
+    ways: &[u8; MATRIX],
+    m: Model,
+    k: usize,
+    first: usize,
+    second: usize,
+) -> Pair
+    requires { WellFormed m × (k < m.stagecount) × (first < limit.listed) × (second < limit.listed) × ((u v : ℕ) × LeadsTo m rows.now ways.now k first second u v) }
     ensures { LeadsTo m rows.now ways.now k first second result.first result.second }
 {
     let one = holds(m, 0, k);
@@ -163,7 +179,7 @@ fn previous(rows: &[u8], ways: &[u8], m: Model, k: usize, first: usize, second: 
             }
         }
     }
-    Pair { first, second }
+    unreachable!()
 }
 
 // Writes the places by which the carried objects came to a pair of level k + 1 from level k, and goes back to their pair there.
@@ -173,10 +189,10 @@ fn back(
     slots: &[u8],
     m: Model,
     s: States,
-    rows: &[u8],
-    table: &[u8],
-    steps: &[u8],
-    ways: &[u8],
+    rows: &[u8; LEVELS],
+    table: &[u8; TABLE],
+    steps: &[u8; MATRIX],
+    ways: &[u8; MATRIX],
     cast: Cast,
     k: usize,
     p: Stand,
@@ -218,10 +234,10 @@ pub fn walk(
     slots: &[u8],
     m: Model,
     s: States,
-    rows: &[u8],
-    table: &[u8],
-    steps: &[u8],
-    ways: &[u8],
+    rows: &[u8; LEVELS],
+    table: &[u8; TABLE],
+    steps: &[u8; MATRIX],
+    ways: &[u8; MATRIX],
     cast: Cast,
     until: usize,
     goal: Pair,

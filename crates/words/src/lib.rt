@@ -8,6 +8,7 @@ ghost use Rattle.words.specs.Words.{refusal as word};
 use rows::Refusal;
 
 // The word of a refusal by its number and line: kind 2, and number × 65,536 + line.
+// The number stays in place of the row: the analyzer's answer has it so, as document 01 writes it.
 pub fn refusal(number: u32, line: u32) -> u64
     ensures { result ≡ word number line }
 {

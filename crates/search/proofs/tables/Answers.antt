@@ -10,7 +10,7 @@ use Rattle.search.proofs.tables.Goals as goal
 
 pub steps-requires : goal.steps-requires
 steps-requires c =
-    (c.requires.0, c.requires.2.proper, search rules, c.takes.ensures c.args.s c.requires.2)
+    (c.requires.0, c.requires.2.proper, c.takes.ensures c.args.s c.requires.2)
 
 pub close-requires : goal.close-requires
 close-requires c =

@@ -27,5 +27,5 @@ returns c =
     let a = c.args in
     let l = c.loop-i in
     let e : l.i ≡ a.m.clausecount = omega arith in
-    led-all a.m c.requires.0 a.s c.requires.1 a.table.now c.requires.3 l.ways
+    led-all a.m c.requires.0 a.s c.requires.1 a.table.now c.requires.2 l.ways
     (subst (λ (k : ℕ). Marks l.ways (LedTo a.m (row a.s) a.s.count a.table.now k)) e l.invariant.1)

@@ -15,7 +15,7 @@ pub loop-i-preserved : goal.loop-i-preserved
 loop-i-preserved c =
     let a = c.args in
     let l = c.loop-i in
-    (search rules, below_more a.m a.work.now l.i l.table _ l.invariant.1 c.copy.ensures)
+    (search rules, below_more a.m a.work.now l.i l.table _ l.invariant.1 c.note.ensures)
 
 pub returns : goal.returns
 returns c =

@@ -18,7 +18,7 @@ use Rattle.search_ways.proofs.way.Goals as goal
 pub reach-k-requires : goal.reach-k-requires
 reach-k-requires c =
     let a = c.args in
-    (omega (arith, c.requires.1.count), c.requires.7, c.requires.8, c.requires.5, marks-none matrix_bytes, some_near a.m c.requires.0 a.s c.requires.1 c.requires.2 a.links.now c.requires.6 a.from a.to c.requires.7 c.requires.8 c.requires.9)
+    (omega (arith, c.requires.1.count), c.requires.5, c.requires.6, marks-none matrix_bytes, some_near a.m c.requires.0 a.s c.requires.1 c.requires.2 a.links.now c.requires.4 a.from a.to c.requires.5 c.requires.6 c.requires.7)
 
 pub before-u-requires : goal.before-u-requires
 before-u-requires c =
@@ -30,7 +30,6 @@ before-u-requires c =
       omega (arith, c.requires.1.count),
       omega (arith, c.requires.1.count, r.few),
       l.invariant.0,
-      c.requires.5,
       (q.0, q.1, ((r.rows.bits (l.j - 1) q.0 (omega (arith, c.requires.1.count, q.1))).1 (omega (arith, l.invariant.0), q.2), q.3)),
     )
 
@@ -51,7 +50,7 @@ loop-j-preserved c =
       ((r.rows.bits (l.j - 1) u (omega (arith, c.requires.1.count, b.0))).0 b.1.0).1,
       not-before a.links.now a.s.count (l.j - 1) a.from u l.t b.0 f b.1.1,
       length-set l.out (l.j - 1) x ∙ l.invariant.3,
-      subst (λ (ls : List ℕ). Way (program_of a.m) (row a.s) (state (row a.s) u) ls (state (row a.s) a.to)) (sym (slice-more l.out (l.j - 1) k x g (omega (arith, l.invariant.3, r.few, c.requires.10)))) (state (row a.s) l.t, c.line_to.ensures, w),
+      subst (λ (ls : List ℕ). Way (program_of a.m) (row a.s) (state (row a.s) u) ls (state (row a.s) a.to)) (sym (slice-more l.out (l.j - 1) k x g (omega (arith, l.invariant.3, r.few, c.requires.8)))) (state (row a.s) l.t, c.line_to.ensures, w),
       drop-set-lt k l.out (l.j - 1) x g ∙ l.invariant.5,
     )
 
@@ -67,6 +66,6 @@ returns c =
     record {
       few = omega (arith, r.few, length-row a.s c.requires.1);
       way = subst (λ (v : ℕ). Way (program_of a.m) (row a.s) (state (row a.s) v) (slice 0 k l.out) (state (row a.s) a.to)) (sym q) w;
-      least = least-way a.m c.requires.0 a.s c.requires.1 c.requires.2 a.links.now c.requires.6 a.from a.to c.requires.7 c.requires.8 k r.least;
+      least = least-way a.m c.requires.0 a.s c.requires.1 c.requires.2 a.links.now c.requires.4 a.from a.to c.requires.5 c.requires.6 k r.least;
       rest = l.invariant.5;
     }

@@ -1,4 +1,4 @@
-use mathlib.Core.Path.{refl, sym}
+use mathlib.Core.Path.{refl}
 use mathlib.Core.Logic.{inl, inr}
 use native.Mathlib.Omega.{arith}
 use Rattle.semantics.proofs.Tools.{clash}
@@ -45,15 +45,6 @@ returns-then-from-to c =
     let a = c.args in
     answered a.m c.requires.0 c.requires.1.0 c.in-Some.found (surveyed (goal.at.returns-then-from-to c).In-Some) a.from a.to (first (goal.at.returns-then-from-to c).Else-not-known) (second (goal.at.returns-then-from-to c).Else-not-known-2) a.run.now a.run.now (Some 0)
     (staying a.m c.in-Some.found.states a.from a.to a.run.now c.if-from-to.true)
-
-pub slice_bounds-onward-end : goal.slice_bounds-onward-end
-slice_bounds-onward-end c = sym (surveyed (goal.at.slice_bounds-onward-end c).In-Some).moves.tabled
-
-pub slice_bounds-onward-end-2 : goal.slice_bounds-onward-end-2
-slice_bounds-onward-end-2 c = sym (surveyed (goal.at.slice_bounds-onward-end-2 c).In-Some).moves.stepped
-
-pub slice_bounds-onward-end-3 : goal.slice_bounds-onward-end-3
-slice_bounds-onward-end-3 c = sym (surveyed (goal.at.slice_bounds-onward-end-3 c).In-Some).moves.closed
 
 pub onward-requires : goal.onward-requires
 onward-requires c =

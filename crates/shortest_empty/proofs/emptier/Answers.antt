@@ -13,13 +13,13 @@ pub returns-then-turns : goal.returns-then-turns
 returns-then-turns c =
     let a = c.args in
     let i = c.loop-i.i in
-    clause-takes a.m c.requires.0 a.s c.requires.1 a.table.now c.requires.3 a.u 0 i c.requires.4 (sym c.get.ensures ∙ c.if-get.true)
-    (rw (get_or-take a.s.count a.s.states a.u 0 c.requires.4) (subst (λ (b : Bool). Says b (Turns (clause_at a.m i).action (get_or a.s.states a.u 0) 0)) c.if-turns.true c.turns.ensures))
+    clause-takes a.m c.requires.0 a.s c.requires.1 a.table.now c.requires.2 a.u 0 i c.requires.3 (sym c.get.ensures ∙ c.if-get.true)
+    (rw (get_or-take a.s.count a.s.states a.u 0 c.requires.3) (subst (λ (b : Bool). Says b (Turns (clause_at a.m i).action (get_or a.s.states a.u 0) 0)) c.if-turns.true c.turns.ensures))
 
 pub returns : goal.returns
 returns c =
     let a = c.args in
     let l = c.loop-i in
     λ k h.
-    let r = takes-clause a.m c.requires.0 a.s c.requires.1 a.table.now c.requires.3 a.u 0 k c.requires.4 h in
-    l.invariant r.0 (omega (arith, r.1)) r.2 (rw (get_or-take a.s.count a.s.states a.u 0 c.requires.4) at r.3)
+    let r = takes-clause a.m c.requires.0 a.s c.requires.1 a.table.now c.requires.2 a.u 0 k c.requires.3 h in
+    l.invariant r.0 (omega (arith, r.1)) r.2 (rw (get_or-take a.s.count a.s.states a.u 0 c.requires.3) at r.3)

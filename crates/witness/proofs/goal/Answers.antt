@@ -25,8 +25,8 @@ loop-f-preserved c =
     ] in
     below_more _ _ c.loop-f.invariant (λ h. clash h.2 (sym (c.row-row.ensures.bits h.0 (omega (arith, h.1))) ∙ none h.0 h.1))
 
-pub returns : goal.returns
-returns c =
-    let q = c.requires.2 in
-    let s = c.requires.2.2 in
-    absurd (c.loop-f.invariant q.1 (omega (arith, s.1)) (q.0, s.0, s.2))
+pub unreachable-requires : goal.unreachable-requires
+unreachable-requires c =
+    let q = c.requires.1 in
+    let s = c.requires.1.2 in
+    c.loop-f.invariant q.1 (omega (arith, s.1)) (q.0, s.0, s.2)

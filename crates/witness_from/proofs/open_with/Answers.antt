@@ -14,7 +14,7 @@ meet_first-met-requires c =
     let p = c.requires in
     let a = c.args in
     let e = c.opening-c.ensures in
-    (p.0.model, p.5, p.6, chosen-below a.m a.work.now a.s p.0 0 p.0.model.one _ e.0 e.1.0.0 e.2, omega (arith, p.10))
+    (p.0.model, p.4, p.5, chosen-below a.m a.work.now a.s p.0 0 p.0.model.one _ e.0 e.1.0.0 e.2, omega (arith, p.9))
 
 pub errand-then-requires : goal.errand-then-requires
 errand-then-requires c =
@@ -30,8 +30,8 @@ errand-then-requires c =
       omega arith,
       p.0.model.one,
       ready_at a.m a.s p.0.proper e.0 e.1.0.0.0 1 a.p.second e.1.0.1.1,
-      p.5.second,
-      omega (arith, p.10, t.index, t.few),
+      p.4.second,
+      omega (arith, p.9, t.index, t.few),
     )
 
 pub approach-at-requires : goal.approach-at-requires
@@ -48,8 +48,8 @@ approach-at-requires c =
       p.0.found,
       p.1,
       ready_at a.m a.s p.0.proper e.0 e.1.0.0.0 0 a.p.first e.1.0.1.0,
-      p.5.first,
-      omega (arith, p.10, t.index, t.few, d.index, d.few),
+      p.4.first,
+      omega (arith, p.9, t.index, t.few, d.index, d.few),
     )
 
 pub lead-requires : goal.lead-requires
@@ -63,14 +63,14 @@ lead-requires c =
     let long = written-length _ _ _ _ _ _ t in
     let long-still = written-length _ _ _ _ _ _ d in
     let long-yet = written-length _ _ _ _ _ _ f in
-    let below = chosen-below a.m a.work.now a.s p.0 0 p.0.model.one _ e.0 e.1.0.0 e.2 0 p.8 in
+    let below = chosen-below a.m a.work.now a.s p.0 0 p.0.model.one _ e.0 e.1.0.0 e.2 0 p.7 in
     let most = c.requires.0.proper.count in (
       p.0.model,
       p.0.proper,
       p.1,
-      (p.3.bits a.slot c.opening-c.result.first (omega (arith, below, most))).0 (subst (λ (v : ℕ). in_row a.ways.now a.slot v ≡ true) (e.2 0 p.8) e.1.1),
-      p.6,
-      omega (arith, p.10, t.index, t.few, d.index, d.few, f.index, f.few),
+      (p.2.bits a.slot c.opening-c.result.first (omega (arith, below, most))).0 (subst (λ (v : ℕ). in_row a.ways.now a.slot v ≡ true) (e.2 0 p.7) e.1.1),
+      p.5,
+      omega (arith, p.9, t.index, t.few, d.index, d.few, f.index, f.few),
     )
 
 pub returns : goal.returns
@@ -78,5 +78,5 @@ returns c =
     let p = c.requires in
     let a = c.args in
     let e = c.opening-c.ensures in
-    opening-written a.m a.work.now a.s p.0 a.cast a.carried a.object a.slot a.p.first a.p.second _ e.0 e.1.0 (e.2 0 p.8) a.run.now _ _ _ _ a.p.at _ _ _ _
+    opening-written a.m a.work.now a.s p.0 a.cast a.carried a.object a.slot a.p.first a.p.second _ e.0 e.1.0 (e.2 0 p.7) a.run.now _ _ _ _ a.p.at _ _ _ _
     (c.meet_first-met.ensures e.0 e.2) c.errand-then.ensures c.approach-at.ensures c.lead.ensures

@@ -38,7 +38,6 @@ open_with-at-requires c =
     let most = c.requires.0.known.proper.count in (
       p.0.known,
       p.0.mapped,
-      p.0.long,
       p.0.comes,
       c.slots-slots.ensures,
       subst (Numbered a.s) (sym (same a.existing a.s.count a.object _ _ _ c.cast-roles.ensures c.first_carried-carried.ensures)) (numbered a.m a.work.now a.s p.0.known p.3 a.existing a.object a.slot p.4 p.5),

@@ -1,14 +1,14 @@
 use Rattle.witness_meetings.proofs.Laws.{choose-found, choose-none}
 use Rattle.witness_meetings.proofs.choose.Goals as goal
 
-pub returns-in-Some : goal.returns-in-Some
-returns-in-Some c =
+pub returns : goal.returns
+returns c =
     let p = c.requires in
     let a = c.args in
     choose-found a.m a.work.now a.s p.0 a.k p.2 a.first a.second p.3.0 p.3.1 _ _ c.name_both-fixed.ensures _ c.in-Some.ensures
 
-pub returns-in-None : goal.returns-in-None
-returns-in-None c =
+pub unreachable-requires : goal.unreachable-requires
+unreachable-requires c =
     let p = c.requires in
     let a = c.args in
-    absurd (choose-none a.m a.work.now a.s p.0 a.k p.2 a.first a.second p.3.0 p.3.1 _ _ c.name_both-fixed.ensures c.free-free.ensures c.in-None.ensures)
+    choose-none a.m a.work.now a.s p.0 a.k p.2 a.first a.second p.3.0 p.3.1 _ _ c.name_both-fixed.ensures c.free-free.ensures c.in_default.ensures

@@ -26,8 +26,8 @@ loop-u-preserved c =
       | else-get w ↦ λ t. clash t.1.1 (ap (in_row a.rows.now a.j) t.2 ∙ sym c.get.ensures ∙ w.if-get.false)
     ])
 
-pub returns : goal.returns
-returns c =
+pub unreachable-requires : goal.unreachable-requires
+unreachable-requires c =
     let p = c.requires in
     let a = c.args in
-    absurd (c.loop-u.invariant (p.5.0 (first_variable a.m)) (omega (arith, first_below a.m a.work.now a.s p.0 p.2 a.rows.now a.j a.first a.second p.5.0 p.5.1)) (p.5.0, p.5.1, refl))
+    c.loop-u.invariant (p.5.0 (first_variable a.m)) (omega (arith, first_below a.m a.work.now a.s p.0 p.2 a.rows.now a.j a.first a.second p.5.0 p.5.1)) (p.5.0, p.5.1, refl)

@@ -20,7 +20,7 @@ previous-q-requires c =
     let p = c.requires in
     let a = c.args in
     let h = behind (goal.at.previous-q-requires c).Start in
-    (p.0.known.model, h.level, p.0.levels.long, p.0.long, h.sits.0, h.sits.1, came_from a.m a.work.now a.s a.rows.now a.table.now a.steps.now a.ways.now p.0 a.k a.p.first a.p.second h.level h.sits)
+    (p.0.known.model, h.level, h.sits.0, h.sits.1, came_from a.m a.work.now a.s a.rows.now a.table.now a.steps.now a.ways.now p.0 a.k a.p.first a.p.second h.level h.sits)
 
 pub meet-met-requires : goal.meet-met-requires
 meet-met-requires c =

@@ -14,10 +14,10 @@ returns-in-Some c =
 pub loop-v-preserved : goal.loop-v-preserved
 loop-v-preserved c = below_more _ _ c.loop-v.invariant (elim (c.if-moves.branch) [ then-moves+in_default w ↦ λ h. w.in_default.ensures h.0 h.1 h.2 | else-moves w ↦ λ h. denied c.moves.result _ c.moves.ensures w.if-moves.false h.3 ])
 
-pub returns : goal.returns
-returns c =
+pub unreachable-requires : goal.unreachable-requires
+unreachable-requires c =
     let a = c.args in
-    let q = c.requires.6 in
-    let r = c.requires.6.2 in
+    let q = c.requires.4 in
+    let r = c.requires.4.2 in
     let h = pair_found a.m a.rows.now a.ways.now a.k a.first a.second _ _ _ _ c.holds-one.ensures c.holds-two.ensures c.carries-begun.ensures c.carries-began.ensures q.0 q.1 r in
-    absurd (c.loop-v.invariant q.1 (omega (arith, r.0.1)) (q.0, r.0.0, h.0, h.1))
+    c.loop-v.invariant q.1 (omega (arith, r.0.1)) (q.0, r.0.0, h.0, h.1)
