@@ -135,7 +135,7 @@ fn swapped(g: Stage, number: u32, carried: u32, c: Choice) -> bool
     false
 }
 
-// Does a choice have another object than the carried one for some carried variable, which have these numbers?
+// Does a choice have another object than the carried one for some of the carried variables of these numbers?
 fn any_swapped(numbers: [u32; CARRIED], g: Stage, carried: [u32; CARRIED], c: Choice) -> bool
     requires { g.variables ≤ limit.variables }
     ensures { Says (AnySwapped numbers g carried c) result }
