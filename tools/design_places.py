@@ -23,7 +23,7 @@ import sys
 
 NONE = re.compile(
     r"// .*(\b0 if|\bor 0\b|\bor 3\b|\bor n\b|or NONE|or SLOTS|or SETS|or LISTED|or 255|0 where|0 and 0|3 if|255 (where|in)"
-    r"|if there is none|if it is not there|n where|tands for no\b|where it (has|is) no|0 standing|or the number of|or the text's length|nothing elsewhere|no number elsewhere)"
+    r"|if there is none|if it is not there|n where|tands for no\b|where it (has|is) no|255 for none|0 standing|or the number of|or the text's length|nothing elsewhere|no number elsewhere)"
 )
 
 

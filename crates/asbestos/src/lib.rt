@@ -17,6 +17,7 @@ const TABLE: [[u32; 5]; 5] = [
 ];
 
 // The receiver's send level after a message, by both send levels.
+// The levels stay numbers: they are given so, and are places in the table.
 pub fn resulting(receiver: u32, sender: u32) -> u32
     requires { (receiver < levels) × (sender < levels) }
     ensures { result ≡ resulting_level receiver sender }

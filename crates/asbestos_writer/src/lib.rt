@@ -43,7 +43,7 @@ fn kind_of(kinds: &[u32; CELLS], i: usize) -> Kind
 }
 
 // Writes the bytes, and the digit of a level behind them.
-// A level stays a number and the place a parameter: C gives levels so, and each call writes behind the one before.
+// A level stays a number and the place a parameter: levels are counted up, looked up in a table and given by C, and each call writes behind the one before.
 fn put_level(out: &mut [u8], at: usize, bytes: &[u8], level: u32) -> usize
     requires { (level < levels) × (at + length bytes.now + 1 ≤ length out.old) }
     ensures { Writes out.old at (levelled bytes.now level) result out.new }
@@ -160,7 +160,7 @@ fn put_kind(out: &mut [u8], at: usize, k: Kind) -> usize
 }
 
 // Writes the lines of the first kinds, so many.
-// The cells and their count stay two parameters: C lends all cells, and the count beside them.
+// The cells and their count stay two parameters: the entry has them so from C, and a struct of both would be made there only to be taken apart here.
 fn put_kinds(out: &mut [u8], at: usize, kinds: &[u32; CELLS], count: usize) -> usize
     requires { (count ≤ most) × AllProper (kinds_of kinds.now count) × (at + 504 ≤ length out.old) }
     ensures { Writes out.old at (printed (map born_form (kinds_of kinds.now count))) result out.new }

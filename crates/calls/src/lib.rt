@@ -20,29 +20,14 @@ pub const CROWDED: Refusal = Refusal {
 pub fn early(bytes: usize, short: bool, long: bool) -> Result<(), Refusal>
     ensures { MatchResult result (λ _. early_row bytes short long ≡ 0) (λ r. (number_of r.row ≡ early_row bytes short long) × (r.line ≡ 0)) }
 {
-    if bytes == 0 {
-        return Err(Refusal {
-            row: Row::Size,
-            line: 0,
-        });
-    }
-    if bytes > TEXT {
-        return Err(Refusal {
-            row: Row::Size,
-            line: 0,
-        });
+    if bytes == 0 || bytes > TEXT {
+        return Err(Row::Size.refusal());
     }
     if short {
-        return Err(Refusal {
-            row: Row::Lent,
-            line: 0,
-        });
+        return Err(Row::Lent.refusal());
     }
     if long {
-        return Err(Refusal {
-            row: Row::Length,
-            line: 0,
-        });
+        return Err(Row::Length.refusal());
     }
     Ok(())
 }

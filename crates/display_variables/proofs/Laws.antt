@@ -37,8 +37,8 @@ name-front : (s : List ℕ) {w t : List ℕ} → name s ≡ some (w, t) → (0 <
 unfolding name
 name-front s {w} {t} e = (
   ⊎_elim
-  (λ (q : is_name (word s) ≡ true). let (p, r) = name-inverse s e in rw p (name-long (word s) q))
-  (λ (q : is_name (word s) ≡ false). some-none e (rw q)) (either (is_name (word s))),
+      (λ (q : is_name (word s) ≡ true). let (p, r) = name-inverse s e in rw p (name-long (word s) q))
+      (λ (q : is_name (word s) ≡ false). some-none e (rw q)) (either (is_name (word s))),
   name-joined s e,
 )
 
@@ -54,18 +54,18 @@ module _ (line : List ℕ) (i : ℕ) (l : i < length line) where
   unfolding behind_at
   behind_none h = ⊎_elim
       (λ (q : eqb (get_or line i 0) 32 ≡ true).
-        let z : name (drop (i + 1) line) ≡ none = rw (next line i l, eqb-true (get_or line i 0) 32 q) at h in
-        rw (q, z))
+      let z : name (drop (i + 1) line) ≡ none = rw (next line i l, eqb-true (get_or line i 0) 32 q) at h in
+      rw (q, z))
       (λ (q : eqb (get_or line i 0) 32 ≡ false). rw q) (either (eqb (get_or line i 0) 32))
 
   pub behind-found : {e : ℕ} → EndsAt (after_space name) line i e → BehindEnd line i e
   unfolding behind_at
   behind-found {e} v = ⊎_elim
       (λ (q : eqb 32 (get_or line i 0) ≡ true).
-        let b = eqb-true 32 (get_or line i 0) q in
-        let z : name (drop (i + 1) line) ≡ some (v.value, drop e line) = (let f = v.found in rw (next line i l, q) at f) in
-        let (p, w) = name-slice line (i + 1) e (omega (arith, v.begins)) v.ends z in
-        record { begins = p; ends = v.ends; read = rw (← b, z, w) })
+      let b = eqb-true 32 (get_or line i 0) q in
+      let z : name (drop (i + 1) line) ≡ some (v.value, drop e line) = (let f = v.found in rw (next line i l, q) at f) in
+      let (p, w) = name-slice line (i + 1) e (omega (arith, v.begins)) v.ends z in
+      record { begins = p; ends = v.ends; read = rw (← b, z, w) })
       (λ (q : eqb 32 (get_or line i 0) ≡ false). some-none v.found (rw (next line i l, q))) (either (eqb 32 (get_or line i 0)))
 
 -- a word among one

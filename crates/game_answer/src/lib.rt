@@ -87,16 +87,10 @@ pub fn decide(
     ensures { Settles (program_of m) (question_of m) attacker.now guardian.now work.old result work.new }
 {
     if game_lists::faulty(m, attacker) || game_lists::faulty(m, guardian) {
-        return Err(Refusal {
-            row: Row::Moves,
-            line: 0,
-        });
+        return Err(Row::Moves.refusal());
     }
     if !game_lists::single(m) {
-        return Err(Refusal {
-            row: Row::Question,
-            line: 0,
-        });
+        return Err(Row::Question.refusal());
     }
     explored(m, attacker, guardian, work)
 }

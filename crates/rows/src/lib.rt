@@ -39,6 +39,13 @@ impl Row {
     {
         self as u32
     }
+
+    // The refusal with this row, where no line is to blame.
+    pub fn refusal(self) -> Refusal
+        ensures { (result.row ≡ self) × (result.line ≡ 0) }
+    {
+        Refusal { row: self, line: 0 }
+    }
 }
 
 // A row that refuses a text or a call, and the line that it stands on; 0 where no line is to blame.

@@ -39,10 +39,7 @@ pub fn decide(text: &[u8], list: &[u32], work: &mut [u8]) -> Result<Choices, Ref
 {
     let m = text::accept(text, work.len() < WORK, false)?;
     if strike_list::faulty(m, list) {
-        return Err(Refusal {
-            row: Row::Lines,
-            line: 0,
-        });
+        return Err(Row::Lines.refusal());
     }
     calls::wipe(work);
     choose(m, list)

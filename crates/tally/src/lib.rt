@@ -34,7 +34,7 @@ fn reached(t: Table) -> u32
     n
 }
 
-// The share of a count in whole hundredths,
+// The share of a count in whole hundredths.
 fn hundredths(reached: u32, total: u32) -> u32
     requires { (reached ≤ 1024) × (0 < total) }
     ensures { result ≡ 100 * reached / total }
@@ -42,7 +42,7 @@ fn hundredths(reached: u32, total: u32) -> u32
     100 * reached / total
 }
 
-// and what remains.
+// What remains of a count behind its whole hundredths.
 fn rest(reached: u32, total: u32) -> u32
     requires { (reached ≤ 1024) × (0 < total) }
     ensures { result ≡ 100 * reached % total }

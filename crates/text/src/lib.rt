@@ -54,7 +54,7 @@ fn read_lines(text: &[u8]) -> Result<Model, Refusal>
     let mut m = text_opening::blank();
     let mut at = 0;
     let mut line: u32 = 1;
-    // The loop stays a `while`: a step is a whole line, whose end it finds.
+    // The loop stays a `while`: names keep their place in the whole text, so that the place of a line is needed beside its bytes.
     while at < text.len() {
         let Some(e) = text_scan::line_end(text, at) else {
             return refusal(Row::Byte, line);

@@ -1,3 +1,4 @@
 pub mod Laws
 pub mod Ending
 pub mod Represented
+pub mod Missing

@@ -58,7 +58,7 @@ pub fn number(text: &[u8], t: Scope<ASKED>, s: Scope<VARIABLES>) -> Numbering
 }
 
 // The cells of the variables that stand in a second stage, 255 in one that has none; none if there are more than cells. The variables are numbered by first appearance, so they rise in that order.
-// 255 stays for no variable: these cells are part of the record that C lends.
+// 255 stays for no variable: it is the number of none, so that a cell is compared with a stage's numbers as it stands.
 pub fn carried(t: Scope<ASKED>) -> Option<[u32; CARRIED]>
     ensures { result ≡ carriers_of t }
 {

@@ -15,7 +15,7 @@ use rows::Row;
 use text_names::{Declared, Name};
 
 // Room for a state relation with the name from a to e, or row 4, then 5.
-// Names and the two ends of one stay three parameters: the ends are found just before, and used once.
+// Names and the two ends of one stay three parameters: a struct of them would be made for a line, and taken apart again by `enter`.
 fn state_room(text: &[u8], d: Declared, a: usize, e: usize) -> Result<(), Row>
     requires { names.Valid text.now d × (a ≤ e) × (e ≤ length text.now) }
     ensures { fault_in result ≡ state_number (names.declared_of text.now d) (slice a e text.now) }

@@ -17,12 +17,7 @@ pub fn both<A: Copy, B: Copy>(a: Result<A, Row>, b: Result<B, Row>) -> Result<(A
         (Ok(x), Ok(y)) => Ok((x, y)),
         (Ok(_), Err(y)) => Err(y),
         (Err(x), Ok(_)) => Err(x),
-        (Err(x), Err(y)) => {
-            if x.number() < y.number() {
-                return Err(x);
-            }
-            Err(y)
-        }
+        (Err(x), Err(y)) => Err(x.min(y)),
     }
 }
 
@@ -40,13 +35,10 @@ pub fn arity(code: u32) -> u32
 pub fn state_code(code: Option<u32>) -> Result<u32, Row>
     ensures { Coded (name_fault (found code)) code result }
 {
-    let Some(c) = code else {
-        return Err(Row::Kind);
-    };
-    if c < 32 {
-        return Ok(c);
+    match code {
+        Some(c) if c < 32 => Ok(c),
+        _ => Err(Row::Kind),
     }
-    Err(Row::Kind)
 }
 
 // The code of a rule's head with n variables.
@@ -66,6 +58,7 @@ pub fn head_code(code: Option<u32>, n: usize) -> Result<u32, Row>
 }
 
 // The code of a literal with n variables.
+// The flag stays beside the code: it is the text's `not`, which stands apart from the relation's name.
 pub fn literal_code(negated: bool, code: Option<u32>, n: usize) -> Result<u32, Row>
     ensures { Coded (sign_fault negated (found code) n) code result }
 {

@@ -37,7 +37,7 @@ fn store_declaration(m: Model, declared: Declared) -> Step
 }
 
 // The line that is next, up to the end of the text.
-// The text and the place stay two parameters: `text_scan` says why.
+// The text and the place stay two parameters: `text_scan` says why. The tests stay a chain: each word has a reader of its own, and a table of words would need a `match` on the place found.
 pub fn read_line(text: &[u8], at: usize, d: Declared, m: Model, number: u32) -> Result<Step, Row>
     requires { (at ≤ length text.now) × (length text.now < 4294967296) × names.Valid text.now d × Limited d × ((P : Program) × stored.Holds m P) }
     ensures { LineEnd text.now at d m number result }

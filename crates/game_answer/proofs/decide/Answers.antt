@@ -3,6 +3,7 @@ use mathlib.Core.Logic.{inl, inr}
 use mathlib.Core.Bool.{Bool, false, ◌||◌}
 use Rattle.semantics.proofs.Tools.{clash, or_right}
 use Rattle.model.specs.Records.{program_of}
+use Rattle.rows.specs.Rows.{number_of}
 use Rattle.game_lists.specs.Lists.{faulty}
 use Rattle.game_lists.proofs.Laws.{of-form}
 use Rattle.game_answer.specs.Telling.{faulted}
@@ -20,20 +21,21 @@ returns-then-faulty c =
     let a = c.args in
     let found = faulty (program_of a.m) in (
       inl (
-        refl,
+        ap number_of c.refusal.ensures.0,
         elim (c.then-faulty.branch) [
           | then-faulty-via-then-faulty w ↦ ap (λ (b : Bool). b || found a.guardian.now) (sym c.faulty.ensures ∙ w.if-faulty.true)
           | then-faulty-via-else-faulty+then-faulty-2 w ↦ or_right (found a.attacker.now) (found a.guardian.now) (sym w.faulty-else-faulty.ensures ∙ w.if-faulty-2.true)
         ],
         refl,
       ),
-      refl,
+      c.refusal.ensures.1,
     )
 
 pub returns-then-not-single : goal.returns-then-not-single
 returns-then-not-single c =
     let k = c.single in
-    (inr (inl (refl, good (goal.at.returns-then-not-single c).Else-faulty-2, (λ f. clash (k.ensures.1 (of-form c.args.m c.requires.0 f.0 f.1 f.2)) c.if-not-single.true), refl)), refl)
+    let r = c.refusal-then-not-single in
+    (inr (inl (ap number_of r.ensures.0, good (goal.at.returns-then-not-single c).Else-faulty-2, (λ f. clash (k.ensures.1 (of-form c.args.m c.requires.0 f.0 f.1 f.2)) c.if-not-single.true), refl)), r.ensures.1)
 
 pub explored-requires : goal.explored-requires
 explored-requires c =

@@ -1,5 +1,6 @@
-use mathlib.Core.Path.{refl, sym, ◌∙◌}
+use mathlib.Core.Path.{refl, sym, ap, ◌∙◌}
 use Rattle.std.proofs.lemmas.Result.{err_from_is_err_and}
+use Rattle.rows.specs.Rows.{number_of}
 use Rattle.strike_calls.proofs.Laws.{asked-room, asked-refused, asked-model, asked-faulty, asked-taken}
 use Rattle.strike_calls.proofs.decide.Goals as goal
 
@@ -15,7 +16,7 @@ faulty-requires c = let a = c.args in asked-model a.text.now a.list.now a.work.n
 pub returns-then-faulty : goal.returns-then-faulty
 returns-then-faulty c =
     let a = c.args in
-    rw (asked-faulty a.text.now a.list.now a.work.now _ c.in_ok-m.ensures (sym c.faulty.ensures ∙ c.if-faulty.true)) ((refl, refl), refl)
+    rw (asked-faulty a.text.now a.list.now a.work.now _ c.in_ok-m.ensures (sym c.faulty.ensures ∙ c.if-faulty.true)) ((ap number_of c.refusal.ensures.0, c.refusal.ensures.1), refl)
 
 pub wipe-requires : goal.wipe-requires
 wipe-requires c = let a = c.args in asked-room a.text.now a.list.now a.work.now _ c.in_ok-m.ensures

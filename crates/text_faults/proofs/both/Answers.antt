@@ -1,5 +1,4 @@
-use native.Mathlib.Omega.{arith}
-use Rattle.text_faults.proofs.Laws.{both-ok, both-first, both-second, both-less, both-more}
+use Rattle.text_faults.proofs.Laws.{both-ok, both-first, both-second, both-min}
 use Rattle.text_faults.proofs.both.Goals as goal
 
 pub returns-in-Ok-Ok : goal.returns-in-Ok-Ok
@@ -11,8 +10,5 @@ returns-in-Ok-Err g c = rw (c.in-Ok-Err.is-0, c.in-Ok-Err.is-1) (both-second c.i
 pub returns-in-Err-Ok : goal.returns-in-Err-Ok
 returns-in-Err-Ok g c = rw (c.in-Err-Ok.is-0, c.in-Err-Ok.is-1) (both-first c.in-Err-Ok.x c.in-Err-Ok.field-0-1)
 
-pub returns-then-number : goal.returns-then-number
-returns-then-number g c = rw (c.in-Err-Err.is-0, c.in-Err-Err.is-1) (both-less c.in-Err-Err.x c.in-Err-Err.y (omega (arith, c.if-number.true, c.number.ensures, c.number-in-Err-Err.ensures)))
-
-pub returns-else-number : goal.returns-else-number
-returns-else-number g c = rw (c.in-Err-Err.is-0, c.in-Err-Err.is-1) (both-more c.in-Err-Err.x c.in-Err-Err.y (omega (arith, c.if-number.false, c.number.ensures, c.number-in-Err-Err.ensures)))
+pub returns-in-Err-Err : goal.returns-in-Err-Err
+returns-in-Err-Err g c = rw (c.in-Err-Err.is-0, c.in-Err-Err.is-1) (both-min c.in-Err-Err.x c.in-Err-Err.y _ c.min.ensures)
