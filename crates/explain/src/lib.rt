@@ -43,11 +43,9 @@ fn why(m: Model, s: Session, n: u32, work: &mut [u8]) -> Reason
     ensures { ((p : runs.Place) → place_of n ≡ some p → Explains m s p result) × (length work.new ≡ length work.old) }
 {
     let v = replay_view::arrange(&s.states, s.objects, work);
-    let numbers = replay_numbers::numbers(m);
-    let literals = m.literals;
-    let need = replay_places::needs(&numbers, &literals, n);
+    let need = replay_places::needs(&m, n);
     replay_runs::derive(m, need, v.count, work);
-    reasons::why_place(&numbers, &literals, &v.slots, work, s.position(), n)
+    reasons::why_place(&m, &v.slots, work, s.position(), n)
 }
 
 // Why a run breaks at a place, in the state to which the places before it lead.

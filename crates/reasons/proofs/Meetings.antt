@@ -18,6 +18,7 @@ use Rattle.model.specs.declared.Model.{Model}
 use Rattle.model.specs.declared.Stage.{Stage}
 use Rattle.model.specs.Records.{program_of, question_of, stage_body, stage_of, number_in, stage_at, carried_at}
 use Rattle.model.specs.Places.{objects}
+use Rattle.model.specs.WellFormed.{WellFormed}
 use Rattle.model.proofs.Renaming.{elem-map, elem-of-map, vars-renamed, meets-renamed, named-renamed}
 use Rattle.model.proofs.Accepted.{stages, stage-here, stage-vars, stage-different, stage-count}
 use Rattle.facts_candidates.specs.declared.Choice.{Choice}
@@ -28,10 +29,10 @@ use Rattle.replay_session.specs.Sessions.{carried_in}
 use Rattle.replay_session.specs.Records.{session_of}
 use Rattle.replay_session.proofs.Carrying.{stands-cell, cell-stands}
 use Rattle.replay_session.proofs.Effects.{size}
-use Rattle.replay_numbers.specs.Numbers.{Numbered}
 use Rattle.replay_view.specs.declared.View.{View}
 use Rattle.replay_steps.specs.Tries.{Ready, Holding}
 use Rattle.replay_meetings.proofs.Objects.{pick-place, choice, objects-chosen}
+use Rattle.replay_meetings.proofs.Meetings.{carried-in}
 use Rattle.reasons_bodies.specs.Blames.{Blames}
 use Rattle.reasons_bodies.proofs.Orders.{blames-renamed}
 use Rattle.reasons.specs.declared.Reason.TheVariants.{NoObject, OtherStage, Variables, Carried, Literal}
@@ -42,13 +43,13 @@ at-elem [] i l = absurd (omega arith)
 at-elem (x ∷ xs) zero l = elem-here x xs
 at-elem (x ∷ xs) (suc i) l = or_right (eqb (get_or xs i 0) x) (elem (get_or xs i 0) xs) (at-elem xs i (omega arith))
 
--- the carried variables of a model are among its numbers
-module _ (m : Model) (ns : List ℕ) (g : Stage) (carried : List ℕ) (c : Choice) (n : Numbered m ns) where
-  pub swapped-row : AnySwapped ns g carried c → (u : ℕ) × (u < limit.carried) × Swapped g (carried_at m u) (get_or carried u 0) c
-  swapped-row (u, l, h) = (u, l, subst (λ (k : ℕ). Swapped g k (get_or carried u 0) c) (n.carried u l) h)
+-- the carried variables of a model in their cells
+module _ (m : Model) (w : WellFormed m) (g : Stage) (carried : List ℕ) (c : Choice) where
+  pub swapped-cell : AnySwapped m.carried g carried c → (u : ℕ) × (u < limit.carried) × Swapped g (carried_at m u) (get_or carried u 0) c
+  swapped-cell (u, l, h) = (u, l, subst (λ (k : ℕ). Swapped g k (get_or carried u 0) c) (carried-in m w u l) h)
 
-  pub none-swapped : (AnySwapped ns g carried c → ⊥) → (u : ℕ) × (u < limit.carried) × Swapped g (carried_at m u) (get_or carried u 0) c → ⊥
-  none-swapped none (u, l, h) = none (u, l, subst (λ (k : ℕ). Swapped g k (get_or carried u 0) c) (sym (n.carried u l)) h)
+  pub none-swapped : (AnySwapped m.carried g carried c → ⊥) → (u : ℕ) × (u < limit.carried) × Swapped g (carried_at m u) (get_or carried u 0) c → ⊥
+  none-swapped none (u, l, h) = none (u, l, subst (λ (k : ℕ). Swapped g k (get_or carried u 0) c) (sym (carried-in m w u l)) h)
 
 module _ (m : Model) (s : Session) (v : View) (w : List ℕ) (ready : Ready m s v w) (left : s.met < m.stagecount) (a b c : ℕ) where
   abbrev P : Program

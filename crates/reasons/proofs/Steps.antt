@@ -106,5 +106,5 @@ module _ (m : Model) (s : Session) (v : View) (w : List ℕ) (ready : Ready m s 
         zeroth σ f = f 0 some (λ e. let q : o ≡ 255 = e in omega arith)
 
 -- the body of a clause is short
-pub part-short : (m : Model) (v : View) (s : Session) (row slots w : List ℕ) (c : Clause) → Stepping m v s row slots w c → c.count ≤ limit.body
-part-short m v s row slots w c t = subst (λ (x : Clause). x.count ≤ limit.body) t.clause (t.ready.accepted.clause t.index t.within).part.short
+pub part-short : (m : Model) (v : View) (s : Session) (slots w : List ℕ) (c : Clause) → Stepping m v s slots w c → c.count ≤ limit.body
+part-short m v s slots w c t = subst (λ (x : Clause). x.count ≤ limit.body) t.clause (t.ready.accepted.clause t.index t.within).part.short

@@ -1,5 +1,5 @@
 -- WHY A PLACE IS NOT ALLOWED.
-use Rattle.std.specs.Prelude.{◌≡◌, ◌≢◌, true, List, ℕ, suc, ◌+◌, ◌≤◌, ◌<◌, length, get_or}
+use Rattle.std.specs.Prelude.{◌≡◌, ◌≢◌, true, List, ℕ, suc, ◌≤◌, ◌<◌, length, get_or}
 use Rattle.std.proofs.Math.Option.{some}
 use Rattle.limits.specs.Limits as limit
 use Rattle.semantics.specs.Models.{elem, Line, rule, new, next, other, Program, line, Question, vars, names}
@@ -99,9 +99,9 @@ Explains m s p r = (Allowed (program_of m) (question_of m) (session_of m s) p �
 abbrev pub Swapped : Stage → ℕ → ℕ → Choice → Type 0
 Swapped g number carried c = (carried ≢ limit.none) × ((x : ℕ) × (x < g.variables) × (number_in g x ≡ number) × (chosen c x ≢ carried))
 
--- the choice has another object than the carried one for some carried variable, which the row of a model has from number 2 on
+-- the choice has another object than the carried one for some carried variable, whose numbers are ns
 abbrev pub AnySwapped : List ℕ → Stage → List ℕ → Choice → Type 0
-AnySwapped ns g carried c = (v : ℕ) × (v < limit.carried) × Swapped g (get_or ns (2 + v) 0) (get_or carried v 0) c
+AnySwapped ns g carried c = (v : ℕ) × (v < limit.carried) × Swapped g (get_or ns v 0) (get_or carried v 0) c
 
 -- one of the n objects that a choice has is beyond the objects of a database
 abbrev pub Beyond : Choice → ℕ → ℕ → Type 0

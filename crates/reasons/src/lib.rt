@@ -7,7 +7,6 @@ ghost use Rattle.limits.specs.Limits as limit;
 ghost use Rattle.semantics.specs.Runs as runs;
 ghost use Rattle.semantics.specs.Runs.{step, meet};
 ghost use Rattle.model.specs.declared.Action.TheVariants.{New, Next};
-ghost use Rattle.model.specs.declared.Model.{Model};
 ghost use Rattle.model.specs.Places.{objects, place_of};
 ghost use Rattle.replay_session.specs.Sessions.{Says, session_in};
 ghost use Rattle.replay_view.specs.declared.View.{View};
@@ -17,8 +16,7 @@ ghost use Rattle.reasons.specs.Reasons.{Explains, Swapped, AnySwapped, Beyond};
 use facts_candidates::Choice;
 use facts_find::FREE;
 use limits::{CARRIED, NONE};
-use model::{Action, Clause, Place, Stage};
-use replay_numbers::NUMBERS;
+use model::{Action, Clause, Model, Place, Stage};
 use replay_session::Position;
 
 // Why a place of a run is not allowed: the run ended with a stage left; all stages are met; the line is no `new` or `next` line; the object is not the next one; it is not there; another stage is next; the stage has another number of variables; a carried variable stands for another object; or the literal at a place of the body is to blame.
@@ -37,17 +35,10 @@ pub enum Reason {
 }
 
 // Why a step of a clause, a `new` line, is not allowed.
-// The model, the view and the states stay in the clauses alone: the code reads some parts of them. What is lent stays apart: it is handed on to `blame`, which takes it apart, and a struct would be made for one place and be taken apart again.
-fn why_new(
-    literals: &[u32],
-    slots: &[u8],
-    work: &[u8],
-    at: Position,
-    c: Clause,
-    object: u32,
-) -> Reason
-    requires { (m : Model) × (v : View) × (states : List ℕ) × Stepping m v (session_in states at) literals.now slots.now work.now c }
-    ensures { (m : Model) (v : View) (states : List ℕ) (set : ℕ) → Stepping m v (session_in states at) literals.now slots.now work.now c → c.action ≡ New set → Explains m (session_in states at) (step c.line object) result }
+// The view and the states stay in the clauses alone: the code reads some parts of them. What is lent stays apart: it is handed on to `blame`, which takes it apart, and a struct would be made for one place and be taken apart again.
+fn why_new(m: &Model, slots: &[u8], work: &[u8], at: Position, c: Clause, object: u32) -> Reason
+    requires { (v : View) × (states : List ℕ) × Stepping m.now v (session_in states at) slots.now work.now c }
+    ensures { (v : View) (states : List ℕ) (set : ℕ) → Stepping m.now v (session_in states at) slots.now work.now c → c.action ≡ New set → Explains m.now (session_in states at) (step c.line object) result }
 {
     let n = at.objects;
     if object as usize != n {
@@ -59,7 +50,7 @@ fn why_new(
         third: FREE,
     };
     let index = reasons_bodies::blame(
-        literals,
+        &m.literals,
         slots,
         work,
         n,
@@ -72,16 +63,9 @@ fn why_new(
 }
 
 // Why a step of a clause, a `next` line, is not allowed.
-fn why_next(
-    literals: &[u32],
-    slots: &[u8],
-    work: &[u8],
-    at: Position,
-    c: Clause,
-    object: u32,
-) -> Reason
-    requires { ((m : Model) × (v : View) × (states : List ℕ) × Stepping m v (session_in states at) literals.now slots.now work.now c) × (object < limit.objects) }
-    ensures { (m : Model) (v : View) (states : List ℕ) (plus minus : ℕ) → Stepping m v (session_in states at) literals.now slots.now work.now c → c.action ≡ Next plus minus → Explains m (session_in states at) (step c.line object) result }
+fn why_next(m: &Model, slots: &[u8], work: &[u8], at: Position, c: Clause, object: u32) -> Reason
+    requires { ((v : View) × (states : List ℕ) × Stepping m.now v (session_in states at) slots.now work.now c) × (object < limit.objects) }
+    ensures { (v : View) (states : List ℕ) (plus minus : ℕ) → Stepping m.now v (session_in states at) slots.now work.now c → c.action ≡ Next plus minus → Explains m.now (session_in states at) (step c.line object) result }
 {
     let o = object as usize;
     let n = at.objects;
@@ -94,7 +78,7 @@ fn why_next(
         third: FREE,
     };
     let index = reasons_bodies::blame(
-        literals,
+        &m.literals,
         slots,
         work,
         n,
@@ -107,26 +91,18 @@ fn why_next(
 }
 
 // Why a step of a line and an object is not allowed.
-// What is lent stays apart: this and `why_meeting` read the numbers too, `why_new` and `why_next` do not, and a struct would be made for one place.
-fn why_step(
-    numbers: &[u32; NUMBERS],
-    literals: &[u32],
-    slots: &[u8],
-    work: &[u8],
-    at: Position,
-    line: u32,
-    object: u32,
-) -> Reason
-    requires { ((m : Model) × (v : View) × (states : List ℕ) × Open m v (session_in states at) numbers.now literals.now slots.now work.now (step line object)) × (object < limit.objects) }
-    ensures { (m : Model) (v : View) (states : List ℕ) → Open m v (session_in states at) numbers.now literals.now slots.now work.now (step line object) → Explains m (session_in states at) (step line object) result }
+// What is lent stays apart: the slots are a part of the view, the table is one of the stock of facts, and a struct would be made for one place.
+fn why_step(m: &Model, slots: &[u8], work: &[u8], at: Position, line: u32, object: u32) -> Reason
+    requires { ((v : View) × (states : List ℕ) × Open m.now v (session_in states at) slots.now work.now (step line object)) × (object < limit.objects) }
+    ensures { (v : View) (states : List ℕ) → Open m.now v (session_in states at) slots.now work.now (step line object) → Explains m.now (session_in states at) (step line object) result }
 {
-    let Some(c) = replay_numbers::clause_on(numbers, line) else {
+    let Some(c) = replay_steps::clause_on(m, line) else {
         return Reason::NoLine;
     };
     match c.action {
         Action::Rule { .. } => Reason::NoLine,
-        Action::New { .. } => why_new(literals, slots, work, at, c, object),
-        Action::Next { .. } => why_next(literals, slots, work, at, c, object),
+        Action::New { .. } => why_new(m, slots, work, at, c, object),
+        Action::Next { .. } => why_next(m, slots, work, at, c, object),
     }
 }
 
@@ -159,13 +135,13 @@ fn swapped(g: Stage, number: u32, carried: u32, c: Choice) -> bool
     false
 }
 
-// Does a choice have another object than the carried one for some carried variable?
-fn any_swapped(numbers: &[u32; NUMBERS], g: Stage, carried: [u32; CARRIED], c: Choice) -> bool
+// Does a choice have another object than the carried one for some of the carried variables of these numbers?
+fn any_swapped(numbers: [u32; CARRIED], g: Stage, carried: [u32; CARRIED], c: Choice) -> bool
     requires { g.variables ≤ limit.variables }
-    ensures { Says (AnySwapped numbers.now g carried c) result }
+    ensures { Says (AnySwapped numbers g carried c) result }
 {
     for v in 0..CARRIED {
-        if swapped(g, numbers[2 + v], carried[v], c) {
+        if swapped(g, numbers[v], carried[v], c) {
             return true;
         }
     }
@@ -174,8 +150,7 @@ fn any_swapped(numbers: &[u32; NUMBERS], g: Stage, carried: [u32; CARRIED], c: C
 
 // Why the meeting of a stage with objects, the named ones first, is not allowed.
 fn why_meeting(
-    numbers: &[u32; NUMBERS],
-    literals: &[u32],
+    m: &Model,
     slots: &[u8],
     work: &[u8],
     at: Position,
@@ -184,14 +159,14 @@ fn why_meeting(
     second: u32,
     third: u32,
 ) -> Reason
-    requires { (m : Model) × (v : View) × (states : List ℕ) × Open m v (session_in states at) numbers.now literals.now slots.now work.now (meet stage (objects (first ∷ second ∷ third ∷ []))) }
-    ensures { (m : Model) (v : View) (states : List ℕ) → Open m v (session_in states at) numbers.now literals.now slots.now work.now (meet stage (objects (first ∷ second ∷ third ∷ []))) → Explains m (session_in states at) (meet stage (objects (first ∷ second ∷ third ∷ []))) result }
+    requires { (v : View) × (states : List ℕ) × Open m.now v (session_in states at) slots.now work.now (meet stage (objects (first ∷ second ∷ third ∷ []))) }
+    ensures { (v : View) (states : List ℕ) → Open m.now v (session_in states at) slots.now work.now (meet stage (objects (first ∷ second ∷ third ∷ []))) → Explains m.now (session_in states at) (meet stage (objects (first ∷ second ∷ third ∷ []))) result }
 {
     let i = at.met;
     if stage as usize != i + 1 {
         return Reason::OtherStage;
     }
-    let g = replay_numbers::stage_at(numbers, i);
+    let g = m.stages[i];
     if replay_meetings::count(first, second, third) != g.variables {
         return Reason::Variables;
     }
@@ -205,11 +180,11 @@ fn why_meeting(
         return Reason::NoObject;
     }
     let carried = at.carried;
-    if any_swapped(numbers, g, carried, fixed) {
+    if any_swapped(m.carried, g, carried, fixed) {
         return Reason::Carried;
     }
     let index = reasons_bodies::blame(
-        literals,
+        &m.literals,
         slots,
         work,
         n,
@@ -222,32 +197,21 @@ fn why_meeting(
 }
 
 // Why a place, by its number, is not allowed.
-pub fn why_place(
-    numbers: &[u32; NUMBERS],
-    literals: &[u32],
-    slots: &[u8],
-    work: &[u8],
-    at: Position,
-    n: u32,
-) -> Reason
-    requires { (m : Model) × (v : View) × (states : List ℕ) × Lent m v (session_in states at) numbers.now literals.now slots.now work.now n }
-    ensures { (m : Model) (v : View) (states : List ℕ) → Lent m v (session_in states at) numbers.now literals.now slots.now work.now n → (p : runs.Place) → place_of n ≡ some p → Explains m (session_in states at) p result }
+pub fn why_place(m: &Model, slots: &[u8], work: &[u8], at: Position, n: u32) -> Reason
+    requires { (v : View) × (states : List ℕ) × Lent m.now v (session_in states at) slots.now work.now n }
+    ensures { (v : View) (states : List ℕ) → Lent m.now v (session_in states at) slots.now work.now n → (p : runs.Place) → place_of n ≡ some p → Explains m.now (session_in states at) p result }
 {
-    if at.met >= numbers[1] as usize {
+    if at.met >= m.stagecount {
         return Reason::Done;
     }
     match model::place_of(n) {
-        Place::Step { line, object } => {
-            why_step(numbers, literals, slots, work, at, line, object)
-        }
+        Place::Step { line, object } => { why_step(m, slots, work, at, line, object) }
         Place::Meeting {
             stage,
             first,
             second,
             third,
-        } => why_meeting(
-            numbers, literals, slots, work, at, stage, first, second, third,
-        ),
+        } => why_meeting(m, slots, work, at, stage, first, second, third),
         Place::Malformed => Reason::NoLine,
     }
 }

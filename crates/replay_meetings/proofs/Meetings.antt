@@ -7,7 +7,8 @@ use mathlib.Core.Option.{some}
 use Prim.Native.Nat.{ℕ, suc, ◌≤◌, ◌<◌}
 use native.Mathlib.Omega.{arith}
 use borrow.Author.Tests.{eq-eqb, ne_eqb}
-use lib.ListN.{length, take, drop, get_or}
+use lib.ListN.{length, take, get_or}
+use lib.Seq.{drop-cons}
 use Rattle.limits.specs.Limits as limit
 use Rattle.semantics.specs.Models.{elem, Body, vars, supported, names, carriers, Supported}
 use Rattle.semantics.specs.Facts.{Derived, Meets}
@@ -17,20 +18,20 @@ use Rattle.semantics.proofs.Tools.{either, clash}
 use Rattle.semantics.proofs.Bodies.{holds_agree, supported-vars}
 use Rattle.model.specs.declared.Model.{Model}
 use Rattle.model.specs.declared.Stage.{Stage}
-use Rattle.model.specs.Literals.{GoodBody}
 use Rattle.model.specs.Records.{program_of, question_of, stage_body, stage_of, number_in, stage_at, carried_at}
 use Rattle.model.specs.Places.{objects}
+use Rattle.model.specs.WellFormed.{WellFormed}
+use Rattle.model.proofs.Carried.{carried-cells}
 use Rattle.model.proofs.Renaming.{elem-map, elem-of-map, vars-renamed, supported-renamed, meets-renamed, named-renamed}
-use Rattle.model.proofs.Accepted.{stages, stage-here, stage-vars, stage_body_lem, stage-different, stage-count}
+use Rattle.model.proofs.Accepted.{stages, stage-here, stage-vars, stage-different, stage-count}
 use Rattle.facts_candidates.specs.declared.Choice.{Choice}
 use Rattle.facts_candidates.specs.Choices.{chosen}
 use Rattle.replay_session.specs.declared.Session.{Session}
 use Rattle.replay_session.specs.Sessions.{carried_in, carried_by, met}
 use Rattle.replay_session.specs.Records.{session_of}
 use Rattle.replay_session.proofs.Carrying.{stands-cell, cell-stands, carried-left}
-use Rattle.replay_numbers.specs.Numbers.{stage_place, stage_from, Numbered}
 use Rattle.replay_view.specs.declared.View.{View}
-use Rattle.replay_steps.specs.Tries.{Plain, Ready, Open, Holding, Taken, Barred}
+use Rattle.replay_steps.specs.Tries.{Ready, Open, Holding, Taken, Barred}
 use Rattle.replay_meetings.specs.Carried.{Named, carried_on, AllNamed, AllAgree, AllCarried}
 use Rattle.replay_meetings.proofs.Objects.{pick-place, choice, objects-chosen}
 
@@ -38,50 +39,35 @@ use Rattle.replay_meetings.proofs.Objects.{pick-place, choice, objects-chosen}
 pub named_small : (g : Stage) (v : ℕ) (c : Choice) (r : ℕ) → ((x : ℕ) → chosen c x < 256) → Named g v c r → r < 256
 named_small g v c r h = ⊎_elim (λ f. rw f.3 (h f.0)) (λ f. rw f.1 (omega arith))
 
-pub named-row : (m : Model) (ns : List ℕ) (g : Stage) (c : Choice) (held : List ℕ) → Numbered m ns → AllNamed ns g c held → (v : ℕ) → v < limit.carried → Named g (carried_at m v) c (get_or held v 0)
-named-row m ns g c held n f v l = subst (λ (k : ℕ). Named g k c (get_or held v 0)) (n.carried v l) (f v l)
+-- the carried variable of a cell
+pub carried-in : (m : Model) → WellFormed m → (v : ℕ) → v < limit.carried → get_or m.carried v 0 ≡ carried_at m v
+carried-in m w v l = ap (λ (k : List ℕ). get_or k 0 0) (sym (drop-cons m.carried v 0 there) ∙ drop-cons m.carried v limit.none there)
+  where
+    there : v < length m.carried
+    there = let e = carried-cells m w in omega arith
 
--- STAGE i among the numbers of a model
-module _ (m : Model) (ns row : List ℕ) (plain : Plain m ns row) (i : ℕ) (here : i < m.stagecount) (g : Stage) (e : g ≡ stage_from ns (stage_place i)) where
+pub named-cells : (m : Model) → WellFormed m → (g : Stage) (c : Choice) (held : List ℕ) → AllNamed m.carried g c held → (v : ℕ) → v < limit.carried → Named g (carried_at m v) c (get_or held v 0)
+named-cells m w g c held f v l = subst (λ (k : ℕ). Named g k c (get_or held v 0)) (carried-in m w v l) (f v l)
+
+-- STAGE i of a model: its body can be handed to the evaluator
+module _ (m : Model) (wf : WellFormed m) (i : ℕ) (here : i < m.stagecount) where
   abbrev own : Stage
   own = stage_at m i
 
-  same-stage : own ≡ g
-  same-stage = sym (e ∙ plain.numbered.stage i here)
+  pub part-within : own.first ≤ length m.literals
+  part-within = let p = (wf.stage i here).part.within in let q = wf.literalcount in let n = wf.literals in omega arith
 
-  -- what holds of the record's literals and stage holds of those lent, and the other way round
-  pub lent : (P : List ℕ → Stage → Type 0) → P m.literals own → P row g
-  lent P h = subst (P row) same-stage (subst (λ (x : List ℕ). P x own) plain.literals h)
-
-  pub of-record : (P : List ℕ → Stage → Type 0) → P row g → P m.literals own
-  of-record P h = subst (λ (x : List ℕ). P x own) (sym plain.literals) (subst (P row) (sym same-stage) h)
-
-  -- its body can be handed to the evaluator
-  pub part-within : g.first ≤ length row
-  part-within = lent (λ x y. y.first ≤ length x)
-      (let wf = plain.accepted in let p = (wf.stage i here).part.within in let q = wf.literalcount in let n = wf.literals in omega arith)
-
-  pub part-good : GoodBody (drop g.first row) g.count g.variables
-  part-good = lent (λ x y. GoodBody (drop y.first x) y.count y.variables) (stage_body_lem m plain.accepted i here)
-
-  pub part-supported : Supported (vars (stage_body row g)) (stage_body row g)
-  part-supported = lent (λ x y. Supported (vars (stage_body x y)) (stage_body x y)) supports
-    where
-      supports : Supported (vars (stage_body m.literals own)) (stage_body m.literals own)
-      supports x q =
-          let f = number_in own in
-          let b = stage_body m.literals own in
-          let wf = plain.accepted in
-          let safe = subst (λ (body : Body). Supported (vars body) body) (stage-here m wf i here) (wf.safely i) (f x) (rw (vars-renamed f b) (elem-map f x (vars b) q)) in
-          let y = elem-of-map f (f x) (supported b) (rw (supported-renamed f b) at safe) in
-          rw (stage-different m wf i here x y.0 q (supported-vars y.0 b y.1) y.2) y.1
-
-  pub few-variables : g.variables ≤ limit.variables
-  few-variables = lent (λ x y. y.variables ≤ limit.variables) (plain.accepted.stage i here).part.few
+  pub part-supported : Supported (vars (stage_body m.literals own)) (stage_body m.literals own)
+  part-supported x q =
+      let f = number_in own in
+      let b = stage_body m.literals own in
+      let safe = subst (λ (body : Body). Supported (vars body) body) (stage-here m wf i here) (wf.safely i) (f x) (rw (vars-renamed f b) (elem-map f x (vars b) q)) in
+      let y = elem-of-map f (f x) (supported b) (rw (supported-renamed f b) at safe) in
+      rw (stage-different m wf i here x y.0 q (supported-vars y.0 b y.1) y.2) y.1
 
 -- the slots are those of the view
-pub slots-enough : (m : Model) (v : View) (s : Session) (ns row slots w : List ℕ) (p : runs.Place) → Open m v s ns row slots w p → s.objects ≤ length slots
-slots-enough m v s ns row slots w p l = let q = l.ready.sees.views.good.slots in let f = l.ready.fits.objects in omega (arith, ap length l.seats)
+pub slots-enough : (m : Model) (v : View) (s : Session) (slots w : List ℕ) (p : runs.Place) → Open m v s slots w p → s.objects ≤ length slots
+slots-enough m v s slots w p l = let q = l.ready.sees.views.good.slots in let f = l.ready.fits.objects in omega (arith, ap length l.seats)
 
 module _ (m : Model) (s : Session) (v : View) (w : List ℕ) (ready : Ready m s v w) (left : s.met < m.stagecount) (a b c : ℕ) where
   abbrev os : List ℕ

@@ -6,6 +6,7 @@ use Prim.Native.Nat.{ℕ, zero, suc, ◌+◌, ◌<◌}
 use native.Mathlib.Omega.{arith}
 use borrow.Author.Tests.{eq-eqb, ne_eqb}
 use lib.ListN.{length, get_or}
+use Rattle.limits.specs.Limits as limit
 use Rattle.semantics.specs.Runs.{pick}
 use Rattle.semantics.proofs.Tools.{same?}
 use Rattle.model.specs.Records.{up_from}
@@ -19,6 +20,12 @@ pick-place k zero os x y e l h = absurd (omega arith)
 pick-place k (suc n) [] x y e l h = absurd (omega arith)
 pick-place k (suc n) (o ∷ os) zero y e l h = rw (eq-eqb y k (omega arith))
 pick-place k (suc n) (o ∷ os) (suc x) y e l h = rw (ne_eqb y k (λ q. omega arith)) (pick-place (suc k) n os x y (omega arith) (omega arith) (omega arith))
+
+-- what holds of each cell of the carried variables
+pub each-cell : (P : ℕ → Type 0) → P 0 → P 1 → (v : ℕ) → v < limit.carried → P v
+each-cell P a b zero l = a
+each-cell P a b (suc zero) l = b
+each-cell P a b (suc (suc v)) l = absurd (omega arith)
 
 abbrev pub choice : ℕ → ℕ → ℕ → Choice
 choice a b c = record { first = a; second = b; third = c }

@@ -1,5 +1,5 @@
 -- THE CARRIED VARIABLES at a meeting, each by itself: "a carried object .. is the one that a meeting must name, and where it has none the next meeting with the carried variable sets it".
-use Rattle.std.specs.Prelude.{◌≡◌, ◌⊎◌, ◌≢◌, cond, List, ℕ, ◌+◌, ◌<◌, eqb, length, get_or}
+use Rattle.std.specs.Prelude.{◌≡◌, ◌⊎◌, ◌≢◌, cond, List, ℕ, ◌<◌, eqb, length, get_or}
 use Rattle.limits.specs.Limits as limit
 use Rattle.model.specs.declared.Stage.{Stage}
 use Rattle.model.specs.Records.{number_in}
@@ -18,9 +18,9 @@ Agrees c o = (c ≢ limit.none) → (o ≢ limit.none) → o ≡ c
 abbrev pub carried_on : ℕ → ℕ → ℕ
 carried_on c o = cond (eqb o limit.none) c o
 
--- os are the objects that the choice has for the carried variables, which the row of a model has from number 2 on
+-- os are the objects that the choice has for the carried variables, whose numbers are ns
 abbrev pub AllNamed : List ℕ → Stage → Choice → List ℕ → Type 0
-AllNamed ns g c os = (v : ℕ) → v < limit.carried → Named g (get_or ns (2 + v) 0) c (get_or os v 0)
+AllNamed ns g c os = (v : ℕ) → v < limit.carried → Named g (get_or ns v 0) c (get_or os v 0)
 
 -- each of the objects os may be met where those of cs are carried
 abbrev pub AllAgree : List ℕ → List ℕ → Type 0

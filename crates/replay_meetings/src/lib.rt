@@ -4,19 +4,18 @@
 ghost use Rattle.std.specs.Prelude.{◌≡◌, IfSome, List, [], ◌∷◌, ℕ, ◌≤◌, ◌<◌, length};
 ghost use Rattle.limits.specs.Limits as limit;
 ghost use Rattle.semantics.specs.Runs.{meet};
-ghost use Rattle.model.specs.declared.Model.{Model};
 ghost use Rattle.model.specs.Places.{objects};
+ghost use Rattle.model.specs.WellFormed.{WellFormed};
 ghost use Rattle.facts_candidates.specs.Choices.{chosen};
 ghost use Rattle.replay_session.specs.Sessions.{Says, session_in};
 ghost use Rattle.replay_view.specs.declared.View.{View};
-ghost use Rattle.replay_steps.specs.Tries.{Rests, Plain, Open, Gives, TriedBy};
+ghost use Rattle.replay_steps.specs.Tries.{Rests, Open, Gives, TriedBy};
 ghost use Rattle.replay_meetings.specs.Carried.{Named, Agrees, carried_on, AllNamed, AllAgree, AllCarried};
 
 use facts_bits::BYTES;
 use facts_candidates::Choice;
 use limits::{CARRIED, NONE};
-use model::Stage;
-use replay_numbers::NUMBERS;
+use model::{Model, Stage};
 use replay_session::Position;
 use replay_steps::Outcome;
 
@@ -63,13 +62,13 @@ fn carry(carried: u32, object: u32) -> u32
     if object == NONE { carried } else { object }
 }
 
-// The objects that a choice has for the carried variables, NONE for one that the stage does not have.
-fn all_named(numbers: &[u32; NUMBERS], g: Stage, c: Choice) -> [u32; CARRIED]
+// The objects that a choice has for the carried variables of these numbers, NONE for one that the stage does not have.
+fn all_named(numbers: [u32; CARRIED], g: Stage, c: Choice) -> [u32; CARRIED]
     requires { (g.variables ≤ limit.variables) × ((x : ℕ) → chosen c x < 256) }
-    ensures { AllNamed numbers.now g c result }
+    ensures { AllNamed numbers g c result }
 {
-    let first = named(g, numbers[2], c);
-    let second = named(g, numbers[3], c);
+    let first = named(g, numbers[0], c);
+    let second = named(g, numbers[1], c);
     [first as u32, second as u32]
 }
 
@@ -91,21 +90,20 @@ fn carry_all(carried: [u32; CARRIED], objects: [u32; CARRIED]) -> [u32; CARRIED]
 }
 
 // The derived relations that a meeting of a stage rests on, as a row of bits.
-pub fn needs(numbers: &[u32; NUMBERS], literals: &[u32], stage: u32) -> [u8; BYTES]
-    requires { (m : Model) × Plain m numbers.now literals.now }
-    ensures { (m : Model) → Plain m numbers.now literals.now → (os : List ℕ) → Rests m result (meet stage os) }
+pub fn needs(m: &Model, stage: u32) -> [u8; BYTES]
+    requires { WellFormed m.now }
+    ensures { (os : List ℕ) → Rests m.now result (meet stage os) }
 {
-    if stage == 0 || stage > numbers[1] {
+    if stage == 0 || stage as usize > m.stagecount {
         return [0u8; BYTES];
     }
-    let g = replay_numbers::stage_at(numbers, stage as usize - 1);
-    facts_rests::add([0u8; BYTES], literals, g.first, g.count)
+    let g = m.stages[stage as usize - 1];
+    facts_rests::add([0u8; BYTES], &m.literals, g.first, g.count)
 }
 
 // The meeting of a stage with objects, the named ones first.
 pub fn meet_place(
-    numbers: &[u32; NUMBERS],
-    literals: &[u32],
+    m: &Model,
     slots: &[u8],
     work: &[u8],
     at: Position,
@@ -114,15 +112,15 @@ pub fn meet_place(
     second: u32,
     third: u32,
 ) -> Option<Outcome>
-    requires { ((m : Model) × (v : View) × (states : List ℕ) × Open m v (session_in states at) numbers.now literals.now slots.now work.now (meet stage (objects (first ∷ second ∷ third ∷ [])))) × (first < 256) × (second < 256) × (third < 256) }
-    ensures tried_by { (m : Model) (v : View) (states : List ℕ) → Open m v (session_in states at) numbers.now literals.now slots.now work.now (meet stage (objects (first ∷ second ∷ third ∷ []))) → TriedBy m states at (meet stage (objects (first ∷ second ∷ third ∷ []))) result }
+    requires { ((v : View) × (states : List ℕ) × Open m.now v (session_in states at) slots.now work.now (meet stage (objects (first ∷ second ∷ third ∷ [])))) × (first < 256) × (second < 256) × (third < 256) }
+    ensures tried_by { (v : View) (states : List ℕ) → Open m.now v (session_in states at) slots.now work.now (meet stage (objects (first ∷ second ∷ third ∷ []))) → TriedBy m.now states at (meet stage (objects (first ∷ second ∷ third ∷ []))) result }
     ensures gives { IfSome result (Gives at) }
 {
     let i = at.met;
     if stage as usize != i + 1 {
         return None;
     }
-    let g = replay_numbers::stage_at(numbers, i);
+    let g = m.stages[i];
     if count(first, second, third) != g.variables {
         return None;
     }
@@ -132,13 +130,13 @@ pub fn meet_place(
         third: third as usize,
     };
     let carried = at.carried;
-    let objects = all_named(numbers, g, fixed);
+    let objects = all_named(m.carried, g, fixed);
     if !all_agree(carried, objects) {
         return None;
     }
     let n = at.objects;
     replay_steps::decide(
-        literals,
+        &m.literals,
         slots,
         work,
         n,

@@ -34,7 +34,6 @@ use Rattle.replay_session.specs.Records.{session_of, Fits, taken}
 use Rattle.replay_session.specs.Replays.{Replays}
 use Rattle.replay_session.proofs.Carrying.{nobody-carried, cells_stay}
 use Rattle.replay_session.proofs.Effects.{taken-after, taken-fits}
-use Rattle.replay_numbers.specs.Numbers.{Numbered}
 use Rattle.replay_view.specs.declared.View.{View}
 use Rattle.replay_view.specs.Views.{row_of, Views, Arranged, Known}
 use Rattle.replay_steps.specs.Tries.{Rests, Sees, Lent, TakenAt, BarredAt}
@@ -181,14 +180,12 @@ module _ (m : Model) (plans need : List ℕ) (db : Database) (v : View) (s : Sto
     seen-still = record { views = seen.views; shown = record { agree = h.stock.agree; states = h.stays.rows (row_of v) seen.shown.states }; stocked = h.stock }
 
 -- WHAT IS LENT to the next place of a run, which rests on what is needed
-pub running-lent : (m : Model) → WellFormed m → (run : List ℕ) (i : ℕ) (s : Session) → Running m run i s → i < limit.run → (ns row slots w : List ℕ) (v : View) (need : List ℕ) (n : ℕ) → Sees m need (take s.objects s.states) v w
-    → ((p : runs.Place) → place_of n ≡ some p → Rests m need p) → Numbered m ns → m.literals ≡ row → v.slots ≡ slots → Lent m v s ns row slots w n
-running-lent m wf run i s r l ns row slots w v need n sees rests numbered e q =
+pub running-lent : (m : Model) → WellFormed m → (run : List ℕ) (i : ℕ) (s : Session) → Running m run i s → i < limit.run → (slots w : List ℕ) (v : View) (need : List ℕ) (n : ℕ) → Sees m need (take s.objects s.states) v w
+    → ((p : runs.Place) → place_of n ≡ some p → Rests m need p) → v.slots ≡ slots → Lent m v s slots w n
+running-lent m wf run i s r l slots w v need n sees rests q =
     record {
       ready = record { accepted = wf; fits = r.fits; room = let k = r.kept in omega arith; relations = need; sees = sees; long = r.long; cells = r.cells };
       rests = rests;
-      numbered = numbered;
-      literals = e;
       seats = q;
     }
 

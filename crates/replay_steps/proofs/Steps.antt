@@ -3,14 +3,14 @@ use mathlib.Core.Path.{◌≡◌, refl, sym, ap, ◌∙◌, subst}
 use mathlib.Core.Logic.{◌≢◌, ⊎_elim, ◌↔◌}
 use mathlib.Core.Bool.{true}
 use mathlib.Core.List.{List, [], ◌++◌, map}
+use Rattle.std.specs.Prelude.{Some}
 use Prim.Native.Nat.{ℕ, ◌≤◌, ◌<◌}
 use native.Mathlib.Omega.{arith}
 use borrow.Author.Tests.{eq-eqb, ne_eqb}
-use lib.ListN.{length, take, drop, get_or}
+use lib.ListN.{length, take, drop}
 use Rattle.limits.specs.Limits as limit
 use Rattle.semantics.specs.Models.{elem, Body, Line, rule, new, next, other, line, vars, firsts, SafeLine, Supported}
 use Rattle.semantics.specs.Steps.{Enabled}
-use Rattle.semantics.specs.Runs as runs
 use Rattle.semantics.specs.Runs.{step}
 use Rattle.semantics.specs.StandingBy.{First, line_names, EnabledBy, StoodBy}
 use Rattle.semantics.proofs.Tools.{same?}
@@ -23,7 +23,6 @@ use Rattle.model.specs.declared.Model.{Model}
 use Rattle.model.specs.Literals.{GoodBody}
 use Rattle.model.specs.Records.{up_from, head_of, line_of, clause_body, clause_line, program_of, clause_at}
 use Rattle.model.specs.WellFormed.{WellFormed}
-use Rattle.model.proofs.Lines.{line_other}
 use Rattle.model.proofs.Accepted.{on_line, clause-safe, clause-vars, clause-body, stages}
 use Rattle.facts_candidates.specs.declared.Choice.{Choice}
 use Rattle.facts_candidates.specs.Choices.{chosen}
@@ -33,9 +32,8 @@ use Rattle.replay_session.specs.declared.Session.{Session}
 use Rattle.replay_session.specs.Sessions.{created, relabeled, stepped}
 use Rattle.replay_session.specs.Notes.{standing}
 use Rattle.replay_session.proofs.Effects.{size}
-use Rattle.replay_numbers.specs.Numbers.{clause_place, clause_from}
 use Rattle.replay_view.specs.declared.View.{View}
-use Rattle.replay_steps.specs.Tries.{line_body, Plain, Ready, Open, Stepping, Holding, Taken, Barred}
+use Rattle.replay_steps.specs.Tries.{OnLine, line_body, Ready, Open, Stepping, Holding, Taken, Barred}
 
 -- WHAT STANDS on the line of clause k
 body-supported : (a : Action) (b : Body) → SafeLine (line_of a b) → Supported (vars b) b
@@ -47,96 +45,77 @@ body-supported (Next plus minus) b h = h.1
 clause-within : (m : Model) → WellFormed m → (k : ℕ) → k < m.clausecount → (clause_at m k).first ≤ length m.literals
 clause-within m wf k h = let p = (wf.clause k h).part.within in let l = wf.literalcount in let n = wf.literals in omega arith
 
-module _ (m : Model) (v : View) (s : Session) (row slots w : List ℕ) (c : Clause) (t : Stepping m v s row slots w c) where
+module _ (m : Model) (v : View) (s : Session) (slots w : List ℕ) (c : Clause) (t : Stepping m v s slots w c) where
   abbrev body : Body
-  body = clause_body row c
+  body = clause_body m.literals c
 
-  -- what holds of the record's literals and clause holds of those lent
-  lent : (P : List ℕ → Clause → Type 0) → P m.literals (clause_at m t.index) → P row c
-  lent P h = subst (P row) t.clause (subst (λ (l : List ℕ). P l (clause_at m t.index)) t.literals h)
+  -- what holds of the record's clause holds of c
+  own : (P : Clause → Type 0) → P (clause_at m t.index) → P c
+  own P = subst P t.clause
 
   pub on-action : (a : Action) → c.action ≡ a → line (program_of m) c.line ≡ line_of a body
-  on-action a e = lent (λ l x. line (program_of m) x.line ≡ clause_line l x) (on_line m t.ready.accepted t.index t.within) ∙ ap (λ (x : Action). line_of x body) e
+  on-action a e = own (λ (x : Clause). line (program_of m) x.line ≡ clause_line m.literals x) (on_line m t.ready.accepted t.index t.within) ∙ ap (λ (x : Action). line_of x body) e
 
   -- its body can be handed to the evaluator
-  pub part-within : c.first ≤ length row
-  part-within = lent (λ l x. x.first ≤ length l) (clause-within m t.ready.accepted t.index t.within)
+  pub part-within : c.first ≤ length m.literals
+  part-within = own (λ (x : Clause). x.first ≤ length m.literals) (clause-within m t.ready.accepted t.index t.within)
 
-  pub part-good : GoodBody (drop c.first row) c.count c.variables
-  part-good = lent (λ l x. GoodBody (drop x.first l) x.count x.variables) (clause-body m t.ready.accepted t.index t.within)
+  pub part-good : GoodBody (drop c.first m.literals) c.count c.variables
+  part-good = own (λ (x : Clause). GoodBody (drop x.first m.literals) x.count x.variables) (clause-body m t.ready.accepted t.index t.within)
 
   pub part-supported : Supported (vars body) body
-  part-supported = lent (λ l x. Supported (vars (clause_body l x)) (clause_body l x))
+  part-supported = own (λ (x : Clause). Supported (vars (clause_body m.literals x)) (clause_body m.literals x))
       (body-supported (clause_at m t.index).action (clause_body m.literals (clause_at m t.index)) (clause-safe m t.ready.accepted t.index t.within))
 
   pub part-vars : (x : ℕ) → elem x (vars body) ≡ true ↔ x < c.variables
-  part-vars = lent (λ l y. (x : ℕ) → elem x (vars (clause_body l y)) ≡ true ↔ x < y.variables) (clause-vars m t.ready.accepted t.index t.within)
+  part-vars = own (λ (y : Clause). (x : ℕ) → elem x (vars (clause_body m.literals y)) ≡ true ↔ x < y.variables) (clause-vars m t.ready.accepted t.index t.within)
 
   -- its variables in order of first appearance
   pub line-variables : (a : Action) → c.action ≡ a → firsts [] (head_of a ++ vars body) ≡ up_from 0 c.variables
   line-variables a e = subst (λ (x : Action). firsts [] (head_of x ++ vars body) ≡ up_from 0 c.variables) e
-      (lent (λ l x. firsts [] (head_of x.action ++ vars (clause_body l x)) ≡ up_from 0 x.variables) (t.ready.accepted.clause t.index t.within).numbered)
+      (own (λ (x : Clause). firsts [] (head_of x.action ++ vars (clause_body m.literals x)) ≡ up_from 0 x.variables) (t.ready.accepted.clause t.index t.within).numbered)
 
   -- a `next` line has a variable
   pub next-variable : (plus minus : ℕ) → c.action ≡ Next plus minus → 0 < c.variables
   next-variable plus minus e =
-      let safe = subst (λ (x : Action). SafeLine (line_of x body)) e (lent (λ l x. SafeLine (clause_line l x)) (clause-safe m t.ready.accepted t.index t.within)) in
+      let safe = subst (λ (x : Action). SafeLine (line_of x body)) e (own (λ (x : Clause). SafeLine (clause_line m.literals x)) (clause-safe m t.ready.accepted t.index t.within)) in
       (part-vars 0).0 (supported-vars 0 body safe.0)
 
   -- the slots are those of the view
   pub slots-enough : s.objects ≤ length slots
   slots-enough = let g = t.ready.sees.views.good.slots in let f = t.ready.fits.objects in omega (arith, ap length t.seats)
 
--- A CLAUSE among the numbers of a model
+-- A CLAUSE of a model
 body-on : (a : Action) (b : Body) → line_body (line_of a b) ≡ b
 body-on (Rule r n) b = refl
 body-on (New t) b = refl
 body-on (Next plus minus) b = refl
 
-module _ (m : Model) (ns row : List ℕ) (plain : Plain m ns row) where
-  counted : (k : ℕ) → k < get_or ns 0 0 → k < m.clausecount
-  counted k h = let q = plain.numbered.clauses in omega arith
-
-  -- what holds of the record's literals and clause holds of those lent
-  numbered : (k : ℕ) → k < get_or ns 0 0 → (c : Clause) → c ≡ clause_from ns (clause_place k) → (P : List ℕ → Clause → Type 0) → P m.literals (clause_at m k) → P row c
-  numbered k h c e P q = subst (P row) (sym (e ∙ plain.numbered.clause k (counted k h))) (subst (λ (l : List ℕ). P l (clause_at m k)) plain.literals q)
-
+module _ (m : Model) (accepted : WellFormed m) (k : ℕ) (h : k < m.clausecount) (c : Clause) (e : c ≡ clause_at m k) where
   -- the body on its line
-  pub own_body : (k : ℕ) → k < get_or ns 0 0 → (c : Clause) → c ≡ clause_from ns (clause_place k) → line_body (line (program_of m) c.line) ≡ clause_body row c
-  own_body k h c e = numbered k h c e (λ l x. line_body (line (program_of m) x.line) ≡ clause_body l x)
-      (ap line_body (on_line m plain.accepted k (counted k h)) ∙ body-on (clause_at m k).action (clause_body m.literals (clause_at m k)))
+  pub own_body : line_body (line (program_of m) c.line) ≡ clause_body m.literals c
+  own_body = subst (λ (x : Clause). line_body (line (program_of m) x.line) ≡ clause_body m.literals x) (sym e)
+      (ap line_body (on_line m accepted k h) ∙ body-on (clause_at m k).action (clause_body m.literals (clause_at m k)))
 
   -- its literals are good
-  pub own-within : (k : ℕ) → k < get_or ns 0 0 → (c : Clause) → c ≡ clause_from ns (clause_place k) → c.first ≤ length row
-  own-within k h c e = numbered k h c e (λ l x. x.first ≤ length l) (clause-within m plain.accepted k (counted k h))
+  pub own-within : c.first ≤ length m.literals
+  own-within = subst (λ (x : Clause). x.first ≤ length m.literals) (sym e) (clause-within m accepted k h)
 
-  pub own-good : (k : ℕ) → k < get_or ns 0 0 → (c : Clause) → c ≡ clause_from ns (clause_place k) → GoodBody (drop c.first row) c.count c.variables
-  own-good k h c e = numbered k h c e (λ l x. GoodBody (drop x.first l) x.count x.variables) (clause-body m plain.accepted k (counted k h))
-
-  -- no clause stands on the line
-  pub none-on : (ℓ : ℕ) → ((k : ℕ) → k < get_or ns 0 0 → (clause_from ns (clause_place k)).line ≢ ℓ) → line (program_of m) ℓ ≡ other
-  none-on ℓ h = line_other m ℓ (λ k g e. h k (let q = plain.numbered.clauses in omega arith) (ap (λ (c : Clause). c.line) (plain.numbered.clause k g) ∙ e))
-
--- the numbers and the literals that are lent
-pub plainly : (m : Model) (v : View) (s : Session) (ns row slots w : List ℕ) (p : runs.Place) → Open m v s ns row slots w p → Plain m ns row
-plainly m v s ns row slots w p l = record { accepted = l.ready.accepted; numbered = l.numbered; literals = l.literals }
+  pub own-good : GoodBody (drop c.first m.literals) c.count c.variables
+  own-good = subst (λ (x : Clause). GoodBody (drop x.first m.literals) x.count x.variables) (sym e) (clause-body m accepted k h)
 
 -- a clause on the line of a step
-module _ (m : Model) (v : View) (s : Session) (ns row slots w : List ℕ) (ℓ o : ℕ) (l : Open m v s ns row slots w (step ℓ o)) where
-  pub stepping : (k : ℕ) → k < get_or ns 0 0 → (c : Clause) → c ≡ clause_from ns (clause_place k) → (clause_from ns (clause_place k)).line ≡ ℓ → Stepping m v s row slots w c
-  stepping k h c e on =
-      let here : k < m.clausecount = let q = l.numbered.clauses in omega arith in
-      let same : c.line ≡ ℓ = ap (λ (x : Clause). x.line) e ∙ on in
-      record {
-        ready = l.ready;
-        left = l.left;
-        index = k;
-        within = here;
-        clause = sym (e ∙ l.numbered.clause k here);
-        rests = subst (Within l.ready.relations) (ap (λ (x : ℕ). line_body (line (program_of m) x)) (sym same) ∙ own_body m ns row (plainly m v s ns row slots w (step ℓ o) l) k h c e) l.rests;
-        literals = l.literals;
-        seats = l.seats;
-      }
+pub stepping : (m : Model) (v : View) (s : Session) (slots w : List ℕ) (ℓ o : ℕ) (l : Open m v s slots w (step ℓ o)) (c : Clause) → OnLine m ℓ (Some c) → Stepping m v s slots w c
+stepping m v s slots w ℓ o l c (k, here, e, on) =
+    record {
+      ready = l.ready;
+      left = l.left;
+      index = k;
+      within = here;
+      clause = sym e;
+      rests = subst (Within l.ready.relations) (ap (λ (x : ℕ). line_body (line (program_of m) x)) (sym on) ∙ own_body m l.ready.accepted k here c e) l.rests;
+      seats = l.seats;
+    }
 
 -- a choice that fixes variable 0 alone
 abbrev pub only : ℕ → Choice

@@ -20,11 +20,15 @@ use Rattle.replay_session.specs.Sessions.{session_in}
 use Rattle.replay_session.specs.Records.{session_of, Fits, taken}
 use Rattle.replay_session.specs.Replays.{Allows}
 use Rattle.replay_session.specs.Notes.{Stands}
-use Rattle.replay_numbers.specs.Numbers.{Numbered}
 use Rattle.replay_view.specs.declared.View.{View}
 use Rattle.replay_view.specs.Views.{row_of, Views, Known}
 use Rattle.replay_steps.specs.declared.NewState.{NewState}
 use Rattle.replay_steps.specs.declared.Outcome.{Outcome}
+
+-- the clause is one of the model, and stands on the line; or none does
+abbrev pub OnLine : Model → ℕ → Option Clause → Type 0
+OnLine m ℓ (Some c) = (k : ℕ) × (k < m.clausecount) × (c ≡ clause_at m k) × (c.line ≡ ℓ)
+OnLine m ℓ None = (k : ℕ) → k < m.clausecount → (clause_at m k).line ≢ ℓ
 
 -- the body on a line
 abbrev pub line_body : Line → Body
@@ -37,12 +41,6 @@ line_body other = []
 abbrev pub Rests : Model → List ℕ → runs.Place → Type 0
 Rests m R (step ℓ o) = Within R (line_body (line (program_of m) ℓ))
 Rests m R (meet j os) = (i : ℕ) → i < m.stagecount → j ≡ suc i → Within R (stage_body m.literals (stage_at m i))
-
--- the numbers and the literals are those of the accepted model
-pub record Plain (m : Model) (numbers row : List ℕ) : Type 0 where
-  pub accepted : WellFormed m
-  pub numbered : Numbered m numbers
-  pub literals : m.literals ≡ row
 
 -- the view is that of the database, and the work area knows the facts of the relations of R over its row
 pub record Sees (m : Model) (R : List ℕ) (db : Database) (v : View) (w : List ℕ) : Type 0 where
@@ -59,32 +57,27 @@ pub record Ready (m : Model) (s : Session) (v : View) (w : List ℕ) : Type 0 wh
   pub long : length s.states ≡ limit.objects
   pub cells : length s.carried ≡ limit.carried
 
--- WHAT IS LENT to a place with number n: the numbers and the literals of the model, and the slots of the view; the facts that the place rests on are known
-pub record Lent (m : Model) (v : View) (s : Session) (numbers row slots w : List ℕ) (n : ℕ) : Type 0 where
+-- WHAT IS LENT to a place with number n: the slots of the view; the facts that the place rests on are known
+pub record Lent (m : Model) (v : View) (s : Session) (slots w : List ℕ) (n : ℕ) : Type 0 where
   pub ready : Ready m s v w
   pub rests : (p : runs.Place) → place_of n ≡ some p → Rests m ready.relations p
-  pub numbered : Numbered m numbers
-  pub literals : m.literals ≡ row
   pub seats : v.slots ≡ slots
 
 -- the same before the last meeting, of a place p
-pub record Open (m : Model) (v : View) (s : Session) (numbers row slots w : List ℕ) (p : runs.Place) : Type 0 where
+pub record Open (m : Model) (v : View) (s : Session) (slots w : List ℕ) (p : runs.Place) : Type 0 where
   pub ready : Ready m s v w
   pub rests : Rests m ready.relations p
   pub left : s.met < m.stagecount
-  pub numbered : Numbered m numbers
-  pub literals : m.literals ≡ row
   pub seats : v.slots ≡ slots
 
--- the same of a step of clause c, in place of the numbers
-pub record Stepping (m : Model) (v : View) (s : Session) (row slots w : List ℕ) (c : Clause) : Type 0 where
+-- the same of a step of clause c
+pub record Stepping (m : Model) (v : View) (s : Session) (slots w : List ℕ) (c : Clause) : Type 0 where
   pub ready : Ready m s v w
   pub left : s.met < m.stagecount
   pub index : ℕ
   pub within : index < m.clausecount
   pub clause : clause_at m index ≡ c
-  pub rests : Within ready.relations (clause_body row c)
-  pub literals : m.literals ≡ row
+  pub rests : Within ready.relations (clause_body m.literals c)
   pub seats : v.slots ≡ slots
 
 -- the body holds in the state's database for the choice σ, which has the fixed elements

@@ -1,4 +1,4 @@
-// A step put to the replay's state: whether it is allowed, and what it makes of the state. The model and the view are lent as plain numbers.
+// A step put to the replay's state: whether it is allowed, and what it makes of the state. The model is lent, and so are the slots of the view.
 #![tactic(auto)]
 
 ghost use Rattle.std.specs.Prelude.{◌≡◌, IfSome, List, map, ℕ, ◌+◌, ◌≤◌, ◌<◌, length, drop};
@@ -9,6 +9,7 @@ ghost use Rattle.model.specs.declared.Action.TheVariants.{New, Next};
 ghost use Rattle.model.specs.declared.Model.{Model};
 ghost use Rattle.model.specs.Literals.{GoodBody};
 ghost use Rattle.model.specs.Records.{up_from, body_at};
+ghost use Rattle.model.specs.WellFormed.{WellFormed};
 ghost use Rattle.facts_table.specs.Table.{Consistent};
 ghost use Rattle.facts_candidates.specs.Choices.{chosen};
 ghost use Rattle.facts_find.specs.Bodies.{Decides};
@@ -17,14 +18,13 @@ ghost use Rattle.replay_session.specs.declared.Session.{Session};
 ghost use Rattle.replay_session.specs.Sessions.{session_in};
 ghost use Rattle.replay_session.specs.Notes.{standing};
 ghost use Rattle.replay_view.specs.declared.View.{View};
-ghost use Rattle.replay_steps.specs.Tries.{Rests, Plain, Ready, Open, Stepping, Holding, afterwards, Gives, TriedBy};
+ghost use Rattle.replay_steps.specs.Tries.{OnLine, Rests, Ready, Open, Stepping, Holding, afterwards, Gives, TriedBy};
 
 use facts_bits::BYTES;
 use facts_candidates::Choice;
 use facts_find::FREE;
 use limits::OBJECTS;
-use model::{Action, Clause};
-use replay_numbers::NUMBERS;
+use model::{Action, Clause, Model};
 use replay_session::{Position, Session};
 
 // The state that a place gives an object.
@@ -57,15 +57,24 @@ impl Outcome {
     }
 }
 
-// The derived relations that a step of a line rests on, as a row of bits.
-pub fn needs(numbers: &[u32; NUMBERS], literals: &[u32], line: u32) -> [u8; BYTES]
-    requires { (m : Model) × Plain m numbers.now literals.now }
-    ensures { (m : Model) → Plain m numbers.now literals.now → (object : ℕ) → Rests m result (step line object) }
+// The clause that stands on a line.
+pub fn clause_on(m: &Model, line: u32) -> Option<Clause>
+    requires { m.now.clausecount ≤ limit.clauses }
+    ensures { OnLine m.now line result }
 {
-    let Some(c) = replay_numbers::clause_on(numbers, line) else {
+    let i = (0..m.clausecount).find(|i| m.clauses[*i].line == line)?;
+    Some(m.clauses[i])
+}
+
+// The derived relations that a step of a line rests on, as a row of bits.
+pub fn needs(m: &Model, line: u32) -> [u8; BYTES]
+    requires { WellFormed m.now }
+    ensures { (object : ℕ) → Rests m.now result (step line object) }
+{
+    let Some(c) = clause_on(m, line) else {
         return [0u8; BYTES];
     };
-    facts_rests::add([0u8; BYTES], literals, c.first, c.count)
+    facts_rests::add([0u8; BYTES], &m.literals, c.first, c.count)
 }
 
 // The first choice that has the fixed objects and for which a body holds in a database of n objects, or that there is none.
@@ -120,7 +129,7 @@ fn onward(at: Position, objects: usize) -> Position
 // A step of a clause, a `new` line.
 // The bound of an object stays a clause: an object is a part of a place's number. What is lent stays apart for the same reason, and the position beside it, which is another one after each place.
 fn create(
-    literals: &[u32],
+    m: &Model,
     slots: &[u8],
     work: &[u8],
     at: Position,
@@ -128,8 +137,8 @@ fn create(
     set: u32,
     object: u32,
 ) -> Option<Outcome>
-    requires { ((m : Model) × (v : View) × (states : List ℕ) × Stepping m v (session_in states at) literals.now slots.now work.now c) × (object < limit.objects) × (c.action ≡ New set) }
-    ensures tried_by { (m : Model) (v : View) (states : List ℕ) → Stepping m v (session_in states at) literals.now slots.now work.now c → TriedBy m states at (step c.line object) result }
+    requires { ((v : View) × (states : List ℕ) × Stepping m.now v (session_in states at) slots.now work.now c) × (object < limit.objects) × (c.action ≡ New set) }
+    ensures tried_by { (v : View) (states : List ℕ) → Stepping m.now v (session_in states at) slots.now work.now c → TriedBy m.now states at (step c.line object) result }
     ensures gives { IfSome result (Gives at) }
 {
     let n = at.objects;
@@ -142,7 +151,7 @@ fn create(
         third: FREE,
     };
     let helpers = decide(
-        literals,
+        &m.literals,
         slots,
         work,
         n,
@@ -164,7 +173,7 @@ fn create(
 
 // A step of a clause, a `next` line.
 fn change(
-    literals: &[u32],
+    m: &Model,
     states: &[u32],
     slots: &[u8],
     work: &[u8],
@@ -174,8 +183,8 @@ fn change(
     minus: u32,
     object: u32,
 ) -> Option<Outcome>
-    requires { ((m : Model) × (v : View) × Stepping m v (session_in states.now at) literals.now slots.now work.now c) × (object < limit.objects) × (c.action ≡ Next plus minus) }
-    ensures tried_by { (m : Model) (v : View) → Stepping m v (session_in states.now at) literals.now slots.now work.now c → TriedBy m states.now at (step c.line object) result }
+    requires { ((v : View) × Stepping m.now v (session_in states.now at) slots.now work.now c) × (object < limit.objects) × (c.action ≡ Next plus minus) }
+    ensures tried_by { TriedBy m.now states.now at (step c.line object) result }
     ensures gives { IfSome result (Gives at) }
 {
     let o = object as usize;
@@ -189,7 +198,7 @@ fn change(
         third: FREE,
     };
     let choice = decide(
-        literals,
+        &m.literals,
         slots,
         work,
         n,
@@ -209,8 +218,7 @@ fn change(
 
 // A step of a line and an object.
 pub fn step_place(
-    numbers: &[u32; NUMBERS],
-    literals: &[u32],
+    m: &Model,
     states: &[u32],
     slots: &[u8],
     work: &[u8],
@@ -218,16 +226,16 @@ pub fn step_place(
     line: u32,
     object: u32,
 ) -> Option<Outcome>
-    requires { ((m : Model) × (v : View) × Open m v (session_in states.now at) numbers.now literals.now slots.now work.now (step line object)) × (object < limit.objects) }
-    ensures tried_by { (m : Model) (v : View) → Open m v (session_in states.now at) numbers.now literals.now slots.now work.now (step line object) → TriedBy m states.now at (step line object) result }
+    requires { ((v : View) × Open m.now v (session_in states.now at) slots.now work.now (step line object)) × (object < limit.objects) }
+    ensures tried_by { TriedBy m.now states.now at (step line object) result }
     ensures gives { IfSome result (Gives at) }
 {
-    let c = replay_numbers::clause_on(numbers, line)?;
+    let c = clause_on(m, line)?;
     match c.action {
         Action::Rule { .. } => None,
-        Action::New { set } => create(literals, slots, work, at, c, set, object),
+        Action::New { set } => create(m, slots, work, at, c, set, object),
         Action::Next { plus, minus } => {
-            change(literals, states, slots, work, at, c, plus, minus, object)
+            change(m, states, slots, work, at, c, plus, minus, object)
         }
     }
 }

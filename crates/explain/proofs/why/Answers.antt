@@ -6,7 +6,6 @@ use borrow.Author.Rules.{rules}
 use lib.ListN.{length, take}
 use Rattle.semantics.specs.Runs as runs
 use Rattle.model.specs.Places.{place_of}
-use Rattle.replay_numbers.specs.Numbers.{Numbered}
 use Prim.Native.Nat.{ℕ}
 use Rattle.replay_view.specs.declared.View.{View}
 use Rattle.replay_view.specs.Views.{row_of}
@@ -24,14 +23,12 @@ cells : (s : Start) → length s.args.s.carried ≡ 2
 cells s = search (rules, s.well_formed.1.0)
 
 -- what is lent to the place
-lent : (s : Start) (v : View) (w need : List ℕ) → Sees s.args.m need (take s.args.s.objects s.args.s.states) v w → ((p : runs.Place) → place_of s.args.n ≡ some p → Rests s.args.m need p) → (ns : List ℕ) → Numbered s.args.m ns
-    → Lent s.args.m v s.args.s ns s.args.m.literals v.slots w s.args.n
-lent s v w need sees rests ns numbered =
+lent : (s : Start) (v : View) (w need : List ℕ) → Sees s.args.m need (take s.args.s.objects s.args.s.states) v w → ((p : runs.Place) → place_of s.args.n ≡ some p → Rests s.args.m need p)
+    → Lent s.args.m v s.args.s v.slots w s.args.n
+lent s v w need sees rests =
     record {
       ready = record { accepted = s.requires.0; fits = s.requires.1; room = s.requires.2; relations = need; sees = sees; long = long s; cells = cells s };
       rests = rests;
-      numbered = numbered;
-      literals = refl;
       seats = refl;
     }
 
@@ -39,24 +36,22 @@ pub arrange-v-requires : goal.arrange-v-requires
 arrange-v-requires c = let a = c.args in let f = c.requires.1 in (f.objects, omega (arith, f.objects, long (goal.at.arrange-v-requires c).Start), fits-small a.m a.s c.requires.0 f, omega (arith, c.requires.3))
 
 pub needs-need-requires : goal.needs-need-requires
-needs-need-requires c = (c.args.m, record { accepted = c.requires.0; numbered = c.numbers-numbers.ensures; literals = refl })
+needs-need-requires c = c.requires.0
 
 pub why_place-requires : goal.why_place-requires
 why_place-requires c = let a = c.args in
     let g = c.arrange-v in
-    let n = c.numbers-numbers in
     let q = c.needs-need in
     let d = c.derive in
     let sees : Sees a.m q.result (take a.s.objects a.s.states) g.result d.new.work = record { views = g.ensures.views.0; known = d.ensures.1 (row_of g.result) (row-length _ g.result g.ensures.views.0) g.ensures.views.1.states } in
-    let l = lent (goal.at.why_place-requires c).Start g.result d.new.work q.result sees (q.ensures a.m (record { accepted = c.requires.0; numbered = n.ensures; literals = refl })) n.result n.ensures in
-    rw c.position.ensures (a.m, g.result, a.s.states, l)
+    let l = lent (goal.at.why_place-requires c).Start g.result d.new.work q.result sees q.ensures in
+    rw c.position.ensures (g.result, a.s.states, l)
 
 pub returns : goal.returns
 returns c = let a = c.args in
     let g = c.arrange-v in
-    let n = c.numbers-numbers in
     let q = c.needs-need in
     let d = c.derive in
     let sees : Sees a.m q.result (take a.s.objects a.s.states) g.result d.new.work = record { views = g.ensures.views.0; known = d.ensures.1 (row_of g.result) (row-length _ g.result g.ensures.views.0) g.ensures.views.1.states } in
-    let l = lent (goal.at.returns c).Start g.result d.new.work q.result sees (q.ensures a.m (record { accepted = c.requires.0; numbered = n.ensures; literals = refl })) n.result n.ensures in
-    ((rw c.position.ensures at c.why_place.ensures) a.m g.result a.s.states l, d.ensures.0 ∙ g.ensures.work_len_unchanged)
+    let l = lent (goal.at.returns c).Start g.result d.new.work q.result sees q.ensures in
+    ((rw c.position.ensures at c.why_place.ensures) g.result a.s.states l, d.ensures.0 ∙ g.ensures.work_len_unchanged)

@@ -2,7 +2,7 @@ use mathlib.Core.Path.{◌≡◌, refl}
 use mathlib.Core.List.{[], ◌∷◌}
 use Prim.Native.Nat.{ℕ}
 use lib.ListN.{get_or}
-use Rattle.replay_numbers.proofs.Parts.{each-cell}
+use Rattle.replay_meetings.proofs.Objects.{each-cell}
 use Rattle.replay_meetings.specs.Carried.{carried_on}
 use Rattle.replay_meetings.proofs.carry_all.Goals as goal
 

@@ -2,32 +2,27 @@ use mathlib.Core.Path.{◌≡◌, subst}
 use Prim.Native.Nat.{ℕ, ◌-◌, ◌<◌}
 use native.Mathlib.Omega.{arith}
 use Rattle.model.specs.Records.{stage_body, stage_at}
+use Rattle.model.proofs.Accepted.{stage_body_lem}
 use Rattle.facts_rests.specs.Rests.{Within}
-use Rattle.replay_meetings.proofs.Meetings.{of-record, part-within, part-good}
+use Rattle.replay_meetings.proofs.Meetings.{part-within}
 use Rattle.replay_meetings.proofs.needs.Goals as goal
-use Rattle.replay_meetings.proofs.needs.Goals.{then-stage-eq0-via-then-stage-eq0, then-stage-eq0-via-else-stage-eq0+then-stage-numbers}
+use Rattle.replay_meetings.proofs.needs.Goals.{then-stage-eq0-via-then-stage-eq0, then-stage-eq0-via-else-stage-eq0+then-stage-m}
 
 pub returns-then-stage-eq0 : goal.returns-then-stage-eq0
-returns-then-stage-eq0 c = λ m plain os i l e. elim c.then-stage-eq0.branch [
+returns-then-stage-eq0 c = λ os i l e. elim c.then-stage-eq0.branch [
   | then-stage-eq0-via-then-stage-eq0 w ↦ absurd (omega (arith, e, w.if-stage-eq0.true))
-  | then-stage-eq0-via-else-stage-eq0+then-stage-numbers w ↦ absurd (omega (arith, e, l, plain.numbered.stages, w.if-stage-numbers.true))
+  | then-stage-eq0-via-else-stage-eq0+then-stage-m w ↦ absurd (omega (arith, e, l, w.if-stage-m.true))
 ]
 
 pub add-requires : goal.add-requires
 add-requires c =
     let a = c.args in
-    let m = c.requires.0 in
-    let plain = c.requires.1 in
-    let g = c.stage_at-g in
-    let here : a.stage - 1 < m.stagecount = omega (arith, plain.numbered.stages, c.if-stage-numbers.false) in
-    (part-within m a.numbers.now a.literals.now plain (a.stage - 1) here g.result g.ensures, (g.result.variables, part-good m a.numbers.now a.literals.now plain (a.stage - 1) here g.result g.ensures))
+    let here : a.stage - 1 < a.m.now.stagecount = omega (arith, c.if-stage-m.false) in
+    (part-within a.m.now c.requires (a.stage - 1) here, ((stage_at a.m.now (a.stage - 1)).variables, stage_body_lem a.m.now c.requires (a.stage - 1) here))
 
 pub returns : goal.returns
 returns c =
     let a = c.args in
-    let g = c.stage_at-g in
-    λ m plain os i l e.
+    λ os i l e.
     let same : a.stage - 1 ≡ i = omega (arith, e) in
-    let here : a.stage - 1 < m.stagecount = omega (arith, same, l) in
-    subst (λ (k : ℕ). Within c.add.result (stage_body m.literals (stage_at m k))) same
-    (of-record m a.numbers.now a.literals.now plain (a.stage - 1) here g.result g.ensures (λ x y. Within c.add.result (stage_body x y)) c.add.ensures.2)
+    subst (λ (k : ℕ). Within c.add.result (stage_body a.m.now.literals (stage_at a.m.now k))) same c.add.ensures.2

@@ -9,41 +9,41 @@ use Rattle.replay_steps.proofs.create.Goals as goal
 pub returns-then-object-n-clause-tried_by : goal.returns-then-object-n-clause-tried_by
 returns-then-object-n-clause-tried_by c =
     let a = c.args in
-    (λ m v states t.
-    (new-other m (session_in states a.at) v a.work.now t.ready t.left a.c.line a.object a.set (clause_body a.literals.now a.c) a.c.variables
-    (on-action m v (session_in states a.at) a.literals.now a.slots.now a.work.now a.c t (New a.set) c.requires.2) c.if-object-n.true))
+    (λ v states t.
+    (new-other a.m.now (session_in states a.at) v a.work.now t.ready t.left a.c.line a.object a.set (clause_body a.m.now.literals a.c) a.c.variables
+    (on-action a.m.now v (session_in states a.at) a.slots.now a.work.now a.c t (New a.set) c.requires.2) c.if-object-n.true))
 
 pub decide-requires : goal.decide-requires
 decide-requires c =
     let a = c.args in
-    let m = c.requires.0.0 in let v = c.requires.0.1 in let t = c.requires.0.3 in
-    let z = session_in c.requires.0.2 a.at in
-    (t.ready.sees.known.agree, slots-enough m v z a.literals.now a.slots.now a.work.now a.c t, part-within m v z a.literals.now a.slots.now a.work.now a.c t, part-good m v z a.literals.now a.slots.now a.work.now a.c t, part-supported m v z a.literals.now a.slots.now a.work.now a.c t)
+    let m = a.m.now in let v = c.requires.0.0 in let t = c.requires.0.2 in
+    let z = session_in c.requires.0.1 a.at in
+    (t.ready.sees.known.agree, slots-enough m v z a.slots.now a.work.now a.c t, part-within m v z a.slots.now a.work.now a.c t, part-good m v z a.slots.now a.work.now a.c t, part-supported m v z a.slots.now a.work.now a.c t)
 
 pub returns-in_err-helpers-clause-tried_by : goal.returns-in_err-helpers-clause-tried_by
 returns-in_err-helpers-clause-tried_by c =
     let a = c.args in
-    rw c.from_residual.ensures (λ m v states t.
-    (new-fails m (session_in states a.at) v a.work.now t.ready t.left a.c.line a.object a.set (clause_body a.literals.now a.c) a.c.variables
-    (on-action m v (session_in states a.at) a.literals.now a.slots.now a.work.now a.c t (New a.set) c.requires.2)
-    (c.in_err-helpers.ensures m v (session_in states a.at) t.ready t.rests t.seats refl)))
+    rw c.from_residual.ensures (λ v states t.
+    (new-fails a.m.now (session_in states a.at) v a.work.now t.ready t.left a.c.line a.object a.set (clause_body a.m.now.literals a.c) a.c.variables
+    (on-action a.m.now v (session_in states a.at) a.slots.now a.work.now a.c t (New a.set) c.requires.2)
+    (c.in_err-helpers.ensures a.m.now v (session_in states a.at) t.ready t.rests t.seats refl)))
 
 pub number-stood-requires : goal.number-stood-requires
 number-stood-requires c =
     let a = c.args in
-    let m = c.requires.0.0 in let v = c.requires.0.1 in let t = c.requires.0.3 in
-    let z = session_in c.requires.0.2 a.at in
+    let m = a.m.now in let v = c.requires.0.0 in let t = c.requires.0.2 in
+    let z = session_in c.requires.0.1 a.at in
     let first = c.in_ok-helpers.ensures m v z t.ready t.rests t.seats refl in
-    objects-below m z v a.work.now t.ready t.left a.c.line a.object (clause_body a.literals.now a.c) a.c.variables (only 255) _ (part-vars m v z a.literals.now a.slots.now a.work.now a.c t) first.good
+    objects-below m z v a.work.now t.ready t.left a.c.line a.object (clause_body a.m.now.literals a.c) a.c.variables (only 255) _ (part-vars m v z a.slots.now a.work.now a.c t) first.good
 
 pub returns-clause-tried_by : goal.returns-clause-tried_by
 returns-clause-tried_by c =
     let a = c.args in
-    (λ m v states t.
-    let first = c.in_ok-helpers.ensures m v (session_in states a.at) t.ready t.rests t.seats refl in
-    rw c.onward.ensures (new-kept m (session_in states a.at) v a.work.now t.ready t.left a.c.line a.object a.set (clause_body a.literals.now a.c) a.c.variables
-    (on-action m v (session_in states a.at) a.literals.now a.slots.now a.work.now a.c t (New a.set) c.requires.2)
-    (line-variables m v (session_in states a.at) a.literals.now a.slots.now a.work.now a.c t (New a.set) c.requires.2) c.if-object-n.false _ c.number-stood.result first c.number-stood.ensures))
+    (λ v states t.
+    let first = c.in_ok-helpers.ensures a.m.now v (session_in states a.at) t.ready t.rests t.seats refl in
+    rw c.onward.ensures (new-kept a.m.now (session_in states a.at) v a.work.now t.ready t.left a.c.line a.object a.set (clause_body a.m.now.literals a.c) a.c.variables
+    (on-action a.m.now v (session_in states a.at) a.slots.now a.work.now a.c t (New a.set) c.requires.2)
+    (line-variables a.m.now v (session_in states a.at) a.slots.now a.work.now a.c t (New a.set) c.requires.2) c.if-object-n.false _ c.number-stood.result first c.number-stood.ensures))
 
 pub returns-clause-gives : goal.returns-clause-gives
 returns-clause-gives c =
