@@ -25,7 +25,7 @@ fn meets(work: &[u8], slots: &[u8], n: usize, literals: &[u32], part: Part, e: u
     requires { Consistent work.now × Own width.slots slots.now × (n ≤ width.slots) × Evaluable literals.now part × (part.variables ≡ 1) × (e < limit.listed) }
     ensures { (S : Database) → Rows S work.now → length S ≡ n → (result ≡ true) ↔ ShowsWith S work.now (body_at literals.now part.first part.count) e }
 {
-    let free = facts_holds::free();
+    let free = facts_candidates::free();
     let fixed = facts_candidates::choose(free, 0, e);
     facts_holds::shows(work, slots, n, literals, part, fixed)
 }

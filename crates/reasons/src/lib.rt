@@ -14,7 +14,6 @@ ghost use Rattle.replay_steps.specs.Tries.{Lent, Open, Stepping};
 ghost use Rattle.reasons.specs.Reasons.{Explains, Swapped, AnySwapped, Beyond};
 
 use facts_candidates::Choice;
-use facts_find::FREE;
 use limits::{CARRIED, NONE};
 use model::{Action, Clause, Model, Place, Stage};
 use replay_session::Position;
@@ -44,11 +43,7 @@ fn why_new(m: &Model, slots: &[u8], work: &[u8], at: Position, c: Clause, object
     if object as usize != n {
         return Reason::NotNext;
     }
-    let fixed = Choice {
-        first: FREE,
-        second: FREE,
-        third: FREE,
-    };
+    let fixed = facts_candidates::free();
     let index = reasons_bodies::blame(
         &m.literals,
         slots,
@@ -73,9 +68,9 @@ fn why_next(m: &Model, slots: &[u8], work: &[u8], at: Position, c: Clause, objec
         return Reason::NoObject;
     }
     let fixed = Choice {
-        first: o,
-        second: FREE,
-        third: FREE,
+        first: Some(o),
+        second: None,
+        third: None,
     };
     let index = reasons_bodies::blame(
         &m.literals,
@@ -111,7 +106,10 @@ fn beyond(c: Choice, n: usize, objects: usize) -> bool
     ensures { Says (Beyond c n objects) result }
 {
     for x in 0..n {
-        if facts_candidates::element(c, x) >= objects {
+        let Some(e) = facts_candidates::element(c, x) else {
+            return true;
+        };
+        if e >= objects {
             return true;
         }
     }
@@ -128,7 +126,7 @@ fn swapped(g: Stage, number: u32, carried: u32, c: Choice) -> bool
         return false;
     }
     for x in 0..g.variables as usize {
-        if g.numbers[x] == number && facts_candidates::element(c, x) != carried as usize {
+        if g.numbers[x] == number && facts_candidates::element(c, x) != Some(carried as usize) {
             return true;
         }
     }
@@ -170,11 +168,7 @@ fn why_meeting(
     if replay_meetings::count(first, second, third) != g.variables {
         return Reason::Variables;
     }
-    let fixed = Choice {
-        first: first as usize,
-        second: second as usize,
-        third: third as usize,
-    };
+    let fixed = replay_meetings::choice(first, second, third);
     let n = at.objects;
     if beyond(fixed, g.variables as usize, n) {
         return Reason::NoObject;

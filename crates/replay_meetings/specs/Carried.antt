@@ -1,10 +1,17 @@
 -- THE CARRIED VARIABLES at a meeting, each by itself: "a carried object .. is the one that a meeting must name, and where it has none the next meeting with the carried variable sets it".
-use Rattle.std.specs.Prelude.{◌≡◌, ◌⊎◌, ◌≢◌, cond, List, ℕ, ◌<◌, eqb, length, get_or}
+use Rattle.std.specs.Prelude.{Option, Some, None, ◌≡◌, ◌⊎◌, ◌≢◌, cond, List, ℕ, ◌<◌, eqb, length, get_or}
 use Rattle.limits.specs.Limits as limit
 use Rattle.model.specs.declared.Stage.{Stage}
 use Rattle.model.specs.Records.{number_in}
 use Rattle.facts_candidates.specs.declared.Choice.{Choice}
 use Rattle.facts_candidates.specs.Choices.{chosen}
+
+-- the object of a number, where 255 stands for none; and the choice of those of a meeting
+abbrev pub object_of : ℕ → Option ℕ
+object_of n = cond (eqb n limit.none) None (Some n)
+
+abbrev pub choice_of : ℕ → ℕ → ℕ → Choice
+choice_of a b c = record { first = object_of a; second = object_of b; third = object_of c }
 
 -- r is the object that the choice has for the stage's variable of number v, or 255 where the stage has no such variable
 abbrev pub Named : Stage → ℕ → Choice → ℕ → Type 0

@@ -13,7 +13,8 @@ use Rattle.semantics.specs.Models.{elem, Body, Line, rule, new, next, other, lin
 use Rattle.semantics.specs.Steps.{Enabled}
 use Rattle.semantics.specs.Runs.{step}
 use Rattle.semantics.specs.StandingBy.{First, line_names, EnabledBy, StoodBy}
-use Rattle.semantics.proofs.Tools.{same?}
+use Rattle.std.specs.Prelude.{Option, Some, None, is_some, unwrap_or}
+use Rattle.semantics.proofs.Tools.{same?, clash}
 use Rattle.semantics.proofs.Bodies.{supported-vars}
 use Rattle.semantics.proofs.StandingBy.{first-same, stood-by-enabled}
 use Rattle.model.specs.declared.Action.{Action}
@@ -25,7 +26,7 @@ use Rattle.model.specs.Records.{up_from, head_of, line_of, clause_body, clause_l
 use Rattle.model.specs.WellFormed.{WellFormed}
 use Rattle.model.proofs.Accepted.{on_line, clause-safe, clause-vars, clause-body, stages}
 use Rattle.facts_candidates.specs.declared.Choice.{Choice}
-use Rattle.facts_candidates.specs.Choices.{chosen}
+use Rattle.facts_candidates.specs.Choices.{element_of, chosen}
 use Rattle.facts_find.specs.Bodies.{Fixed}
 use Rattle.facts_rests.specs.Rests.{Within}
 use Rattle.replay_session.specs.declared.Session.{Session}
@@ -119,16 +120,20 @@ stepping m v s slots w ℓ o l c (k, here, e, on) =
 
 -- a choice that fixes variable 0 alone
 abbrev pub only : ℕ → Choice
-only o = record { first = o; second = 255; third = 255 }
+only o = record { first = Some o; second = None; third = None }
 
-only-rest : (o x : ℕ) → x ≢ 0 → chosen (only o) x ≡ 255
+only-rest : (o x : ℕ) → x ≢ 0 → element_of (only o) x ≡ None
 only-rest o x n = rw (ne_eqb x 0 n) (⊎_elim (λ (e : x ≡ 1). rw (eq-eqb x 1 e)) (λ (e : x ≢ 1). rw (ne_eqb x 1 e)) (same? x 1))
 
-fixed-only : (n o : ℕ) (σ : ℕ → ℕ) → σ 0 ≡ o → Fixed n (only o) σ
-fixed-only n o σ e x l h = ⊎_elim (λ (q : x ≡ 0). rw q e) (λ (q : x ≢ 0). absurd (h (only-rest o x q))) (same? x 0)
+pub fixed-only : (n o : ℕ) (σ : ℕ → ℕ) → σ 0 ≡ o → Fixed n (only o) σ
+fixed-only n o σ e x l i h = ⊎_elim
+    (λ (q : x ≡ 0). ap σ q ∙ e ∙ ap (λ (p : Option ℕ). unwrap_or p 0) (sym (ap (element_of (only o)) q) ∙ h))
+    (λ (q : x ≢ 0). clash (ap is_some h) (ap is_some (only-rest o x q)))
+    (same? x 0)
 
-fixed-free : (n : ℕ) (σ : ℕ → ℕ) → Fixed n (only 255) σ
-fixed-free n σ x l h = absurd (h (⊎_elim (λ (q : x ≡ 0). rw q) (λ (q : x ≢ 0). only-rest 255 x q) (same? x 0)))
+-- a choice that fixes no variable
+pub fixed-free : (n : ℕ) (c : Choice) → ((x : ℕ) → element_of c x ≡ None) → (σ : ℕ → ℕ) → Fixed n c σ
+fixed-free n c free σ x l i h = clash (ap is_some h) (ap is_some (free x))
 
 module _ (m : Model) (s : Session) (v : View) (w : List ℕ) (ready : Ready m s v w) (left : s.met < m.stagecount) (ℓ o : ℕ) where
   abbrev db : List ℕ
@@ -170,22 +175,22 @@ module _ (m : Model) (s : Session) (v : View) (w : List ℕ) (ready : Ready m s 
 
   -- a `new` line
   module _ (t : ℕ) (b : Body) (n : ℕ) (on : line (program_of m) ℓ ≡ new t b) where
-    pub new-kept : line_names (new t b) ≡ up_from 0 n → o ≡ s.objects → (c : Choice) (k : ℕ) → First (up_from 0 n) (Holding m s b n (only 255)) (chosen c) → k ≡ standing (map (chosen c) (up_from 0 n))
+    pub new-kept : (none : Choice) → ((x : ℕ) → element_of none x ≡ None) → line_names (new t b) ≡ up_from 0 n → o ≡ s.objects → (c : Choice) (k : ℕ) → First (up_from 0 n) (Holding m s b n none) (chosen c) → k ≡ standing (map (chosen c) (up_from 0 n))
         → Taken m s (step ℓ o) (created s t) k
-    new-kept names e c k = stands (new t b) on n (Holding m s b n (only 255)) c k names (λ σ. ((λ h. (e ∙ sym sized, h.0)), λ h. (h.1, fixed-free n σ)))
+    new-kept none free names e c k = stands (new t b) on n (Holding m s b n none) c k names (λ σ. ((λ h. (e ∙ sym sized, h.0)), λ h. (h.1, fixed-free n none free σ)))
 
     pub new-other : o ≢ s.objects → Barred m s (step ℓ o)
     new-other e = fails (new t b) on (λ q. e (q.0 ∙ sized))
 
-    pub new-fails : ((σ : ℕ → ℕ) → Holding m s b n (only 255) σ → ⊥) → Barred m s (step ℓ o)
-    new-fails h = fails (new t b) on (λ q. h q.1.0 (q.1.1, fixed-free n q.1.0))
+    pub new-fails : (none : Choice) → ((x : ℕ) → element_of none x ≡ None) → ((σ : ℕ → ℕ) → Holding m s b n none σ → ⊥) → Barred m s (step ℓ o)
+    new-fails none free h = fails (new t b) on (λ q. h q.1.0 (q.1.1, fixed-free n none free q.1.0))
 
   -- a `next` line
   module _ (plus minus : ℕ) (b : Body) (n : ℕ) (on : line (program_of m) ℓ ≡ next 0 plus minus b) where
-    pub next-kept : line_names (next 0 plus minus b) ≡ up_from 0 n → 0 < n → o < 255 → o < s.objects → (c : Choice) (k : ℕ) → First (up_from 0 n) (Holding m s b n (only o)) (chosen c)
+    pub next-kept : line_names (next 0 plus minus b) ≡ up_from 0 n → 0 < n → o < s.objects → (c : Choice) (k : ℕ) → First (up_from 0 n) (Holding m s b n (only o)) (chosen c)
         → k ≡ standing (map (chosen c) (up_from 0 n)) → Taken m s (step ℓ o) (relabeled s o plus minus) k
-    next-kept names z h l c k = stands (next 0 plus minus b) on n (Holding m s b n (only o)) c k names
-        (λ σ. ((λ g. (let q = sized in omega arith, g.1 0 z (λ e. omega arith), g.0)), λ g. (g.2, fixed-only n o σ g.1)))
+    next-kept names z l c k = stands (next 0 plus minus b) on n (Holding m s b n (only o)) c k names
+        (λ σ. ((λ g. (let q = sized in omega arith, g.1 0 z o refl, g.0)), λ g. (g.2, fixed-only n o σ g.1)))
 
     pub next-other : s.objects ≤ o → Barred m s (step ℓ o)
     next-other l = fails (next 0 plus minus b) on (λ q. let i = q.0 in let z = sized in omega arith)

@@ -22,7 +22,6 @@ ghost use Rattle.replay_steps.specs.Tries.{OnLine, Rests, Ready, Open, Stepping,
 
 use facts_bits::BYTES;
 use facts_candidates::Choice;
-use facts_find::FREE;
 use limits::OBJECTS;
 use model::{Action, Clause, Model};
 use replay_session::{Position, Session};
@@ -145,11 +144,7 @@ fn create(
     if object as usize != n {
         return None;
     }
-    let fixed = Choice {
-        first: FREE,
-        second: FREE,
-        third: FREE,
-    };
+    let fixed = facts_candidates::free();
     let helpers = decide(
         &m.literals,
         slots,
@@ -193,9 +188,9 @@ fn change(
         return None;
     }
     let fixed = Choice {
-        first: o,
-        second: FREE,
-        third: FREE,
+        first: Some(o),
+        second: None,
+        third: None,
     };
     let choice = decide(
         &m.literals,

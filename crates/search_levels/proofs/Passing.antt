@@ -1,5 +1,5 @@
 -- A stage with the two variables in their places, and what becomes of a row of pairs.
-use mathlib.Core.Path.{◌≡◌, refl, sym, ◌∙◌, subst}
+use mathlib.Core.Path.{◌≡◌, refl, sym, ap, ◌∙◌, subst}
 use mathlib.Core.Logic.{◌↔◌, ◌≢◌}
 use mathlib.Core.Bool.{Bool, true, false, cond, ◌&&◌, and-eq-true_iff}
 use mathlib.Core.List.{List}
@@ -15,7 +15,8 @@ use Rattle.facts_bits.specs.Width as width
 use Rattle.facts_bits.specs.Bits.{bit_at, Both, Empty}
 use Rattle.facts_bits.proofs.Laws.{full-bits}
 use Rattle.facts_candidates.specs.declared.Choice.{Choice}
-use Rattle.facts_candidates.specs.Choices.{chosen}
+use Rattle.facts_candidates.specs.Choices.{element_of}
+use Rattle.std.specs.Prelude.{Some, None, is_some}
 use Rattle.facts_find.specs.Bodies.{Fixed}
 use Rattle.facts_holds.proofs.Laws.{fixed_more}
 use Rattle.search_levels.specs.declared.Walker.{Walker}
@@ -26,36 +27,36 @@ use Rattle.search_levels.proofs.Rows.{has-so, has-nothing}
 
 -- THE CHOICES with slot e for a variable where it stands in the stage
 abbrev Seats : Choice → Walker → ℕ → Choice → Type 0
-Seats c a e r = (x : ℕ) → x < limit.variables → chosen r x ≡ cond (a.stands && eqb x a.seat) e (chosen c x)
+Seats c a e r = (x : ℕ) → x < limit.variables → element_of r x ≡ cond (a.stands && eqb x a.seat) (Some e) (element_of c x)
 
-fixed-seated : (c r : Choice) (a : Walker) (v e : ℕ) → v ≤ limit.variables → e < width.slots → (a.stands ≡ true → a.seat < v) → (a.stands ≡ true → chosen c a.seat ≡ limit.none) → Seats c a e r
+fixed-seated : (c r : Choice) (a : Walker) (v e : ℕ) → v ≤ limit.variables → (a.stands ≡ true → a.seat < v) → (a.stands ≡ true → element_of c a.seat ≡ None) → Seats c a e r
     → (σ : ℕ → ℕ) → Fixed v r σ ↔ (Fixed v c σ × Seated a.stands σ a.seat e)
-fixed-seated c r a v e few l = go a.stands
+fixed-seated c r a v e few = go a.stands
   where
-    go : (s : Bool) → (s ≡ true → a.seat < v) → (s ≡ true → chosen c a.seat ≡ limit.none) → ((x : ℕ) → x < limit.variables → chosen r x ≡ cond (s && eqb x a.seat) e (chosen c x))
+    go : (s : Bool) → (s ≡ true → a.seat < v) → (s ≡ true → element_of c a.seat ≡ None) → ((x : ℕ) → x < limit.variables → element_of r x ≡ cond (s && eqb x a.seat) (Some e) (element_of c x))
         → (σ : ℕ → ℕ) → Fixed v r σ ↔ (Fixed v c σ × Seated s σ a.seat e)
-    go true inside free law σ = fixed_more c r v a.seat e few (inside refl) l (free refl) law σ
+    go true inside free law σ = fixed_more c r v a.seat e few (inside refl) (free refl) law σ
     go false inside free law σ = (
-      (λ f. ((λ y g n. let z = law y (omega arith) in f y g (λ p. n (sym z ∙ p)) ∙ z), tt)),
-      λ f y g n. let z = law y (omega arith) in f.0 y g (λ p. n (z ∙ p)) ∙ sym z,
+      (λ f. ((λ y g i n. f y g i (law y (omega arith) ∙ n)), tt)),
+      λ f y g i n. f.0 y g i (sym (law y (omega arith)) ∙ n),
     )
 
-pub fixed-both : (c one both : Choice) (a b : Walker) (v e f : ℕ) → v ≤ limit.variables → e < limit.listed → f < limit.listed
+pub fixed-both : (c one both : Choice) (a b : Walker) (v e f : ℕ) → v ≤ limit.variables
     → (a.stands ≡ true → a.seat < v) → (b.stands ≡ true → b.seat < v) → (a.stands ≡ true → b.stands ≡ true → a.seat ≢ b.seat)
-    → ((x : ℕ) → chosen c x ≡ limit.none) → Seats c a e one → Seats one b f both
+    → ((x : ℕ) → element_of c x ≡ None) → Seats c a e one → Seats one b f both
     → (σ : ℕ → ℕ) → Fixed v both σ ↔ (Seated a.stands σ a.seat e × Seated b.stands σ b.seat f)
-fixed-both c one both a b v e f few l h first second apart free p q σ =
-    let x = fixed-seated c one a v e few (omega arith) first (λ s. free a.seat) p σ in
-    let y = fixed-seated one both b v f few (omega arith) second other q σ in (
+fixed-both c one both a b v e f few first second apart free p q σ =
+    let x = fixed-seated c one a v e few first (λ s. free a.seat) p σ in
+    let y = fixed-seated one both b v f few second other q σ in (
       (λ z. let k = y.0 z in ((x.0 k.0).1, k.1)),
-      λ z. y.1 (x.1 ((λ i g n. absurd (n (free i))), z.0), z.1),
+      λ z. y.1 (x.1 ((λ i g j n. clash (ap is_some n) (ap is_some (free i))), z.0), z.1),
     )
   where
-    go : (s : Bool) → (s ≡ true → a.seat ≢ b.seat) → cond (s && eqb b.seat a.seat) e (chosen c b.seat) ≡ limit.none
+    go : (s : Bool) → (s ≡ true → a.seat ≢ b.seat) → cond (s && eqb b.seat a.seat) (Some e) (element_of c b.seat) ≡ None
     go true n = rw (ne_eqb b.seat a.seat (λ z. n refl (sym z))) (free b.seat)
     go false n = free b.seat
 
-    other : b.stands ≡ true → chosen one b.seat ≡ limit.none
+    other : b.stands ≡ true → element_of one b.seat ≡ None
     other s = p b.seat (let z = second s in omega arith) ∙ go a.stands (λ t. apart t s)
 
 module _ (w slots : List ℕ) (n : ℕ) (literals : List ℕ) (t : Meeting) (ready : Ready w slots n literals t) (S : Database) (many : length S ≡ n) where

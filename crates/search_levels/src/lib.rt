@@ -7,7 +7,7 @@ ghost use Rattle.model.specs.Records.{stage_at};
 ghost use Rattle.model.specs.WellFormed.{WellFormed};
 ghost use Rattle.facts_bits.specs.Width as width;
 ghost use Rattle.facts_bits.specs.Bits.{bit_at, in_row};
-ghost use Rattle.facts_candidates.specs.Choices.{chosen};
+ghost use Rattle.facts_candidates.specs.Choices.{element_of, chosen};
 ghost use Rattle.search_states.specs.States.{row, Proper};
 ghost use Rattle.search_ways.specs.Moves.{matrix_bytes, Exactly};
 ghost use Rattle.search_levels.specs.Levels.{Aims, pair_at, Filled};
@@ -72,7 +72,7 @@ fn asked_at(p: Option<[u8; BYTES]>, k: usize) -> Option<[u8; BYTES]>
 // The choice with slot e for the variable, where it stands in the stage.
 fn seated(c: Choice, a: Walker, e: usize) -> Choice
     requires { a.stands ≡ true → a.seat < limit.variables }
-    ensures { (x : ℕ) → x < limit.variables → chosen result x ≡ cond (a.stands && eqb x a.seat) e (chosen c x) }
+    ensures { (x : ℕ) → x < limit.variables → element_of result x ≡ cond (a.stands && eqb x a.seat) (Some e) (element_of c x) }
 {
     if a.stands {
         return facts_candidates::choose(c, a.seat, e);
@@ -91,7 +91,7 @@ fn somewhere(
     row: [u8; BYTES],
     c: Choice,
 ) -> bool
-    requires { Asked work.now slots.now n literals.now part × (0 < part.variables) × (chosen c 0 ≡ limit.none) }
+    requires { Asked work.now slots.now n literals.now part × (0 < part.variables) × (element_of c 0 ≡ None) }
     ensures { Over work.now n (λ S. (result ≡ true) ↔ Holding S work.now literals.now part c (λ σ. bit_at row (σ 0) ≡ true)) }
 {
     for e in facts_bits::slots(row) {
@@ -122,8 +122,8 @@ fn pointed(
     let Some(among) = p else {
         return true;
     };
-    if c.first < SLOTS {
-        return facts_bits::get(&among, c.first);
+    if let Some(e) = c.first {
+        return facts_bits::get(&among, e);
     }
     somewhere(work, slots, n, literals, part, among, c)
 }
@@ -142,7 +142,7 @@ fn holds(
     requires { Ready work.now slots.now n literals.now t × (e < limit.listed) × (f < limit.listed) }
     ensures { Over work.now n (λ S. (result ≡ true) ↔ Met S work.now literals.now t e f) }
 {
-    let free = facts_holds::free();
+    let free = facts_candidates::free();
     let one = seated(free, t.first, e);
     let both = seated(one, t.second, f);
     pointed(work, slots, n, literals, t.part, t.pointing, both)

@@ -15,7 +15,7 @@ use Rattle.model.specs.WellFormed.{WellFormed}
 use Rattle.facts_bits.specs.Bits.{in_row}
 use Rattle.facts_table.specs.Table.{table_of, Consistent}
 use Rattle.facts_candidates.specs.declared.Choice.{Choice}
-use Rattle.facts_candidates.specs.Choices.{chosen}
+use Rattle.facts_candidates.specs.Choices.{element_of, chosen}
 use Rattle.facts_find.specs.Bodies.{Fixed}
 use Rattle.facts.specs.Facts.{Exact}
 use Rattle.search_states.specs.declared.States.{States}
@@ -53,7 +53,7 @@ Spots st v prelude.None = (y : ℕ) → y < st.variables → number_in st y ≢ 
 
 -- the choice c, but element e for the variable v where the stage has it
 abbrev pub Names : Stage → ℕ → ℕ → Choice → Choice → Type 0
-Names st v e c r = (x : ℕ) → x < st.variables → chosen r x ≡ cond (eqb (number_in st x) v) e (chosen c x)
+Names st v e c r = (x : ℕ) → x < st.variables → element_of r x ≡ cond (eqb (number_in st x) v) (prelude.Some e) (element_of c x)
 
 -- the choice c, but elements e and f for the carried variables where stage k has them
 abbrev pub NamesBoth : Model → ℕ → ℕ → ℕ → Choice → Choice → Type 0
@@ -116,5 +116,5 @@ Opens m w s rows j e f σ = Seating m w s 0 e f σ × (in_row rows j (σ (first_
 
 -- the answer is a choice for which stage 1 holds with slot u for its first variable and slots e and f for the carried ones, or that there is none. Where the first variable is carried it has its own slot, whatever u is.
 abbrev pub Attempts : Model → List ℕ → States → ℕ → ℕ → ℕ → prelude.Option Choice → Type 0
-Attempts m w s u e f r = (free one fixed : Choice) × ((x : ℕ) → chosen free x ≡ limit.none) × Names (stage_at m 0) (first_variable m) u free one × NamesBoth m 0 e f one fixed
+Attempts m w s u e f r = (free one fixed : Choice) × ((x : ℕ) → element_of free x ≡ prelude.None) × Names (stage_at m 0) (first_variable m) u free one × NamesBoth m 0 e f one fixed
     × Seeks (row s) w (stage_body m.literals (stage_at m 0)) (stage_at m 0).variables fixed r

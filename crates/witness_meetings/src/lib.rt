@@ -132,7 +132,7 @@ fn choose(
     requires { Known m work.now s × Own width.slots slots.now × (k < m.stagecount) × ((σ : ℕ → ℕ) × Seating m work.now s k first second σ) }
     ensures { (σ : ℕ → ℕ) × Seating m work.now s k first second σ × Chooses (stage_at m k) result σ }
 {
-    let free = facts_holds::free();
+    let free = facts_candidates::free();
     let fixed = name_both(m, k, first, second, free);
     let Some(c) = seek_stage(work, slots, m, s, k, fixed) else {
         // A level's pair has a choice that meets the stage.
@@ -148,8 +148,9 @@ fn behind(n: usize, base: u32, c: Choice) -> Choice
 {
     let mut r = c;
     for x in 0..n {
-        let e = facts_candidates::element(c, x);
-        r = facts_candidates::choose(r, x, base as usize + e);
+        if let Some(e) = facts_candidates::element(c, x) {
+            r = facts_candidates::choose(r, x, base as usize + e);
+        }
     }
     r
 }
@@ -218,7 +219,7 @@ fn attempt(
     requires { Known m work.now s × Own width.slots slots.now }
     ensures { Attempts m work.now s u first second result }
 {
-    let free = facts_holds::free();
+    let free = facts_candidates::free();
     let one = name_first(m, u, free);
     let fixed = name_both(m, 0, first, second, one);
     seek_stage(work, slots, m, s, 0, fixed)

@@ -43,7 +43,7 @@ returns-clause-tried_by c =
     let first = c.in_ok-choice.ensures a.m.now v (session_in a.states.now a.at) t.ready t.rests t.seats refl in
     rw (c.onward.ensures, c.relabel-state.ensures) (next-kept a.m.now (session_in a.states.now a.at) v a.work.now t.ready t.left a.c.line a.object a.plus a.minus (clause_body a.m.now.literals a.c) a.c.variables
     (on-action a.m.now v (session_in a.states.now a.at) a.slots.now a.work.now a.c t (Next a.plus a.minus) c.requires.2)
-    (line-variables a.m.now v (session_in a.states.now a.at) a.slots.now a.work.now a.c t (Next a.plus a.minus) c.requires.2) (next-variable a.m.now v (session_in a.states.now a.at) a.slots.now a.work.now a.c t a.plus a.minus c.requires.2) c.requires.1 c.if-o-n.false _ c.number-stood.result first c.number-stood.ensures)
+    (line-variables a.m.now v (session_in a.states.now a.at) a.slots.now a.work.now a.c t (Next a.plus a.minus) c.requires.2) (next-variable a.m.now v (session_in a.states.now a.at) a.slots.now a.work.now a.c t a.plus a.minus c.requires.2) c.if-o-n.false _ c.number-stood.result first c.number-stood.ensures)
 
 pub returns-clause-gives : goal.returns-clause-gives
 returns-clause-gives c =
