@@ -26,3 +26,7 @@ pub record Accepts (o : Outcome) (text : List ℕ) (m : Model) : Type 0 where
 -- THE ANSWER TO A TEXT: the record of the model that the text says, or the table's refusal
 abbrev pub Reads : Outcome → List ℕ → Result Model Refusal → Type 0
 Reads o text r = MatchResult r (Accepts o text) (λ x. o ≡ refused (number_of x.row) x.line)
+
+-- the same of a reader that fills the record m
+abbrev pub Fills : Outcome → List ℕ → Result (Unit {0}) Refusal → Model → Type 0
+Fills o text r m = MatchResult r (λ _. Accepts o text m) (λ x. o ≡ refused (number_of x.row) x.line)

@@ -1,5 +1,5 @@
 -- What the blank record holds, and the record with the declared names.
-use mathlib.Core.Path.{◌≡◌, refl, sym, subst, ◌∙◌}
+use mathlib.Core.Path.{◌≡◌, refl, sym, ap, subst, ◌∙◌}
 use mathlib.Core.Logic.{⊎_elim}
 use mathlib.Core.Bool.{true, false}
 use mathlib.Core.List.{List, [], ◌∷◌, map, map-append}
@@ -78,6 +78,33 @@ module _ {d : Declared} (f : Name → ℕ) {row : List ℕ} where
   pub column-all : {i : ℕ} → Column d f row i → i ≡ limit.declared → length d.names ≡ limit.declared → f no_name ≡ 0 → row ≡ map f d.names
   column-all so e l z = ext_get_or 0 row (map f d.names) (so.long ∙ sym (length-map d.names f ∙ l))
       (λ j h. so.same j (omega (arith, so.long)) ∙ sym (subst (λ (n : ℕ). get_or (map f d.names) j n ≡ f (name_at d j)) z (get_or-map f d.names j no_name)))
+
+-- the record m₀ with these rows, for a text of n lines
+abbrev pub with_rows : Model → Declared → ℕ → List ℕ → List ℕ → List ℕ → Model
+with_rows m₀ d n codes names lengths = record m₀ { relations = record { codes = codes; count = d.count }; names = names; lengths = lengths; lines = n }
+
+-- the record m after the first i names
+pub record Fitting (m₀ : Model) (d : Declared) (n i : ℕ) (m : Model) : Type 0 where
+  pub codes : Column d (λ x. x.code) m.relations.codes i
+  pub names : Column d (λ x. x.start) m.names i
+  pub lengths : Column d (λ x. x.len) m.lengths i
+  pub rest : m ≡ with_rows m₀ d n m.relations.codes m.names m.lengths
+
+-- the record m with one name more in these rows
+abbrev pub next_row : Model → List ℕ → List ℕ → List ℕ → Model
+next_row m codes names lengths = record m { relations = record { codes = codes; count = m.relations.count }; names = names; lengths = lengths }
+
+module _ {m₀ : Model} {d : Declared} {n i : ℕ} {m : Model} (so : Fitting m₀ d n i m) where
+  pub fitting-more : i < limit.declared → Fitting m₀ d n (i + 1) (next_row m (set m.relations.codes i (name_at d i).code) (set m.names i (name_at d i).start) (set m.lengths i (name_at d i).len))
+  fitting-more h = record {
+    codes = column-more (λ (x : Name). x.code) so.codes h;
+    names = column-more (λ (x : Name). x.start) so.names h;
+    lengths = column-more (λ (x : Name). x.len) so.lengths h;
+    rest = ap (λ (x : Model). next_row x (set m.relations.codes i (name_at d i).code) (set m.names i (name_at d i).start) (set m.lengths i (name_at d i).len)) so.rest;
+  }
+
+  pub fitting-all : i ≡ limit.declared → length d.names ≡ limit.declared → m ≡ fitted m₀ d n
+  fitting-all e l = so.rest ∙ rw (column-all (λ (x : Name). x.code) so.codes e l refl, column-all (λ (x : Name). x.start) so.names e l refl, column-all (λ (x : Name). x.len) so.lengths e l refl)
 
 -- AT THE `ask` LINE, in a text of n lines
 module _ {m : Model} {P : Program} (d : Declared) (n : ℕ) (so : stored.Holds m P) where

@@ -44,26 +44,19 @@ pub fn blank() -> Model
     }
 }
 
-// The record with the declared names and the number of lines.
-pub fn fit(mut m: Model, d: Declared, n: u32) -> Model
-    ensures { result ≡ fitted m d n }
+// The record gets the declared names and the number of lines.
+pub fn fit(m: &mut Model, d: Declared, n: u32)
+    ensures { m.new ≡ fitted m.old d n }
 {
-    let mut codes = [0u32; DECLARED];
-    let mut names = [0u32; DECLARED];
-    let mut lengths = [0u32; DECLARED];
-    for i in 0..DECLARED {
-        let name = d.names[i];
-        codes[i] = name.code;
-        names[i] = name.start;
-        lengths[i] = name.len;
-    }
-    let relations = Relations {
-        codes,
+    m.relations = Relations {
+        codes: [0u32; DECLARED],
         count: d.count,
     };
-    m.relations = relations;
-    m.names = names;
-    m.lengths = lengths;
     m.lines = n;
-    m
+    for i in 0..DECLARED {
+        let name = d.names[i];
+        m.relations.codes[i] = name.code;
+        m.names[i] = name.start;
+        m.lengths[i] = name.len;
+    }
 }
