@@ -7,7 +7,7 @@ use mathlib.Core.Option.{Option, some}
 use Prim.Native.Nat.{ℕ, zero, suc, ◌+◌, ◌*◌, ◌≤◌, ◌<◌}
 use native.Mathlib.Omega.{arith}
 use borrow.Author.Tests.{eq-eqb, ne_eqb}
-use lib.ListN.{length, take, set, get_or, length-map}
+use lib.ListN.{set, get_or, length-map}
 use Rattle.limits.specs.Limits as limit
 use Rattle.semantics.specs.Models.{elem, Body, vars, names, supported, Supported}
 use Rattle.semantics.specs.Facts.{In, Derived, Meets}
@@ -26,22 +26,20 @@ use Rattle.model.proofs.Numbering.{length-up_from}
 use Rattle.model.proofs.Renaming.{elem-of-map, elem-map, vars-renamed, supported-renamed, holds-renamed, named-renamed}
 use Rattle.model.proofs.Accepted.{stage-here, stage-vars, stage-different, stage-names, stage_body_lem}
 use Rattle.model.proofs.Carried.{carried-cells, carried-own, carried-differ}
-use Rattle.facts_bits.specs.Width as width
 use Rattle.facts_bits.specs.Bits.{in_row}
 use Rattle.facts_table.specs.Table.{table_of}
 use Rattle.facts_candidates.specs.declared.Choice.{Choice}
-use Rattle.facts_candidates.specs.Choices.{element_of, chosen, Own}
+use Rattle.facts_candidates.specs.Choices.{element_of, chosen}
 use Rattle.facts_candidates.proofs.Choosing.{any-default}
 use Rattle.std.specs.Prelude as prelude
-use Rattle.facts_find.specs.Bodies.{Fixed, Decides, Good}
+use Rattle.facts_find.specs.Bodies.{Fixed}
 use Rattle.search_states.specs.declared.States.{States}
 use Rattle.search_states.specs.States.{row}
 use Rattle.search_states.proofs.Laws.{length-row}
-use Rattle.facts_holds.specs.Shows.{Evaluable}
-use Rattle.facts_holds.proofs.Laws.{own-shows, shows-own}
+use Rattle.facts_holds.specs.Shows.{Evaluable, Seeks}
 use Rattle.witness_table.proofs.Laws.{set-backwards}
 use Rattle.witness_meetings.specs.declared.Cast.{Cast}
-use Rattle.witness_meetings.specs.Meetings.{Known, Written, Numbers, Names, NamesBoth, meeting, Seeks, Behind, pair, Seats, gathering, Takes, Chooses, Seating, first_variable, Opens}
+use Rattle.witness_meetings.specs.Meetings.{Known, Written, Numbers, Names, NamesBoth, meeting, Behind, pair, Seats, gathering, Takes, Chooses, Seating, first_variable, Opens}
 
 map_same : (f g : ℕ → ℕ) (k n : ℕ) → ((x : ℕ) → k ≤ x → x < k + n → f x ≡ g x) → map f (up_from k n) ≡ map g (up_from k n)
 map_same f g k zero h = refl
@@ -62,11 +60,6 @@ meeting-number k n a b d c h (ea, la) (eb, lb) (ed, ld) = rw (← ea, ← eb, �
   where
     parts : (k a b d : ℕ) → k < limit.atomic → a < 256 → b < 256 → d < 256 → numeral (Meeting (k + 1) a b d) ≡ 2147483648 + suc k * 16777216 + a * 65536 + b * 256 + d
     parts k a b d h la lb ld = omega arith
-
--- what `find` says over states that are their own slots
-pub seeks : (slots : List ℕ) → Own width.slots slots → (n : ℕ) → n ≤ width.slots → (S : List ℕ) → length S ≡ n → (w : List ℕ) (b : Body) (v : ℕ) (fixed : Choice) (r : prelude.Option Choice) → Decides v (Good w (take n slots) S b v fixed) r → Seeks S w b v fixed r
-seeks slots own n few S same w b v fixed (prelude.Some c) d = (own-shows slots own n few S same w (chosen c) b d.good.0, d.good.1)
-seeks slots own n few S same w b v fixed prelude.None d = λ σ h f. d σ (shows-own slots own n few S same w σ b h, f)
 
 -- what is written is good in another way too
 pub written_as : (G H : List Place → Type 0) → ((ps : List Place) → G ps → H ps) → (most : ℕ) (run run' : List ℕ) (at at' : ℕ) → Written G most run at run' at' → Written H most run at run' at'

@@ -3,8 +3,8 @@ use Rattle.std.specs.Prelude.{◌≡◌, ◌⊎◌, ◌≢◌, true, cond, List,
 use Rattle.std.specs.Prelude as prelude
 use Rattle.std.proofs.Math.Option.{Option, some}
 use Rattle.limits.specs.Limits as limit
-use Rattle.semantics.specs.Models.{elem, Body, vars, names}
-use Rattle.semantics.specs.Facts.{Database, Meets}
+use Rattle.semantics.specs.Models.{elem, vars, names}
+use Rattle.semantics.specs.Facts.{Meets}
 use Rattle.semantics.specs.Runs.{Place, meet, nobody}
 use Rattle.semantics.specs.Tables.{Shows}
 use Rattle.semantics.specs.Walkers.{but, acting}
@@ -16,7 +16,7 @@ use Rattle.facts_bits.specs.Bits.{in_row}
 use Rattle.facts_table.specs.Table.{table_of, Consistent}
 use Rattle.facts_candidates.specs.declared.Choice.{Choice}
 use Rattle.facts_candidates.specs.Choices.{element_of, chosen}
-use Rattle.facts_find.specs.Bodies.{Fixed}
+use Rattle.facts_holds.specs.Shows.{Seeks}
 use Rattle.facts.specs.Facts.{Exact}
 use Rattle.search_states.specs.declared.States.{States}
 use Rattle.search_states.specs.States.{row, Proper, Discovered}
@@ -62,11 +62,6 @@ NamesBoth m k e f c r = (d : Choice) × Names (stage_at m k) (carried_at m 0) e 
 -- the meeting of stage k + 1 with the chosen objects
 abbrev pub meeting : ℕ → ℕ → Choice → Place
 meeting k n c = meet (suc k) (map (chosen c) (up_from 0 n))
-
--- the answer is a choice with the fixed elements for which the body holds over S, or that there is none
-abbrev pub Seeks : Database → List ℕ → Body → ℕ → Choice → prelude.Option Choice → Type 0
-Seeks S w b v fixed (prelude.Some c) = Shows S (table_of w) (chosen c) b × Fixed v fixed (chosen c)
-Seeks S w b v fixed prelude.None = (σ : ℕ → ℕ) → Shows S (table_of w) σ b → Fixed v fixed σ → ⊥
 
 -- THE CAST: object `base` + i has state i of the row, and two more objects stand for the carried variables. They all have numbers.
 pub record Numbered (s : States) (cast : Cast) : Type 0 where

@@ -12,8 +12,8 @@ ghost use Rattle.facts_bits.specs.Width as width;
 ghost use Rattle.facts_table.specs.Table.{Consistent, Rows};
 ghost use Rattle.facts_candidates.specs.Choices.{chosen, Own};
 ghost use Rattle.search_states.specs.States.{row};
-ghost use Rattle.facts_holds.specs.Shows.{Evaluable};
-ghost use Rattle.witness_meetings.specs.Meetings.{Known, Written, Numbers, Spots, Names, NamesBoth, meeting, Seeks, Numbered, Behind, Takes, gathering, Chooses, Seating, Met, first_variable, Opens, Attempts};
+ghost use Rattle.facts_holds.specs.Shows.{Seeks};
+ghost use Rattle.witness_meetings.specs.Meetings.{Known, Written, Numbers, Spots, Names, NamesBoth, meeting, Numbered, Behind, Takes, gathering, Chooses, Seating, Met, first_variable, Opens, Attempts};
 
 use facts_bits::WIDTH;
 use facts_candidates::Choice;
@@ -72,30 +72,6 @@ fn name_first(m: Model, e: usize, c: Choice) -> Choice
     name(stage, stage.numbers[0], e, c)
 }
 
-// A choice of found states, with the fixed ones, for which a body holds, if there is one.
-// That each slot stands for itself stays a clause: facts_find takes any slice of slots, and a struct with this invariant would be opened for each of its calls.
-fn seek(
-    work: &[u8],
-    slots: &[u8],
-    n: usize,
-    literals: &[u32],
-    part: Part,
-    fixed: Choice,
-) -> Option<Choice>
-    requires { Consistent work.now × Own width.slots slots.now × (n ≤ width.slots) × Evaluable literals.now part }
-    ensures { (S : List ℕ) → Rows S work.now → length S ≡ n → Seeks S work.now (body_at literals.now part.first part.count) part.variables fixed result }
-{
-    let first = part.first;
-    facts_find::find(
-        work,
-        &slots[..n],
-        &literals[first..],
-        part.count,
-        part.variables,
-        fixed,
-    )
-}
-
 // A choice of found states, with the fixed ones, that meets stage k + 1, if there is one.
 // The work area, the slots, the model and the states stay apart, with what is known of them in clauses: other functions here read the model alone, and the evaluator takes the area and the slots by themselves.
 fn seek_stage(
@@ -115,7 +91,7 @@ fn seek_stage(
         count: stage.count,
         variables: stage.variables as usize,
     };
-    seek(work, slots, s.count, &m.literals, part, fixed)
+    facts_holds::seek(work, slots, s.count, &m.literals, part, fixed)
 }
 
 // A choice of found states that meets stage k + 1, with the carried objects in these slots where their variables stand in it.
