@@ -10,19 +10,21 @@ use Rattle.semantics.specs.Models.{Body, rule, new, next, other, Program, line}
 use Rattle.semantics.specs.Facts.{Database}
 use Rattle.semantics.specs.Steps.{Enabled}
 use Rattle.semantics.specs.Runs.{step}
+use Rattle.model.specs.declared.Action.{Action}
+use Rattle.model.specs.declared.Action.TheVariants.{Rule, New, Next}
 use Rattle.model.specs.declared.Clause.{Clause}
 use Rattle.model.specs.declared.Model.{Model}
-use Rattle.model.specs.Records.{program_of, question_of}
+use Rattle.model.specs.Records.{clause_body, program_of, question_of}
 use Rattle.model.proofs.Accepted.{stages}
-use Rattle.std.specs.Prelude.{None}
+use Rattle.std.specs.Prelude.{Some, None}
 use Rattle.facts_candidates.specs.declared.Choice.{Choice}
 use Rattle.facts_candidates.specs.Choices.{element_of}
 use Rattle.facts_find.specs.Bodies.{Fixed}
 use Rattle.replay_session.specs.declared.Session.{Session}
 use Rattle.replay_session.proofs.Effects.{size}
 use Rattle.replay_view.specs.declared.View.{View}
-use Rattle.replay_steps.specs.Tries.{Ready, Stepping, Holding}
-use Rattle.replay_steps.proofs.Steps.{only, fixed-only, fixed-free}
+use Rattle.replay_steps.specs.Tries.{Ready, Stepping, Holding, only, Fixes}
+use Rattle.replay_steps.proofs.Steps.{on-action, next-variable, fixed-only, fixed-free}
 use Rattle.reasons_bodies.specs.Blames.{Blames}
 use Rattle.reasons.specs.declared.Reason.TheVariants.{NoLine, NotNext, NoObject, Literal}
 use Rattle.reasons.specs.Reasons.{StepNoLine, StepNotNext, StepNoObject, StepLiteral, Explains}
@@ -98,3 +100,14 @@ module _ (m : Model) (s : Session) (v : View) (w : List ℕ) (ready : Ready m s 
 -- the body of a clause is short
 pub part-short : (m : Model) (v : View) (s : Session) (slots w : List ℕ) (c : Clause) → Stepping m v s slots w c → c.count ≤ limit.body
 part-short m v s slots w c t = subst (λ (x : Clause). x.count ≤ limit.body) t.clause (t.ready.accepted.clause t.index t.within).part.short
+
+-- the literal of the body of a clause is to blame, where the object is one for the line
+module _ (m : Model) (v : View) (s : Session) (slots w : List ℕ) (c : Clause) (t : Stepping m v s slots w c) (o : ℕ) where
+  abbrev body : Body
+  body = clause_body m.literals c
+
+  pub step-literal : (a : Action) → c.action ≡ a → (k : Choice) → Fixes a s.objects o (Some k) → (i : ℕ) → (((σ : ℕ → ℕ) → Holding m s body c.variables k σ → ⊥) → Blames (program_of m) (take s.objects s.states) body (Fixed c.variables k) i) → Explains m s (step c.line o) (Literal i)
+  step-literal (Rule r n) e k f i blames = absurd f
+  step-literal (New set) e k f i blames = new-literal m s v w t.ready t.left c.line o set body c.variables (on-action m v s slots w c t (New set) e) k f.1 f.0 i blames
+  step-literal (Next plus minus) e k f i blames = next-literal m s v w t.ready t.left c.line o plus minus body c.variables (on-action m v s slots w c t (Next plus minus) e) (next-variable m v s slots w c t plus minus e) f.0 i
+      (subst (λ (d : Choice). ((σ : ℕ → ℕ) → Holding m s body c.variables d σ → ⊥) → Blames (program_of m) (take s.objects s.states) body (Fixed c.variables d) i) f.1 blames)

@@ -1,5 +1,5 @@
 -- WHY A PLACE IS NOT ALLOWED.
-use Rattle.std.specs.Prelude.{Some, ◌≡◌, ◌≢◌, true, List, ℕ, suc, ◌≤◌, ◌<◌, length, get_or}
+use Rattle.std.specs.Prelude.{Option, Some, ◌≡◌, ◌≢◌, true, List, ℕ, suc, ◌≤◌, ◌<◌, length, get_or}
 use Rattle.std.proofs.Math.Option.{some}
 use Rattle.limits.specs.Limits as limit
 use Rattle.semantics.specs.Models.{elem, Line, rule, new, next, other, Program, line, Question, vars, names}
@@ -103,6 +103,10 @@ Swapped g number carried c = (carried ≢ limit.none) × ((x : ℕ) × (x < g.va
 abbrev pub AnySwapped : List ℕ → Stage → List ℕ → Choice → Type 0
 AnySwapped ns g carried c = (v : ℕ) × (v < limit.carried) × Swapped g (get_or ns v 0) (get_or carried v 0) c
 
--- for one of n variables a choice has no object, or one beyond the objects of a database
+-- there is no object, or it lies beyond the objects of a database
+abbrev pub Absent : Option ℕ → ℕ → Type 0
+Absent object objects = (e : ℕ) → object ≡ Some e → objects ≤ e
+
+-- one of the n objects of a choice is absent
 abbrev pub Beyond : Choice → ℕ → ℕ → Type 0
-Beyond c n objects = (x : ℕ) × (x < n) × ((e : ℕ) → element_of c x ≡ Some e → objects ≤ e)
+Beyond c n objects = (x : ℕ) × (x < n) × Absent (element_of c x) objects

@@ -34,7 +34,7 @@ use Rattle.replay_session.specs.Sessions.{created, relabeled, stepped}
 use Rattle.replay_session.specs.Notes.{standing}
 use Rattle.replay_session.proofs.Effects.{size}
 use Rattle.replay_view.specs.declared.View.{View}
-use Rattle.replay_steps.specs.Tries.{OnLine, line_body, Ready, Open, Stepping, Holding, Taken, Barred}
+use Rattle.replay_steps.specs.Tries.{OnLine, line_body, Ready, Open, Stepping, Holding, only, Fixes, Taken, Barred}
 
 -- WHAT STANDS on the line of clause k
 body-supported : (a : Action) (b : Body) → SafeLine (line_of a b) → Supported (vars b) b
@@ -118,10 +118,6 @@ stepping m v s slots w ℓ o l c (k, here, e, on) =
       seats = l.seats;
     }
 
--- a choice that fixes variable 0 alone
-abbrev pub only : ℕ → Choice
-only o = record { first = Some o; second = None; third = None }
-
 only-rest : (o x : ℕ) → x ≢ 0 → element_of (only o) x ≡ None
 only-rest o x n = rw (ne_eqb x 0 n) (⊎_elim (λ (e : x ≡ 1). rw (eq-eqb x 1 e)) (λ (e : x ≢ 1). rw (ne_eqb x 1 e)) (same? x 1))
 
@@ -170,7 +166,7 @@ module _ (m : Model) (s : Session) (v : View) (w : List ℕ) (ready : Ready m s 
   pub no-clause : line (program_of m) ℓ ≡ other → Barred m s (step ℓ o)
   no-clause on = fails other on (λ e. e)
 
-  pub no_step : (r : ℕ) (xs : List ℕ) (b : Body) → line (program_of m) ℓ ≡ rule r xs b → Barred m s (step ℓ o)
+  no_step : (r : ℕ) (xs : List ℕ) (b : Body) → line (program_of m) ℓ ≡ rule r xs b → Barred m s (step ℓ o)
   no_step r xs b on = fails (rule r xs b) on (λ e. e)
 
   -- a `new` line
@@ -179,10 +175,10 @@ module _ (m : Model) (s : Session) (v : View) (w : List ℕ) (ready : Ready m s 
         → Taken m s (step ℓ o) (created s t) k
     new-kept none free names e c k = stands (new t b) on n (Holding m s b n none) c k names (λ σ. ((λ h. (e ∙ sym sized, h.0)), λ h. (h.1, fixed-free n none free σ)))
 
-    pub new-other : o ≢ s.objects → Barred m s (step ℓ o)
+    new-other : o ≢ s.objects → Barred m s (step ℓ o)
     new-other e = fails (new t b) on (λ q. e (q.0 ∙ sized))
 
-    pub new-fails : (none : Choice) → ((x : ℕ) → element_of none x ≡ None) → ((σ : ℕ → ℕ) → Holding m s b n none σ → ⊥) → Barred m s (step ℓ o)
+    new-fails : (none : Choice) → ((x : ℕ) → element_of none x ≡ None) → ((σ : ℕ → ℕ) → Holding m s b n none σ → ⊥) → Barred m s (step ℓ o)
     new-fails none free h = fails (new t b) on (λ q. h q.1.0 (q.1.1, fixed-free n none free q.1.0))
 
   -- a `next` line
@@ -192,8 +188,23 @@ module _ (m : Model) (s : Session) (v : View) (w : List ℕ) (ready : Ready m s 
     next-kept names z l c k = stands (next 0 plus minus b) on n (Holding m s b n (only o)) c k names
         (λ σ. ((λ g. (let q = sized in omega arith, g.1 0 z o refl, g.0)), λ g. (g.2, fixed-only n o σ g.1)))
 
-    pub next-other : s.objects ≤ o → Barred m s (step ℓ o)
+    next-other : s.objects ≤ o → Barred m s (step ℓ o)
     next-other l = fails (next 0 plus minus b) on (λ q. let i = q.0 in let z = sized in omega arith)
 
-    pub next-fails : ((σ : ℕ → ℕ) → Holding m s b n (only o) σ → ⊥) → Barred m s (step ℓ o)
+    next-fails : ((σ : ℕ → ℕ) → Holding m s b n (only o) σ → ⊥) → Barred m s (step ℓ o)
     next-fails h = fails (next 0 plus minus b) on (λ q. h q.1.0 (q.1.2, fixed-only n o q.1.0 q.1.1))
+
+-- A STEP OF A CLAUSE that is not allowed
+module _ (m : Model) (v : View) (s : Session) (slots w : List ℕ) (c : Clause) (t : Stepping m v s slots w c) (o : ℕ) where
+  -- the object is none for the line
+  pub unfit : (a : Action) → c.action ≡ a → Fixes a s.objects o None → Barred m s (step c.line o)
+  unfit (Rule r n) e f = no_step m s v w t.ready t.left c.line o r (up_from 0 n) (body m v s slots w c t) (on-action m v s slots w c t (Rule r n) e)
+  unfit (New set) e f = new-other m s v w t.ready t.left c.line o set (body m v s slots w c t) c.variables (on-action m v s slots w c t (New set) e) f
+  unfit (Next plus minus) e f = next-other m s v w t.ready t.left c.line o plus minus (body m v s slots w c t) c.variables (on-action m v s slots w c t (Next plus minus) e) f
+
+  -- the body holds for no choice with the objects fixed
+  pub unheld : (a : Action) → c.action ≡ a → (k : Choice) → Fixes a s.objects o (Some k) → ((σ : ℕ → ℕ) → Holding m s (body m v s slots w c t) c.variables k σ → ⊥) → Barred m s (step c.line o)
+  unheld (Rule r n) e k f h = absurd f
+  unheld (New set) e k f h = new-fails m s v w t.ready t.left c.line o set (body m v s slots w c t) c.variables (on-action m v s slots w c t (New set) e) k f.1 h
+  unheld (Next plus minus) e k f h = next-fails m s v w t.ready t.left c.line o plus minus (body m v s slots w c t) c.variables (on-action m v s slots w c t (Next plus minus) e)
+      (subst (λ (d : Choice). (σ : ℕ → ℕ) → Holding m s (body m v s slots w c t) c.variables d σ → ⊥) f.1 h)
