@@ -5,6 +5,8 @@ use Rattle.std.proofs.Math.Option.{Option, none, some}
 use Rattle.limits.specs.Limits as limit
 use Rattle.facts_bits.specs.Width as width
 use Rattle.facts_bits.specs.Bits.{bit_at, in_row}
+use Rattle.game_rounds.specs.declared.Side as declared
+use Rattle.game_rounds.specs.declared.Side.TheVariants.{Attacker, Guardian}
 use Rattle.games.specs.Game.{Side, attacker, guardian, Arena, or_stay, at}
 use Rattle.games.specs.Rounds.{any, every, before, table, Saturated}
 
@@ -57,9 +59,9 @@ abbrev pub ready_by : Side → List ℕ → ℕ → ℕ → List Number → ℕ 
 ready_by attacker w e n ranks round = any (sooner ranks round) (or_stay e (slots w e (suc n)))
 ready_by guardian w e n ranks round = every (sooner ranks round) (or_stay e (slots w e (suc n)))
 
-abbrev pub side_of : Bool → Side
-side_of true = attacker
-side_of false = guardian
+abbrev pub side_of : declared.Side → Side
+side_of Attacker = attacker
+side_of Guardian = guardian
 
 -- who has no number and can get one gets the round's
 abbrev pub given : Number → Bool → ℕ → Number
