@@ -23,7 +23,7 @@ use Rattle.facts_holds.specs.Shows.{Evaluable, Tells}
 use Rattle.facts_holds.proofs.Laws.{fixed_more}
 use Rattle.std.specs.Prelude.{Option, Some, None, unwrap_or}
 use Rattle.search_levels.specs.declared.Walker.{Walker}
-use Rattle.search_levels.specs.Passing.{Aimed, Holding}
+use Rattle.search_levels.specs.Passing.{stands, place, Aimed, Holding}
 
 module _ (S w literals : List ℕ) (part : Part) (c : Choice) where
   -- the body holds over S for σ, which has the fixed slots
@@ -86,8 +86,8 @@ module _ (S w literals : List ℕ) (part : Part) (c : Choice) where
   pointed-row p among g b h = rw g h
 
 -- the pair's slots are small
-pub seated-small : (c r : Choice) (a : Walker) (e : ℕ) → e ≤ limit.none → ((x : ℕ) → x < limit.variables → element_of r x ≡ cond (a.stands && eqb x a.seat) (Some e) (element_of c x)) → chosen c 0 ≤ limit.none → chosen r 0 ≤ limit.none
-seated-small c r a e l law h = subst (λ (o : Option ℕ). unwrap_or o 255 ≤ limit.none) (sym (law 0 (omega arith))) (go (a.stands && eqb 0 a.seat))
+pub seated-small : (c r : Choice) (a : Walker) (e : ℕ) → e ≤ limit.none → ((x : ℕ) → x < limit.variables → element_of r x ≡ cond (stands a && eqb x (place a)) (Some e) (element_of c x)) → chosen c 0 ≤ limit.none → chosen r 0 ≤ limit.none
+seated-small c r a e l law h = subst (λ (o : Option ℕ). unwrap_or o 255 ≤ limit.none) (sym (law 0 (omega arith))) (go (stands a && eqb 0 (place a)))
   where
     go : (b : Bool) → unwrap_or (cond b (Some e) (element_of c 0)) 255 ≤ limit.none
     go true = l

@@ -33,6 +33,10 @@ chosen m v (suc k) = chosen m v k || holder m v k
 abbrev pub pair_at : List ℕ → ℕ → ℕ → ℕ → Bool
 pair_at rows k e f = in_row rows (limit.listed * k + f) e
 
+-- they are slots, and their pair is there
+abbrev pub OnLevel : List ℕ → ℕ → ℕ → ℕ → Type 0
+OnLevel rows k e f = (e < limit.listed) × (f < limit.listed) × (pair_at rows k e f ≡ true)
+
 -- an object goes from slot u to slot e before a stage is met: it stays where its variable does not stand in the stage;
 -- where it does, any slot will do as long as it stood in none before, and else one to which its object can come, as `ways` says
 abbrev pub Moved : List ℕ → Bool → Bool → ℕ → ℕ → Type 0
