@@ -36,12 +36,7 @@ pub fn meeting(work: &[u8], m: Model, s: States) -> [u8; BYTES]
     ensures { Meeting (program_of m) (row s) (stage_of m.literals (stage_at m 0)) (number_in (stage_at m 0) 0) result }
 {
     let slots = facts_candidates::slots();
-    let stage = m.stages[0];
-    let part = Part {
-        first: stage.first,
-        count: stage.count,
-        variables: stage.variables as usize,
-    };
+    let part = Part::from(m.stages[0]);
     let mut met = [0u8; BYTES];
     for e in 0..s.count {
         if meets(work, &slots, s.count, &m.literals, part, e) {

@@ -12,7 +12,7 @@ use Rattle.facts_candidates.specs.declared.Choice.{Choice}
 use Rattle.facts_candidates.specs.Choices.{Own}
 use Rattle.facts_find.specs.Bodies.{Fixed}
 use Rattle.facts_holds.specs.declared.Part.{Part}
-use Rattle.facts_holds.specs.Shows.{Evaluable}
+use Rattle.facts_holds.specs.Shows.{part_of, Evaluable}
 use Rattle.search_levels.specs.declared.Walker.{Walker}
 use Rattle.search_levels.specs.declared.Meeting.{Meeting}
 use Rattle.search_levels.specs.Levels.{Moved, Seated}
@@ -91,7 +91,7 @@ walker_of g x c = let y = seat x (take g.variables g.numbers) in record { seat =
 
 abbrev pub meeting_of : Stage → List ℕ → Bool → Bool → Option (List ℕ) → Meeting
 meeting_of g carried c d p = record {
-  part = record { first = g.first; count = g.count; variables = g.variables };
+  part = part_of g;
   first = walker_of g (get_or carried 0 limit.none) c;
   second = walker_of g (get_or carried 1 limit.none) d;
   pointing = p;

@@ -377,13 +377,8 @@ fn asked(
     requires { stage.variables ≤ length stage.numbers }
     ensures { result ≡ meeting_of stage carried first second pointing }
 {
-    let part = Part {
-        first: stage.first,
-        count: stage.count,
-        variables: stage.variables as usize,
-    };
     Meeting {
-        part,
+        part: Part::from(stage),
         first: standing(stage, carried[0], first),
         second: standing(stage, carried[1], second),
         pointing,

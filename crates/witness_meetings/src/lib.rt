@@ -85,12 +85,7 @@ fn seek_stage(
     requires { Known m work.now s × Own width.slots slots.now × (k < m.stagecount) }
     ensures { Seeks (row s) work.now (stage_body m.literals (stage_at m k)) (stage_at m k).variables fixed result }
 {
-    let stage = m.stages[k];
-    let part = Part {
-        first: stage.first,
-        count: stage.count,
-        variables: stage.variables as usize,
-    };
+    let part = Part::from(m.stages[k]);
     facts_holds::seek(work, slots, s.count, &m.literals, part, fixed)
 }
 
