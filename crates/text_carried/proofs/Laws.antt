@@ -125,7 +125,7 @@ module _ (text : List ℕ) (t : Scope limit.asked) (a e : ℕ) (v : scopes.Valid
     pub met-below : i < t.count
     met-below = omega (arith, k.number, place-below (slice a e text) (scopes.known_of text t) k.known, long)
 
-    pub met-known : Met text t a e (record { table = scopes.marking t i; number = i })
+    pub met-known : Met text t a e (scopes.marking t i) i
     met-known = record {
       few = omega arith;
       small = omega (arith, met-below);
@@ -133,7 +133,7 @@ module _ (text : List ℕ) (t : Scope limit.asked) (a e : ℕ) (v : scopes.Valid
       holds = λ ws so. met-old so (slice a e text) (subst (λ (us : List Word). scopes.Known us (slice a e text) i) so.known k) (omega (arith, met-below, v.count, v.variables));
     }
 
-  pub met-fresh : member (slice a e text) (scopes.known_of text t) ≡ false → t.count < limit.asked → a ≤ e → e ≤ length text → Met text t a e (record { table = scopes.added t a e false; number = t.count })
+  pub met-fresh : member (slice a e text) (scopes.known_of text t) ≡ false → t.count < limit.asked → a ≤ e → e ≤ length text → Met text t a e (scopes.added t a e false) t.count
   met-fresh m room h k = record {
     few = omega arith;
     small = omega arith;

@@ -9,8 +9,6 @@ use Rattle.grammar.specs.Forms.{Literal}
 use Rattle.grammar.specs.Declarations.{member, extend, place, variables}
 use Rattle.text_scope.specs.Scopes as scopes
 use Rattle.text_scope.specs.declared.Scope.{Scope}
-use Rattle.text_carried.specs.declared.Entry.{Entry}
-use Rattle.text_carried.specs.declared.Numbering.{Numbering}
 
 -- the numbers of the variables that stand in a second stage, rising
 unfoldable pub marked : Scope limit.asked → List ℕ
@@ -40,16 +38,16 @@ pub record Holds (text : List ℕ) (t : Scope limit.asked) (ws : List Word) : Ty
   pub known : scopes.known_of text t ≡ extend [] ws
   pub again : (i : ℕ) → scopes.mark t i ≡ elem i (map (place (extend [] ws)) (repeated [] ws))
 
--- the word from a to e more, and its number
-pub record Met (text : List ℕ) (t : Scope limit.asked) (a e : ℕ) (r : Entry) : Type 0 where
-  pub few : r.table.count ≤ t.count + 1
-  pub small : r.number ≤ t.count
-  pub number : r.number ≡ place (scopes.known_of text t) (slice a e text)
-  pub holds : (ws : List Word) → Holds text t ws → Holds text r.table (ws ++ (slice a e text ∷ []))
+-- the table t' has the word from a to e more, with the number n
+pub record Met (text : List ℕ) (t : Scope limit.asked) (a e : ℕ) (t' : Scope limit.asked) (n : ℕ) : Type 0 where
+  pub few : t'.count ≤ t.count + 1
+  pub small : n ≤ t.count
+  pub number : n ≡ place (scopes.known_of text t) (slice a e text)
+  pub holds : (ws : List Word) → Holds text t ws → Holds text t' (ws ++ (slice a e text ∷ []))
 
--- the words own more, and their numbers
-pub record Numbers (text : List ℕ) (t : Scope limit.asked) (own : List Word) (r : Numbering) : Type 0 where
-  pub few : r.table.count ≤ t.count + length own
-  pub holds : (ws : List Word) → Holds text t ws → Holds text r.table (ws ++ own)
-  pub numbers : (ws : List Word) → Holds text t ws → take (length own) r.numbers ≡ map (place (extend [] (ws ++ own))) own
-  pub room : length r.numbers ≡ limit.variables
+-- the table t' has the words own more, with the numbers ns
+pub record Numbers (text : List ℕ) (t : Scope limit.asked) (own : List Word) (t' : Scope limit.asked) (ns : List ℕ) : Type 0 where
+  pub few : t'.count ≤ t.count + length own
+  pub holds : (ws : List Word) → Holds text t ws → Holds text t' (ws ++ own)
+  pub numbers : (ws : List Word) → Holds text t ws → take (length own) ns ≡ map (place (extend [] (ws ++ own))) own
+  pub room : length ns ≡ limit.variables

@@ -22,7 +22,6 @@ use Rattle.text_clauses.specs.Clauses.{Complete, Completed}
 use Rattle.text_clauses.proofs.Laws.{final, frame-complete, body-short}
 use Rattle.text_carried.specs.Asking as asking
 use Rattle.text_carried.specs.Asking.{each}
-use Rattle.text_carried.specs.declared.Numbering.{Numbering}
 use Rattle.text_stages.specs.Questions.{with_stage, Stored, Asked, Holds, Addable, Added}
 use Rattle.text_scope.specs.declared.Scope.{Scope}
 use Rattle.text_stages.proofs.Laws.{fault-more, stored_more}
@@ -72,9 +71,9 @@ module _ (text : List ℕ) (s : Asked) (m : Model) (b : Body) {own : Framed} {r 
         let h = body-short v in
         (omega (arith, y.stagecount, p.few), omega (arith, y.room, p.few), h, v.scope.valid.count)
 
-    pub added-stage : {g : Numbering} {m' : Model} → asking.Numbers text a (scopes.known_of text f.scope) g → m' ≡ with_stage m f g.numbers
-        → Added text s m b (Ok g.table) m'
-    added-stage {g} {m'} nu e = record {
+    pub added-stage : {t' : Scope limit.asked} {ns : List ℕ} {m' : Model} → asking.Numbers text a (scopes.known_of text f.scope) t' ns → m' ≡ with_stage m f ns
+        → Added text s m b (Ok t') m'
+    added-stage nu e = record {
       added = λ D m₀ qs q few so fr. record {
         number = ap fault_in (sym z) ∙ number_more so fr;
         stored = rw e (stored_more (stored-before so) few (faultless so fr) (stage_body fr) (body-short (stage_body fr)) nu);

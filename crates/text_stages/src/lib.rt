@@ -39,9 +39,8 @@ pub fn add(
     ensures { Added text.now s m.old b result m.new }
 {
     let own = text_clauses::complete(b.frame);
-    let (table, f) = text_faults::both(s, own)?;
-    let v = f.scope;
-    let g = text_carried::number(text, table, v);
-    add_stage(m, f, g.numbers);
-    Ok(g.table)
+    let (mut table, f) = text_faults::both(s, own)?;
+    let numbers = text_carried::number(text, &mut table, f.scope);
+    add_stage(m, f, numbers);
+    Ok(table)
 }
