@@ -93,17 +93,8 @@ fn find(
         return Err(CROWDED);
     };
     let s = found.states;
-    if !known(s, from) {
-        return Err(Refusal {
-            row: Row::Unreachable,
-            line: 0,
-        });
-    }
-    if !known(s, to) {
-        return Err(Refusal {
-            row: Row::Unreachable,
-            line: 0,
-        });
+    if !known(s, from) || !known(s, to) {
+        return Err(Row::Unreachable.refusal());
     }
     if from == to {
         return Ok(Some(0));
