@@ -2,16 +2,13 @@
 use Rattle.std.specs.Prelude.{cond, Option, Some, None, Result, Ok, Err, ℕ, ◌+◌, ◌*◌}
 use Rattle.rows.specs.Rows.{number_of}
 use Rattle.rows.specs.declared.Refusal.{Refusal}
-use Rattle.words.specs.Words.{refusal}
+use Rattle.words.specs.Words.{code, refusal}
 use Rattle.handin.specs.declared.Run.{Run}
 use Rattle.handin.specs.declared.Unreadable as handin
 use Rattle.marker_worth.specs.declared.Mark.{Mark}
 use Rattle.marker_worth.specs.declared.Mark.TheVariants.{Unreadable, Right, Other, Breaks}
 use Rattle.display_shapes.specs.declared.Span.{Span}
 use Rattle.display.specs.declared.Declaration.{Declaration}
-
-abbrev pub code : ℕ → ℕ → ℕ
-code kind value = kind * 4294967296 + value
 
 -- WHAT A HAND-IN SAYS: kind 5 is unreadable, with the line; kind 9 no; kind 10 yes, with places × 65,536 + the line of the first
 abbrev pub handed : Result (Option Run) handin.Unreadable → ℕ
