@@ -61,12 +61,10 @@ fn named(g: Stage, number: u32, c: Choice) -> u32
     ensures { Named g number c result }
 {
     let n = g.variables as usize;
-    for x in 0..n {
-        if g.numbers[x] == number {
-            return facts_candidates::object(n, x, c);
-        }
-    }
-    NONE
+    let Some(x) = g.numbers[..n].iter().position(|own| *own == number) else {
+        return NONE;
+    };
+    facts_candidates::object(n, x, c)
 }
 
 // Whether an object may be met where another, or none, is carried.
