@@ -88,12 +88,9 @@ fn swapped(g: Stage, number: u32, carried: u32, c: Choice) -> bool
     if carried == NONE {
         return false;
     }
-    for x in 0..g.variables as usize {
-        if g.numbers[x] == number && facts_candidates::element(c, x) != Some(carried as usize) {
-            return true;
-        }
-    }
-    false
+    let n = g.variables as usize;
+    (0..n).any(|x| g.numbers[x] == number
+        && facts_candidates::element(c, x) != Some(carried as usize))
 }
 
 // Does a choice have another object than the carried one for some of the carried variables of these numbers?
