@@ -25,7 +25,8 @@ use Rattle.rows.proofs.Laws.{some-number}
 use Rattle.text_faults.specs.Faults.{shaped}
 use Rattle.acceptance.proofs.Questions.{ask_words, carriers-words}
 use Rattle.text_literals.proofs.Adding.{body-bound}
-use Rattle.text_bodies.specs.declared.Body.{Body}
+use Rattle.text_rows.specs.declared.Taken.{Taken}
+use Rattle.text_literals.specs.Frames.{Framed}
 use Rattle.text_clauses.proofs.Laws.{row-bound, whole-all, whole_part}
 use Rattle.text_carried.specs.Asking as asking
 use Rattle.text_carried.specs.Asking.{marked}
@@ -149,7 +150,7 @@ pub ask-unopened : (text : List ℕ) (at : ℕ) → stage (drop at text) ≡ non
 unfolding ask_rest
 ask-unopened text at h = rw h
 
-module _ (text : List ℕ) (at : ℕ) {D : Declared} {b : Body} (first : StageEnd text D at b) where
+module _ (text : List ℕ) (at : ℕ) {D : Declared} {b : Taken Framed} (first : StageEnd text D at b) where
   pub ask-unread : rest stage 3 (drop b.end text) ≡ none → whole (ask_rest (drop at text)) ≡ none
   unfolding ask_rest
   ask-unread h = rw (first.read, h)

@@ -11,7 +11,8 @@ use Rattle.grammar.specs.Forms as forms
 use Rattle.grammar.specs.Shapes.{after, stage}
 use Rattle.grammar.specs.Declarations.{Declared}
 use Rattle.grammar.proofs.Reading.{Reading, reading-start, reading-more, reading-closed}
-use Rattle.text_bodies.specs.declared.Body.{Body}
+use Rattle.text_rows.specs.declared.Taken.{Taken}
+use Rattle.text_literals.specs.Frames.{Framed}
 use Rattle.text_stages.specs.Questions as questions
 use Rattle.text_stages.specs.Questions.{Asked, Addable, Added}
 use Rattle.text_bodies.specs.Bodies.{StageEnd}
@@ -27,7 +28,7 @@ pub stages-start : {text : List ℕ} {D : Declared} {at n : ℕ} {s : Asked} {m 
 stages-start h = record { more = []; reading = reading-start h; holds = λ m₀ qs l so. rw (append-nil qs) so }
 
 module _ {text : List ℕ} {D : Declared} {at n : ℕ} {s g : Asked} {m u : Model} {i k : ℕ} (so : StagesSo text D at n s m g u i k) where
-  pub stages-addable : {b : Body} {j : ℕ} → 0 < k → ((m₀ : Model) × (qs : List (List forms.Literal)) × (length qs + n ≤ 4) × questions.Holds text D m₀ qs s m) → StageEnd text D j b → Addable text g u b
+  pub stages-addable : {b : Taken Framed} {j : ℕ} → 0 < k → ((m₀ : Model) × (qs : List (List forms.Literal)) × (length qs + n ≤ 4) × questions.Holds text D m₀ qs s m) → StageEnd text D j b → Addable text g u b
   stages-addable h (m₀, qs, l, o) e =
       let c = so.reading.count in
       record {
@@ -40,7 +41,7 @@ module _ {text : List ℕ} {D : Declared} {at n : ℕ} {s g : Asked} {m u : Mode
         frame = e.holds;
       }
 
-  pub stages-more : {b : Body} {r : Asked} {v : Model} {j : ℕ} → j + 1 ≡ k → after (bytes ")") (drop i text) ≡ none → after (bytes " ") (drop i text) ≡ some (drop (i + 1) text)
+  pub stages-more : {b : Taken Framed} {r : Asked} {v : Model} {j : ℕ} → j + 1 ≡ k → after (bytes ")") (drop i text) ≡ none → after (bytes " ") (drop i text) ≡ some (drop (i + 1) text)
       → StageEnd text D (i + 1) b → Added text g u b r v → StagesSo text D at n s m r v b.end j
   stages-more {b} {j = j} h p q e ad = record {
     more = so.more ++ (e.q ∷ []);

@@ -1,5 +1,5 @@
 -- Laws of lists.
-use mathlib.Core.Path.{◌≡◌, refl, sym, ap, subst, ◌∙◌}
+use mathlib.Core.Path.{◌≡◌, refl, sym, ap, ◌∙◌}
 use Rattle.std.specs.Prelude.{Option, Some, None, Result, Ok, Err, MatchOption}
 use mathlib.Core.Logic.{⊎_elim}
 use mathlib.Core.Bool.{true, false, ◌||◌, or_assoc}
@@ -26,7 +26,6 @@ use Rattle.grammar.specs.Rows.{lower, name_fault, list_fault}
 use Rattle.grammar.specs.Models.{code_of, codes}
 use Rattle.grammar.proofs.Lower.{lower-second, lower-assoc}
 use Rattle.grammar.proofs.Tests.{either}
-use Rattle.grammar.proofs.Reading.{Reading, reading-start, reading-more, reading-closed}
 use Rattle.rows.specs.declared.Row.{Row}
 use Rattle.text_scan.specs.Found.{NameEnd}
 use Rattle.text_names.specs.Names.{found}

@@ -15,7 +15,7 @@ use Rattle.text_faults.specs.Faults.{fault_in}
 use Rattle.acceptance.specs.Represents.{HoldsStage}
 use Rattle.text_literals.specs.Frames as frames
 use Rattle.text_literals.specs.declared.Frame.{Frame}
-use Rattle.text_bodies.specs.declared.Body.{Body}
+use Rattle.text_rows.specs.declared.Taken.{Taken}
 use Rattle.text_carried.specs.Asking as asking
 use Rattle.text_carried.specs.Asking.{each}
 use Rattle.text_scope.specs.declared.Scope.{Scope}
@@ -74,15 +74,15 @@ pub record Holds (text : List ℕ) (D : Declared) (m₀ : Model) (qs : List (Lis
   pub stored : IfOk s (λ t. Stored text D m₀ qs t m)
 
 -- some stages are held, and there is room for the one that was read
-pub record Addable (text : List ℕ) (s : Asked) (m : Model) (b : Body) : Type 0 where
+pub record Addable (text : List ℕ) (s : Asked) (m : Model) (b : Taken frames.Framed) : Type 0 where
   pub D : Declared
   pub m₀ : Model
   pub qs : List (List forms.Literal)
   pub q : List forms.Literal
   pub few : length qs < limit.stages
   pub holds : Holds text D m₀ qs s m
-  pub frame : frames.Holds text D [] 0 q b.frame
+  pub frame : frames.Holds text D [] 0 q b.kept
 
-pub record Added (text : List ℕ) (s : Asked) (m : Model) (b : Body) (r : Asked) (m' : Model) : Type 0 where
-  pub added : (D : Declared) (m₀ : Model) (qs : List (List forms.Literal)) (q : List forms.Literal) → length qs < limit.stages → Holds text D m₀ qs s m → frames.Holds text D [] 0 q b.frame
+pub record Added (text : List ℕ) (s : Asked) (m : Model) (b : Taken frames.Framed) (r : Asked) (m' : Model) : Type 0 where
+  pub added : (D : Declared) (m₀ : Model) (qs : List (List forms.Literal)) (q : List forms.Literal) → length qs < limit.stages → Holds text D m₀ qs s m → frames.Holds text D [] 0 q b.kept
       → Holds text D m₀ (qs ++ (q ∷ [])) r m'

@@ -38,7 +38,7 @@ pub fn add(
     requires { Addable text.now s m.old b }
     ensures { Added text.now s m.old b result m.new }
 {
-    let own = text_clauses::complete(b.frame);
+    let own = text_clauses::complete(b.kept);
     let (mut table, f) = text_faults::both(s, own)?;
     let numbers = text_carried::number(text, &mut table, f.scope);
     add_stage(m, f, numbers);
