@@ -38,7 +38,6 @@ use Rattle.text_carried.proofs.Stages.{marked-carried}
 use Rattle.text_stages.specs.Questions.{Empty, Stored, Asked, Holds, Added}
 use Rattle.text_bodies.specs.Bodies.{StageEnd}
 use Rattle.text_ask.specs.Asks.{StagesEnd, carrying, cells_of, finished, Asks, AskEnd}
-use Rattle.text_ask.specs.declared.Stages.{Stages}
 
 -- NO STAGES
 unmarked : (n i : ℕ) → (get_or (replicate n blank) i blank).marked ≡ false
@@ -155,7 +154,7 @@ module _ (text : List ℕ) (at : ℕ) {D : Declared} {b : Taken Framed} (first :
   unfolding ask_rest
   ask-unread h = rw (first.read, h)
 
-  module _ {m u v : Model} {s f : Asked} {r : Stages} (start : Holds text D m [] s m) (ad : Added text s m b f u) (others : StagesEnd text D b.end 3 f u r v) where
+  module _ {m u v : Model} {s f : Asked} {r : Taken Asked} (start : Holds text D m [] s m) (ad : Added text s m b f u) (others : StagesEnd text D b.end 3 f u r v) where
     first-held : Holds text D m (first.q ∷ []) f u
     first-held = ad.added D m [] first.q (omega arith) start first.holds
 
@@ -163,9 +162,9 @@ module _ (text : List ℕ) (at : ℕ) {D : Declared} {b : Taken Framed} (first :
     unfolding ask_rest
     ask-unended z = rw (first.read, others.read) (whole_part (forms.ask_form (first.q ∷ others.more)) text r.end (let y = others.ends in omega arith))
 
-    pub ask-ended : {g : Result (List ℕ) Row} → Empty m → r.end ≡ length text → g ≡ finished r.table → AskJudged D m v (ask_rest (drop at text)) g
+    pub ask-ended : {g : Result (List ℕ) Row} → Empty m → r.end ≡ length text → g ≡ finished r.kept → AskJudged D m v (ask_rest (drop at text)) g
     unfolding ask_rest
     ask-ended empty z e =
         let l = others.few in
         rw e (finished-judged text D m v (first.q ∷ others.more) empty (omega arith) (ask_rest (drop at text)) (rw (first.read, others.read) (whole-all (forms.ask_form (first.q ∷ others.more)) text r.end (omega arith)))
-        r.table (others.holds m (first.q ∷ []) (omega arith) first-held))
+        r.kept (others.holds m (first.q ∷ []) (omega arith) first-held))

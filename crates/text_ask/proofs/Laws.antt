@@ -49,7 +49,7 @@ module _ {text : List ℕ} {D : Declared} {at n : ℕ} {s g : Asked} {m u : Mode
     holds = λ m₀ qs l o. let c = length-append so.more (e.q ∷ []) in rw (← append_assoc) (ad.added D m₀ (qs ++ so.more) e.q (omega (arith, length-append qs so.more)) (so.holds m₀ qs (omega arith) o) e.holds);
   }
 
-  pub stages-closed : i < length text → after (bytes ")") (drop i text) ≡ some (drop (i + 1) text) → StagesEnd text D at n s m (record { table = g; end = i + 1 }) u
+  pub stages-closed : i < length text → after (bytes ")") (drop i text) ≡ some (drop (i + 1) text) → StagesEnd text D at n s m (record { kept = g; end = i + 1 }) u
   stages-closed h p = record {
     more = so.more;
     ends = omega arith;

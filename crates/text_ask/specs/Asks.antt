@@ -18,19 +18,19 @@ use Rattle.acceptance.specs.Represents.{HoldsStage}
 use Rattle.acceptance.specs.Growing.{Keeps}
 use Rattle.text_carried.specs.Asking.{carriers_of}
 use Rattle.text_stages.specs.Questions as questions
-use Rattle.text_ask.specs.declared.Stages.{Stages}
+use Rattle.text_rows.specs.declared.Taken.{Taken}
 
 -- r and m' hold what s and m hold and the stages more
 abbrev pub Extends : List ℕ → Declared → questions.Asked → Model → List (List forms.Literal) → questions.Asked → Model → Type 0
 Extends text D s m more r m' = (m₀ : Model) (qs : List (List forms.Literal)) → length qs + length more ≤ limit.stages → questions.Holds text D m₀ qs s m → questions.Holds text D m₀ (qs ++ more) r m'
 
 -- at most n stages, added to those of s and m
-pub record StagesEnd (text : List ℕ) (D : Declared) (at n : ℕ) (s : questions.Asked) (m : Model) (r : Stages) (m' : Model) : Type 0 where
+pub record StagesEnd (text : List ℕ) (D : Declared) (at n : ℕ) (s : questions.Asked) (m : Model) (r : Taken questions.Asked) (m' : Model) : Type 0 where
   pub more : List (List forms.Literal)
   pub ends : r.end ≤ length text
   pub few : length more ≤ n
   pub read : rest stage n (drop at text) ≡ some (more, drop r.end text)
-  pub holds : Extends text D s m more r.table m'
+  pub holds : Extends text D s m more r.kept m'
 
 -- the record with the carried variables in their cells
 abbrev pub carrying : Model → List ℕ → Model

@@ -15,19 +15,17 @@ use limits::{ASKED, CARRIED, STAGES};
 use model::Model;
 use rows::Row;
 use text_names::Declared;
+use text_rows::Taken;
 use text_scope::Scope;
 
 // The stages of a question behind its first.
 const FURTHER: usize = STAGES - 1;
 
 // The variables of the stages or their lowest row, and where the stages end.
-#[derive(Clone, Copy)]
-pub struct Stages {
-    pub table: Result<Scope<ASKED>, Row>,
-    pub end: usize,
-}
+type Stages = Taken<Result<Scope<ASKED>, Row>>;
 
 // At most n stages, each after a space, up to the closing bracket, are added to those before.
+// The loop stays beside `text_rows::read_row`: a stage is written to the record that is lent, and with it as a parameter of that loop's trait the readers of names and literals would be lent a record that they do not use.
 fn read_stages(
     text: &[u8],
     d: Declared,
@@ -44,7 +42,10 @@ fn read_stages(
     let mut i = at;
     for _ in 0..n {
         if text_scan::at_byte(text, i, b')') {
-            return Some(Stages { table, end: i + 1 });
+            return Some(Taken {
+                kept: table,
+                end: i + 1,
+            });
         }
         if !text_scan::at_byte(text, i, b' ') {
             return None;
@@ -56,7 +57,10 @@ fn read_stages(
     if !text_scan::at_byte(text, i, b')') {
         return None;
     }
-    Some(Stages { table, end: i + 1 })
+    Some(Taken {
+        kept: table,
+        end: i + 1,
+    })
 }
 
 // The cells of the carried variables, or the row of the line: 11 after 6 to 9.
@@ -86,6 +90,6 @@ pub fn read_ask(text: &[u8], d: Declared, at: usize, m: &mut Model) -> Result<()
     if r.end != text.len() {
         return Err(Row::Shape);
     }
-    m.carried = finish(r.table)?;
+    m.carried = finish(r.kept)?;
     Ok(())
 }
