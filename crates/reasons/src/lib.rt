@@ -105,6 +105,7 @@ fn any_swapped(numbers: [u32; CARRIED], g: Stage, carried: [u32; CARRIED], c: Ch
 }
 
 // Why the meeting of a stage with objects, the named ones first, is not allowed.
+// The tests of the stage and of the number of objects stay beside those of `replay_meetings::meet_place`: each has a reason of its own here and none there, so that one function for both would answer an enum of cases for two tests.
 fn why_meeting(
     m: &Model,
     slots: &[u8],

@@ -20,6 +20,7 @@ use replay_session::Position;
 use replay_steps::Outcome;
 
 // How many objects a meeting names.
+// The three numbers stay apart, here and below: they are parts of a place's number, which the place's case has taken apart.
 pub fn count(first: u32, second: u32, third: u32) -> u32
     ensures { result ≡ length (objects (first ∷ second ∷ third ∷ [])) }
 {
