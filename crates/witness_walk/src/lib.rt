@@ -46,12 +46,7 @@ fn carries(m: Model, v: usize, k: usize) -> bool
     requires { WellFormed m × (v < limit.carried) × (k ≤ m.stagecount) }
     ensures { result ≡ chosen m v k }
 {
-    for i in 0..k {
-        if holds(m, v, i) {
-            return true;
-        }
-    }
-    false
+    (0..k).any(|i| holds(m, v, i))
 }
 
 // Writes the lines as steps of the object, the last first, from index k on. Returns the index behind them.
