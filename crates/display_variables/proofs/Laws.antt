@@ -1,7 +1,7 @@
 -- Laws of variables in order of first appearance.
 use mathlib.Core.Path.{◌≡◌, refl, sym, ap, ◌∙◌, subst}
 use mathlib.Core.Logic.{⊎_elim}
-use mathlib.Core.Bool.{Bool, true, false, ◌||◌, or_assoc, or-false}
+use mathlib.Core.Bool.{true, false, ◌||◌, or_assoc, or-false}
 use mathlib.Core.List.{List, [], ◌∷◌, ◌++◌, append_assoc, append-nil}
 use mathlib.Core.Option.{none, some}
 use Prim.Native.Nat.{ℕ, zero, suc, ◌+◌, ◌-◌, ◌≤◌, ◌<◌}
@@ -18,6 +18,7 @@ use Rattle.grammar.proofs.Words.{same-eq, member-append, extend-append}
 use Rattle.text_scan.proofs.Laws.{next, slice-part}
 use Rattle.std.specs.Prelude as std
 use Rattle.std.specs.Prelude.{Some, None}
+use Rattle.std.specs.List.{list_any, range_with_len}
 use Rattle.display_shapes.specs.declared.Span.{Span}
 use Rattle.display_shapes.specs.Rows.{pick, Shown}
 use Rattle.display_parts.specs.Placed.{behind, spaced, leading, heading, Heads}
@@ -98,12 +99,11 @@ same-behind line i x w v = rw (v.read, member-one w (slice (i + 1) x line), slic
 pub same-head : (line : List ℕ) (h : Span) (w : Word) → h.from < h.to → same w (take (h.to - h.from) (drop h.from line)) ≡ member w (heading line (Some h))
 same-head line h w k = rw (member-one w (slice h.from h.to line), slice-part line h.from h.to (omega arith))
 
-pub stands-step : (line : List ℕ) (i to : ℕ) (w : Word) → i < to → to ≤ length line
-    → member w (spaced (to - i) (drop i line)) ≡ (member w (behind_at line i) || member w (spaced (to - (i + 1)) (drop (i + 1) line)))
-stands-step line i to w h l = ap (member w) (spaced-first line i to h (omega arith)) ∙ member-append w (behind_at line i) (spaced (to - (i + 1)) (drop (i + 1) line))
-
-pub stands-none : (line : List ℕ) (i to : ℕ) (w : Word) → to ≤ i → member w (spaced (to - i) (drop i line)) ≡ false
-stands-none line i to w h = let z : to - i ≡ 0 = omega arith in rw z
+-- whether the word stands behind one of the n bytes from i on
+pub stands-any : (line : List ℕ) (w : Word) (n i : ℕ) → i + n ≤ length line → list_any (λ k. member w (behind_at line k)) (range_with_len i n) ≡ member w (spaced n (drop i line))
+unfolding behind_at
+stands-any line w zero i h = refl
+stands-any line w (suc n) i h = rw (stands-any line w n (i + 1) (omega arith), next line i (omega arith)) (sym (member-append w (behind (get_or line i 0) (drop (i + 1) line)) (spaced n (drop (i + 1) line))))
 
 -- BEFORE A BYTE
 module _ (line : List ℕ) (p : Part) where

@@ -27,12 +27,7 @@ fn stands(line: &[u8], from: usize, to: usize, name: &[u8]) -> bool
     requires { (from ≤ to) × (to ≤ length line.now) }
     ensures { result ≡ member name.now (spaced (to - from) (drop from line.now)) }
 {
-    for i in from..to {
-        if is_behind(line, i, name) {
-            return true;
-        }
-    }
-    false
+    (from..to).any(|i| is_behind(line, i, name))
 }
 
 // Whether the name is the head.
