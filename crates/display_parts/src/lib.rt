@@ -26,7 +26,7 @@ pub struct Part {
 }
 
 // Whether the line ends with at most n items, each after a space, and the closing bracket.
-// The line and a place stay two parameters: a part has places of the whole line.
+// The line and a place stay two parameters: the place goes into the part as it is, which a slice from it on would not show.
 fn closes<T: Item>(line: &[u8], at: usize, n: usize) -> bool
     requires { at ≤ length line.now }
     ensures { Closes (rest T.read n) line.now at result }

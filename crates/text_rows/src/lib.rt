@@ -10,13 +10,6 @@ ghost use Rattle.text_rows.specs.Rows.{Room, ItemEnd, RowEnd};
 use text_names::Declared;
 use text_scan::at_byte;
 
-// What is kept of what was read, and where that ends.
-#[derive(Clone, Copy)]
-pub struct Taken<K> {
-    pub kept: K,
-    pub end: usize,
-}
-
 // What can stand in a row: how one item is read, and what is kept of those so far.
 pub trait Item {
     type Kept: Copy;
@@ -35,6 +28,13 @@ pub trait Item {
     fn add(text: &[u8], d: Declared, at: usize, kept: Self::Kept) -> Option<Taken<Self::Kept>>
         requires { (at ≤ length text.now) × Room (Held text.now d) most 1 kept }
         ensures { MatchOption result (read (drop at text.now) ≡ none) (ItemEnd read (Held text.now d) text.now at kept) };
+}
+
+// What is kept of what was read, and where that ends.
+#[derive(Clone, Copy)]
+pub struct Taken<K> {
+    pub kept: K,
+    pub end: usize,
 }
 
 // At most n items, each after a space, up to the closing bracket, are added to what is kept.
