@@ -6,6 +6,9 @@ use mathlib.Core.List.{List, [], ◌∷◌}
 use mathlib.Core.Option.{Option, none, some, none-ne-some}
 use Rattle.std.specs.Prelude as std
 use Rattle.std.specs.Prelude.{Some, None}
+use Rattle.std.specs.Cmp.Lexicographic.{pointwise}
+use Rattle.std.specs.Option.{MatchOption}
+use denote.Ref.{Bor}
 use Prim.Native.Nat.{ℕ, zero, suc, ◌+◌, ◌-◌, ◌*◌, ◌≤◌, ◌<◌}
 use native.Mathlib.Omega.{arith}
 use lib.Dec.{eqb}
@@ -14,7 +17,7 @@ use lib.Seq.{length-slice, take-length}
 use borrow.Author.Tests.{lt-leb, le-leb, lt-ltb, le-ltb, eqb-true, eqb-false, eq-eqb, ne_eqb}
 use Rattle.grammar.specs.Bytes.{bytes, digit, Word}
 use Rattle.grammar.specs.Shapes.{Read, ◌>>=◌, after, word, rest, whole}
-use Rattle.grammar.proofs.Tests.{either}
+use Rattle.grammar.proofs.Tests.{either, clash, and_left, and_right}
 use Rattle.grammar.proofs.Reading.{onto, rest-closes, rest-ends, rest-fails, rest-item}
 use Rattle.listing_bytes.specs.Numerals.{value_after}
 use Rattle.text_scan.specs.Found.{WordEnd}
@@ -37,6 +40,27 @@ module _ (b : ℕ) where
 -- what is left from a place on
 pub left-from : (line : List ℕ) (i : ℕ) → take (length line - i) (drop i line) ≡ drop i line
 left-from line i = rw (← length-drop i line) (take-length (drop i line))
+
+-- BYTES that are next
+next-found : (w s : List ℕ) → pointwise eqb (take (length w) s) w ≡ true → after w s ≡ some (drop (length w) s)
+next-found [] s h = refl
+next-found (b ∷ w) [] h = clash h refl
+next-found (b ∷ w) (c ∷ s) h =
+    let same = eqb-true c b (and_left (eqb c b) (pointwise eqb (take (length w) s) w) h) in
+    rw (eq-eqb b c (sym same)) (next-found w s (and_right (eqb c b) (pointwise eqb (take (length w) s) w) h))
+
+next-missing : (w s : List ℕ) → pointwise eqb (take (length w) s) w ≡ false → after w s ≡ none
+next-missing [] s h = clash refl h
+next-missing (b ∷ w) [] h = refl
+next-missing (b ∷ w) (c ∷ s) h = ⊎_elim
+    (λ (q : eqb b c ≡ true). rw q (next-missing w s (rw (eq-eqb c b (sym (eqb-true b c q))) at h)))
+    (λ (q : eqb b c ≡ false). rw q) (either (eqb b c))
+
+pub stripped : (w s : List ℕ) (r : std.Option (Bor (List ℕ)))
+    → MatchOption r (pointwise eqb (take (length w) s) w ≡ false) (λ x. (pointwise eqb (take (length w) s) w ≡ true) × (x.now ≡ drop (length w) s) × (length x.now + length w ≡ length s))
+    → MatchOption r (after w s ≡ none) (λ x. after w s ≡ some x.now)
+stripped w s None h = next-missing w s h
+stripped w s (Some x) h = next-found w s h.0 ∙ ap some (sym h.1)
 
 -- THE END OF A LINE
 module _ (line : List ℕ) where
@@ -169,7 +193,7 @@ module _ {line : List ℕ} (n : ℕ) {r : Number} (end : NumberAt line r) where
 
 -- OBJECTS
 module _ (line : List ℕ) where
-  pub object-found : (r : std.Option Number) → after (bytes " ") line ≡ some (drop 1 line) → BelowEnd 255 (below 255 (drop 1 line)) r → BelowEnd 255 (object line) r
+  pub object-found : (r : std.Option Number) → {t : List ℕ} → after (bytes " ") line ≡ some t → BelowEnd 255 (below 255 t) r → BelowEnd 255 (object line) r
   object-found None e b = rw e b
   object-found (Some r) e b = record { small = b.small; found = rw e b.found }
 

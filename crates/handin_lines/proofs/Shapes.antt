@@ -7,7 +7,7 @@ use mathlib.Core.Option.{Option, none, some, none-ne-some, get_or}
 use Prim.Native.Nat.{ℕ, suc}
 use native.Mathlib.Omega.{arith}
 use lib.Dec.{eqb}
-use lib.ListN.{length, drop}
+use lib.ListN.{length}
 use borrow.Author.Tests.{eqb-true}
 use Rattle.semantics.specs.Runs as runs
 use Rattle.semantics.specs.Runs.{step, meet}
@@ -192,12 +192,12 @@ silent-same {r = true} e = rw e
 silent-same {r = false} e = rw e
 
 module _ (text : List ℕ) where
-  pub line-states : after (bytes "(states ") text ≡ some (drop 8 text) → said_by text ≡ whole (states_rest (drop 8 text))
+  pub line-states : {t : List ℕ} → after (bytes "(states ") text ≡ some t → said_by text ≡ whole (states_rest t)
   unfolding said_by line
   line-states e = rw e
 
   module _ (n : after (bytes "(states ") text ≡ none) where
-    pub line-atomic : after (bytes "(atomic") text ≡ some (drop 7 text) → said_by text ≡ whole (atomic_rest (drop 7 text))
+    pub line-atomic : {t : List ℕ} → after (bytes "(atomic") text ≡ some t → said_by text ≡ whole (atomic_rest t)
     unfolding said_by line
     line-atomic e = rw (n, e)
 
