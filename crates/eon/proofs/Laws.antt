@@ -12,7 +12,7 @@ use borrow.Author.Tests.{leb-true, le-ltb}
 use Rattle.std.proofs.lemmas.List.{length-take}
 use Rattle.limits.specs.Limits as limit
 use Rattle.semantics.specs.Models.{Program, Question}
-use Rattle.model.specs.Records.{program_of, question_of}
+use Rattle.model.specs.Records.{name_of, program_of, question_of}
 use Rattle.model.specs.declared.Model.{Model}
 use Rattle.grammar.specs.Bytes.{bytes, Word, letter, alphanumeric, every, same, is_name, lines}
 use Rattle.grammar.specs.Declarations.{Declared}
@@ -55,8 +55,8 @@ module _ (text : List ℕ) (D : Declared) (P : Program) (Q : Question) (m : Mode
     within = λ i h. names.within i (omega (arith, rep.declared));
     short = λ i h.
         let j : i < length D = omega (arith, rep.declared) in
-        let a = get_or m.names i 0 in
-        let l = get_or m.lengths i 0 in
+        let a = (name_of m i).start in
+        let l = (name_of m i).len in
         omega (arith, length-slice a (a + l) text (names.within i j), ap length (names.name i j), name-short (name_at D i) ((accepted-sound text D P Q ok).lines.declarations.names i j));
   }
 

@@ -15,6 +15,7 @@ use Rattle.limits.specs.Limits as limit
 use Rattle.semantics.specs.Labels.{has}
 use Rattle.semantics.proofs.Tools.{either}
 use Rattle.model.specs.declared.Model.{Model}
+use Rattle.model.specs.Records.{name_of}
 use Rattle.model.specs.Places.{objects}
 use Rattle.model.specs.WellFormed.{class_of, in_class, declared_in, GoodRelations}
 use Rattle.model.proofs.Declarations.{in_class-snoc, set_below}
@@ -59,7 +60,7 @@ module _ (text : List ℕ) (m : Model) (s : ℕ) (small : Fits w32 s) (good : Go
   state-more i h e = rw (eq-eqb (class_of (code i)) 0 (omega (arith, set_below s (code i) 32 small.fits e))) at (states-more i h)
 
   name-short : (i : ℕ) → i < m.relations.count → length (name_at text m i) ≤ limit.name
-  name-short i h = omega (arith, length-slice (get_or m.names i 0) (get_or m.names i 0 + get_or m.lengths i 0) text (named.within i h), named.short i h)
+  name-short i h = omega (arith, length-slice (name_of m i).start ((name_of m i).start + (name_of m i).len) text (named.within i h), named.short i h)
 
   names-short : (i : ℕ) → i ≤ m.relations.count → length (items (names_in text m s i)) ≤ (1 + limit.name) * states i
   names-short zero h = omega arith

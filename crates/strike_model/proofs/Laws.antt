@@ -87,7 +87,6 @@ abbrev pub cut : Model → List Clause → ℕ → Model
 cut m cs n = record {
   relations = m.relations;
   names = m.names;
-  lengths = m.lengths;
   clauses = cs;
   clausecount = n;
   literals = m.literals;

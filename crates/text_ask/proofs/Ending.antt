@@ -63,7 +63,6 @@ module _ {text : List ℕ} {D : Declared} {t : Scope limit.asked} {m : Model} (e
     longer = omega arith;
     relations = refl;
     names = refl;
-    lengths = refl;
     clauses = refl;
     clausecount = refl;
     lines = refl;
@@ -97,7 +96,6 @@ module _ (text : List ℕ) (D : Declared) (m₀ m : Model) (qs : List (List form
   asks {t} st z = record {
     relations = st.relations;
     names = st.names;
-    lengths = st.lengths;
     lines = st.lines;
     clauses = st.clauses;
     clausecount = st.clausecount;

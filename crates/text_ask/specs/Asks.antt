@@ -37,7 +37,6 @@ abbrev pub carrying : Model → List ℕ → Model
 carrying m cells = record {
   relations = m.relations;
   names = m.names;
-  lengths = m.lengths;
   clauses = m.clauses;
   clausecount = m.clausecount;
   literals = m.literals;
@@ -61,7 +60,6 @@ finished (Ok t) = cells_of (carriers_of t)
 pub record Asks (D : Declared) (m₀ : Model) (qs : List (List forms.Literal)) (m : Model) : Type 0 where
   pub relations : m.relations ≡ m₀.relations
   pub names : m.names ≡ m₀.names
-  pub lengths : m.lengths ≡ m₀.lengths
   pub lines : m.lines ≡ m₀.lines
   pub clauses : m.clauses ≡ m₀.clauses
   pub clausecount : m.clausecount ≡ m₀.clausecount

@@ -94,10 +94,10 @@ module _ {text : List ℕ} {d : Declared} {m : Model} {P : Program} (n : ℕ) {r
 
 -- A RECORD with one clause more, or none, keeps the rest
 none-aside : {m : Model} → Aside m m
-none-aside = record { relations = refl; names = refl; lengths = refl; stages = refl; stagecount = refl; carried = refl; lines = refl }
+none-aside = record { relations = refl; names = refl; stages = refl; stagecount = refl; carried = refl; lines = refl }
 
 clause-aside : {m : Model} (n : ℕ) (action : Action) (f : Frame) → Aside m (with_clause m n action f)
-clause-aside n action f = record { relations = refl; names = refl; lengths = refl; stages = refl; stagecount = refl; carried = refl; lines = refl }
+clause-aside n action f = record { relations = refl; names = refl; stages = refl; stagecount = refl; carried = refl; lines = refl }
 
 -- A DECLARATION leaves the program
 module _ {text : List ℕ} {d : Declared} {m : Model} {P : Program} {n : ℕ} {read : Read Form} (so : stored.Holds m P) (h : Only (λ f. clause (declared_of text d) n f ≡ []) read) where

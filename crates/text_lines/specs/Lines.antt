@@ -33,7 +33,6 @@ Stepped text d P n read r d' m' = Judged read (λ form k. k ≡ fault (declared_
 pub record Aside (m m' : Model) : Type 0 where
   pub relations : m'.relations ≡ m.relations
   pub names : m'.names ≡ m.names
-  pub lengths : m'.lengths ≡ m.lengths
   pub stages : m'.stages ≡ m.stages
   pub stagecount : m'.stagecount ≡ m.stagecount
   pub carried : m'.carried ≡ m.carried

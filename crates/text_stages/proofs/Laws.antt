@@ -142,7 +142,6 @@ module _ {text : List ℕ} {D : Declared} {m₀ : Model} {qs : List (List forms.
         longer = let a = so.longer in omega arith;
         relations = so.relations;
         names = so.names;
-        lengths = so.lengths;
         clauses = so.clauses;
         clausecount = so.clausecount;
         lines = so.lines;

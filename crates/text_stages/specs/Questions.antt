@@ -27,7 +27,6 @@ abbrev pub with_stage : Model → Frame → List ℕ → Model
 with_stage m f numbers = record {
   relations = m.relations;
   names = m.names;
-  lengths = m.lengths;
   clauses = m.clauses;
   clausecount = m.clausecount;
   literals = paste m.literals m.literalcount f.codes f.size;
@@ -53,7 +52,6 @@ pub record Stored (text : List ℕ) (D : Declared) (m₀ : Model) (qs : List (Li
   pub longer : m₀.literalcount ≤ m.literalcount
   pub relations : m.relations ≡ m₀.relations
   pub names : m.names ≡ m₀.names
-  pub lengths : m.lengths ≡ m₀.lengths
   pub clauses : m.clauses ≡ m₀.clauses
   pub clausecount : m.clausecount ≡ m₀.clausecount
   pub lines : m.lines ≡ m₀.lines

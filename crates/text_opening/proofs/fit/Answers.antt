@@ -1,5 +1,6 @@
 use mathlib.Core.Path.{refl}
 use Rattle.text_names.specs.declared.Name.{Name}
+use Rattle.text_opening.specs.Openings.{place_of}
 use Rattle.text_opening.proofs.Laws.{column-start, fitting-more, fitting-all}
 use borrow.Author.Rules.{rules}
 use Rattle.text_opening.proofs.fit.Goals as goal
@@ -7,8 +8,7 @@ use Rattle.text_opening.proofs.fit.Goals as goal
 pub loop-i-init : goal.loop-i-init
 loop-i-init c = record {
   codes = column-start (λ (x : Name). x.code) (search rules);
-  names = column-start (λ (x : Name). x.start) (search rules);
-  lengths = column-start (λ (x : Name). x.len) (search rules);
+  names = column-start place_of refl;
   rest = refl;
 }
 
