@@ -9,12 +9,13 @@ use native.Mathlib.Numerals.{add-one}
 use native.Mathlib.Omega.{arith}
 use lib.Dec.{eqb, ltb}
 use lib.ListN.{length, get_or, length-append}
-use borrow.Author.Tests.{eqb-false, ne_eqb, ltb-true, ltb-false, lt-ltb, le-ltb}
+use borrow.Author.Tests.{eqb-false, ne_eqb, ltb-true, ltb-false, lt-ltb, le-ltb, not-false}
+use Rattle.std.proofs.lemmas.Bool.{cases_Bool}
 use Rattle.std.specs.Bool.{MatchBool}
 use Rattle.std.specs.List.{range_with_len, AllWithin, HoldsAt}
 use Rattle.std.proofs.lemmas.List.FromFn.{length-range_with_len, get_or-range_with_len}
 use Rattle.limits.specs.Limits as limit
-use Rattle.semantics.proofs.Tools.{either, or-false, same?}
+use Rattle.semantics.proofs.Tools.{or-false, same?}
 use Rattle.grammar.proofs.Tests.{and_left, and_right}
 use Rattle.listing_bytes.specs.Writing.{Writes}
 use Rattle.listing_bytes.proofs.Writing.{after}
@@ -27,10 +28,6 @@ use Rattle.asbestos_writer.specs.declared.Kind.{Kind}
 use Rattle.asbestos_writer.specs.Parts.{Is}
 use Rattle.asbestos_writer.specs.Writing.{kind_at, kinds_of, is_level, all_proper, refuses}
 use Rattle.asbestos_writer.proofs.Bytes.{born-bytes, born-printed}
-
-not-false : (b : Bool) → not b ≡ false → b ≡ true
-not-false true e = refl
-not-false false e = sym e
 
 -- WHAT THE TEST OF ALL KINDS SAYS
 all-proper : (ks : List Process) → all_proper ks ≡ true → AllProper ks
@@ -77,7 +74,7 @@ module _ (cells : List ℕ) where
 
   -- one that is not among the five is enough
   one-bad : (n i : ℕ) → i < n → (Proper (kind_at cells i) → ⊥) → all_proper (kinds_of cells n) ≡ false
-  one-bad n i l b = ⊎_elim (λ e. absurd (b (kind-proper n (all-proper (kinds_of cells n) e) i l))) (λ e. e) (either (all_proper (kinds_of cells n)))
+  one-bad n i l b = ⊎_elim (λ e. absurd (b (kind-proper n (all-proper (kinds_of cells n) e) i l))) (λ e. e) (cases_Bool (all_proper (kinds_of cells n)))
 
   -- the test of the first n
   module _ (n : ℕ) where
@@ -143,7 +140,7 @@ module _ (kinds : List Process) (port level room : ℕ) where
       n = length kinds
 
   pub unfit : (Fit → ⊥) → refuses kinds port level room ≡ true
-  unfit n = ⊎_elim (λ e. e) (λ e. absurd (n (fit e))) (either (refuses kinds port level room))
+  unfit n = ⊎_elim (λ e. e) (λ e. absurd (n (fit e))) (cases_Bool (refuses kinds port level room))
 
   -- where all but the kinds' levels is right, they decide
   pub last-proper : 0 < length kinds → length kinds ≤ most → port < levels → level < levels → limit.text ≤ room → (r : Bool) → r ≡ all_proper kinds → not r ≡ refuses kinds port level room

@@ -8,6 +8,7 @@ use native.Mathlib.Omega.{arith}
 use lib.Dec.{eqb, ltb}
 use lib.ListN.{length, length-take}
 use borrow.Author.Tests.{eqb-true, eqb-false, ltb-false}
+use Rattle.std.proofs.lemmas.Bool.{cases_Bool}
 use Rattle.std.specs.Prelude.{Result, Ok, Err}
 use Rattle.rows.specs.declared.Refusal.{Refusal}
 use Rattle.limits.specs.Limits as limit
@@ -16,7 +17,6 @@ use Rattle.semantics.specs.Runs as runs
 use Rattle.semantics.specs.Runs.{step, meet, start, after}
 use Rattle.grammar.specs.Declarations.{Declared}
 use Rattle.grammar.specs.Texts.{Outcome, accepted, refused, outcome}
-use Rattle.grammar.proofs.Tests.{either}
 use Rattle.acceptance.proofs.Acceptance.{accepted-sound}
 use Rattle.calls.specs.Calls.{early, called}
 use Rattle.calls.proofs.Laws.{called-early, called-lines, sizes}
@@ -45,7 +45,7 @@ called-taken text short long D P Q e = ⊎_elim
     (λ (q : eqb row 0 ≡ false).
     let r : refused row 0 ≡ accepted D P Q = sym (called-early text short long (eqb-false row 0 q)) ∙ e in
     absurd (let z : ◌≡◌ {A = ℕ} 0 1 = cc in omega arith))
-    (either (eqb row 0))
+    (cases_Bool (eqb row 0))
   where
     row : ℕ
     row = early (length text) short long

@@ -8,10 +8,11 @@ use native.Mathlib.Omega.{arith}
 use borrow.Author.Tests.{eqb-true, eq-eqb}
 use lib.Dec.{eqb}
 use lib.ListN.{length, replicate}
+use Rattle.std.proofs.lemmas.Bool.{or_cases}
 use Rattle.limits.specs.Limits as limit
 use Rattle.semantics.specs.Models.{elem, Body, vars, supported, Supported}
 use Rattle.semantics.specs.Facts.{Database, In, Derived}
-use Rattle.semantics.proofs.Tools.{same?, clash, or-true-cases, or_right}
+use Rattle.semantics.proofs.Tools.{same?, clash, or_right}
 use Rattle.semantics.proofs.Bodies.{holds_agree, more-facts, supported-vars}
 use Rattle.model.specs.declared.Model.{Model}
 use Rattle.model.specs.declared.Stage.{Stage}
@@ -107,7 +108,7 @@ module _ (D : ℕ → Type 0) where
       λ q. ⊎_elim
           (λ x. let z = eqb-true t e x in (omega (arith, z), subst D (sym z) d))
           (λ x. let y = (h t l).0 x in (omega (arith, y.0), y.1))
-          (or-true-cases (eqb t e) (bit_at r t) (sym (with-bit r e t room) ∙ q)),
+          (or_cases (eqb t e) (bit_at r t) (sym (with-bit r e t room) ∙ q)),
       λ q. with-bit r e t room ∙ ⊎_elim (λ (z : t ≡ e). rw (eq-eqb t e z) refl) (λ (z : t ≢ e). or_right (eqb t e) (bit_at r t) ((h t l).1 (omega (arith, q.0, z), q.1))) (same? t e),
     )
 

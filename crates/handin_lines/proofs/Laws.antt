@@ -4,6 +4,7 @@ use mathlib.Core.Logic.{⊎_elim}
 use mathlib.Core.Bool.{Bool, true, false, cond, not, or-true, or-false}
 use mathlib.Core.List.{List, [], ◌∷◌}
 use mathlib.Core.Option.{Option, none, some, none-ne-some}
+use Rattle.std.proofs.lemmas.Bool.{cases_Bool}
 use Rattle.std.specs.Prelude as std
 use Rattle.std.specs.Prelude.{Some, None}
 use Rattle.std.specs.Cmp.Lexicographic.{pointwise}
@@ -17,7 +18,7 @@ use lib.Seq.{length-slice, take-length}
 use borrow.Author.Tests.{lt-leb, le-leb, lt-ltb, le-ltb, eqb-true, eqb-false, eq-eqb, ne_eqb}
 use Rattle.grammar.specs.Bytes.{bytes, digit, Word}
 use Rattle.grammar.specs.Shapes.{Read, ◌>>=◌, after, word, rest, whole}
-use Rattle.grammar.proofs.Tests.{either, clash, and_left, and_right}
+use Rattle.grammar.proofs.Tests.{clash, and_left, and_right}
 use Rattle.grammar.proofs.Reading.{onto, rest-closes, rest-ends, rest-fails, rest-item}
 use Rattle.listing_bytes.specs.Numerals.{value_after}
 use Rattle.text_scan.specs.Found.{WordEnd}
@@ -54,7 +55,7 @@ next-missing [] s h = clash refl h
 next-missing (b ∷ w) [] h = refl
 next-missing (b ∷ w) (c ∷ s) h = ⊎_elim
     (λ (q : eqb b c ≡ true). rw q (next-missing w s (rw (eq-eqb c b (sym (eqb-true b c q))) at h)))
-    (λ (q : eqb b c ≡ false). rw q) (either (eqb b c))
+    (λ (q : eqb b c ≡ false). rw q) (cases_Bool (eqb b c))
 
 pub stripped : (w s : List ℕ) (r : std.Option (Bor (List ℕ)))
     → MatchOption r (pointwise eqb (take (length w) s) w ≡ false) (λ x. (pointwise eqb (take (length w) s) w ≡ true) × (x.now ≡ drop (length w) s) × (length x.now + length w ≡ length s))
@@ -68,7 +69,7 @@ module _ (line : List ℕ) where
   ends_there h e = rw e (⊎_elim
       (λ (q : eqb (length line) 1 ≡ true). rw (q, no_bytes line 1 (omega (arith, eqb-true (length line) 1 q))))
       (λ (q : eqb (length line) 1 ≡ false). rw (q, next line 1 (omega (arith, eqb-false (length line) 1 q))))
-      (either (eqb (length line) 1)))
+      (cases_Bool (eqb (length line) 1)))
 
   pub ends-not : after (bytes ")") line ≡ none → false ≡ last (after (bytes ")") line)
   ends-not e = rw e
@@ -145,7 +146,7 @@ digits-one s h = go (digits s) h
 
 digits-first : (s : List ℕ) → 0 < length (digits s) → get_or (digits s) 0 0 ≡ get_or s 0 0
 digits-first [] h = absurd (omega arith)
-digits-first (b ∷ s) h = ⊎_elim (λ (q : digit b ≡ true). rw q) (λ (q : digit b ≡ false). absurd (let k = rw q at h in omega arith)) (either (digit b))
+digits-first (b ∷ s) h = ⊎_elim (λ (q : digit b ≡ true). rw q) (λ (q : digit b ≡ false). absurd (let k = rw q at h in omega arith)) (cases_Bool (digit b))
 
 digits-many : (w : List ℕ) → 1 < length w → is_numeral w ≡ not (eqb (get_or w 0 0) 48)
 unfolding is_numeral
@@ -213,7 +214,7 @@ module _ {line : List ℕ} {n : Number} (end : NumberAt line n) where
 -- what stands after a space is no end
 pub space-open : (s : List ℕ) {t : List ℕ} → after (bytes " ") s ≡ some t → after (bytes ")") s ≡ none
 space-open [] e = absurd (none-ne-some _ e)
-space-open (b ∷ s) e = ⊎_elim (λ (q : eqb 32 b ≡ true). rw (← eqb-true 32 b q)) (λ (q : eqb 32 b ≡ false). absurd (none-ne-some _ (rw q at e))) (either (eqb 32 b))
+space-open (b ∷ s) e = ⊎_elim (λ (q : eqb 32 b ≡ true). rw (← eqb-true 32 b q)) (λ (q : eqb 32 b ≡ false). absurd (none-ne-some _ (rw q at e))) (cases_Bool (eqb 32 b))
 
 -- words are read and passed over
 abbrev pub silent : Read (List Word) → Option Said

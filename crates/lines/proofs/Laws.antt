@@ -9,6 +9,7 @@ use lib.Dec.{ltb}
 use lib.ListN.{length, take, get_or}
 use lib.Seq.{get_or-take, length-take-le}
 use borrow.Author.Tests.{ltb-true, ltb-false, lt-ltb, le-ltb}
+use Rattle.std.proofs.lemmas.Bool.{cases_Bool}
 use Rattle.semantics.specs.Models.{Body, other}
 use Rattle.model.specs.declared.Action.{Action}
 use Rattle.model.specs.declared.Action.TheVariants.{Rule, New, Next}
@@ -16,7 +17,6 @@ use Rattle.model.specs.declared.Clause.{Clause}
 use Rattle.model.specs.declared.Model.{Model}
 use Rattle.model.specs.Records.{clause_body, line_of, clause_line, program_of}
 use Rattle.grammar.specs.Texts.{outcome}
-use Rattle.grammar.proofs.Tests.{either}
 use Rattle.text.specs.Reading.{Accepts}
 use Rattle.text.proofs.Laws.{read-well-formed}
 use Rattle.lines.specs.Lines.{kind, described, line_at, kind_of, recorded, nothing}
@@ -61,4 +61,4 @@ module _ (text : List ℕ) (m : Model) (a : Accepts (outcome text) text m) (i : 
       let k : length (take m.clausecount m.clauses) ≡ m.clausecount = length-take-le m.clausecount m.clauses (let c = r.row in omega (arith, few-clauses)) in
       rw k (⊎_elim
       (λ (q : ltb i m.clausecount ≡ true). let l = ltb-true i m.clausecount q in rw (q, get_or-take m.clausecount m.clauses i nothing l) (clause-line l))
-      (λ (q : ltb i m.clausecount ≡ false). rw q (no_line (ltb-false i m.clausecount q))) (either (ltb i m.clausecount)))
+      (λ (q : ltb i m.clausecount ≡ false). rw q (no_line (ltb-false i m.clausecount q))) (cases_Bool (ltb i m.clausecount)))

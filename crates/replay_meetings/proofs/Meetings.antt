@@ -9,12 +9,13 @@ use native.Mathlib.Omega.{arith}
 use borrow.Author.Tests.{eq-eqb, ne_eqb}
 use lib.ListN.{length, take, get_or}
 use lib.Seq.{drop-cons}
+use Rattle.std.proofs.lemmas.Bool.{cases_Bool}
 use Rattle.limits.specs.Limits as limit
 use Rattle.semantics.specs.Models.{elem, Body, vars, supported, names, carriers, Supported}
 use Rattle.semantics.specs.Facts.{Derived, Meets}
 use Rattle.semantics.specs.Runs as runs
 use Rattle.semantics.specs.Runs.{meet, pick, named, Allowed}
-use Rattle.semantics.proofs.Tools.{either, clash}
+use Rattle.semantics.proofs.Tools.{clash}
 use Rattle.semantics.proofs.Bodies.{holds_agree, supported-vars}
 use Rattle.model.specs.declared.Model.{Model}
 use Rattle.model.specs.declared.Stage.{Stage}
@@ -151,7 +152,7 @@ module _ (m : Model) (s : Session) (v : View) (w : List ℕ) (ready : Ready m s 
                 (λ e. let y = elem-of-map (number_in g) (carried_at m v) (vars local) (rw (vars-renamed (number_in g) local) at e) in
                 absurd (f.0 y.0 ((stage-vars m ready.accepted s.met left y.0).0 y.1) (sym y.2)))
                 (λ e. e)
-                (either (elem (carried_at m v) (vars stage))),
+                (cases_Bool (elem (carried_at m v) (vars stage))),
             f.1,
           ))
           (found v h)

@@ -6,8 +6,9 @@ use mathlib.Core.List.{List}
 use Prim.Native.Nat.{ℕ, ◌+◌, ◌*◌, ◌≤◌, ◌<◌}
 use native.Mathlib.Omega.{arith}
 use lib.ListN.{replicate}
+use Rattle.std.proofs.lemmas.Bool.{cases_Bool}
 use Rattle.limits.specs.Limits as limit
-use Rattle.semantics.proofs.Tools.{either, same?, clash}
+use Rattle.semantics.proofs.Tools.{same?, clash}
 use Rattle.facts_bits.specs.Width as width
 use Rattle.facts_bits.specs.Bits.{bit_at, in_row, Copied, Joined}
 use Rattle.facts_bits.proofs.Laws.{full-bits}
@@ -19,7 +20,7 @@ use Rattle.search_levels.specs.Passing.{Has, Picked, Onward}
 
 -- bytes that are 0 have no bit
 pub no-bit : (n i e : ℕ) → e < width.slots → in_row (replicate {A = ℕ} n 0) i e ≡ false
-no-bit n i e l = ⊎_elim (λ q. absurd (((marks-none n).bits i e l).0 q)) (λ q. q) (either (in_row (replicate {A = ℕ} n 0) i e))
+no-bit n i e l = ⊎_elim (λ q. absurd (((marks-none n).bits i e l).0 q)) (λ q. q) (cases_Bool (in_row (replicate {A = ℕ} n 0) i e))
 
 -- row 0 of a table is its first row
 row_zero : (w : List ℕ) (e : ℕ) → in_row w 0 e ≡ bit_at w e

@@ -9,12 +9,13 @@ use borrow.Author.Tests.{ltb-true, ltb-false, lt-ltb, le-ltb}
 use lib.Dec.{ltb}
 use lib.ListN.{length, take, get_or}
 use lib.Seq.{get_or-take, length-take-le}
+use Rattle.std.proofs.lemmas.Bool.{cases_Bool}
 use Rattle.limits.specs.Limits as limit
 use Rattle.semantics.specs.Models.{elem, Body, vars, names, supported, Supported}
 use Rattle.semantics.specs.Facts.{Database, Holds, In}
 use Rattle.semantics.specs.Runs.{named}
 use Rattle.semantics.specs.Tables.{seat}
-use Rattle.semantics.proofs.Tools.{either, clash, named-own, seat-ok}
+use Rattle.semantics.proofs.Tools.{clash, named-own, seat-ok}
 use Rattle.semantics.proofs.Bodies.{holds_agree, supported-vars}
 use Rattle.model.specs.declared.Model.{Model}
 use Rattle.model.specs.declared.Stage.{Stage}
@@ -160,14 +161,14 @@ module _ (m : Model) (wf : WellFormed m) (k : ℕ) (here : k < m.stagecount) whe
         clash (subst (λ (v : ℕ). elem v (take g.variables g.numbers) ≡ true) (get_or-take g.variables g.numbers z.0 0 h ∙ sym z.2) (elem-get_or (take g.variables g.numbers) z.0 (rw length-numbered h)))
         (seat-out x (take g.variables g.numbers) g.variables length-numbered l))
         (λ e. e)
-        (either (elem x (vars (get_or (question_of m) k []))))
+        (cases_Bool (elem x (vars (get_or (question_of m) k []))))
 
     -- whether the stage has it
     stands-holder : ltb y g.variables ≡ elem x (vars (get_or (question_of m) k []))
     stands-holder = ⊎_elim
         (λ q. q ∙ sym (holder-here (ltb-true y g.variables q)))
         (λ q. q ∙ sym (holder-none (ltb-false y g.variables q)))
-        (either (ltb y g.variables))
+        (cases_Bool (ltb y g.variables))
 
     stands-number : ltb y g.variables ≡ true → f y ≡ x
     stands-number q = number-here (ltb-true y g.variables q)

@@ -3,6 +3,7 @@ use mathlib.Core.Path.{◌≡◌, refl, sym, ap, ◌∙◌, subst}
 use mathlib.Core.Logic.{⊎_elim, ◌≢◌}
 use mathlib.Core.Bool.{Bool, true, false, cond, and-eq-true_iff}
 use mathlib.Core.List.{List, [], ◌∷◌, ◌++◌}
+use Rattle.std.proofs.lemmas.Bool.{cases_Bool}
 use Rattle.std.specs.Prelude.{Option, None, Some, is_some, unwrap_or}
 use Prim.Native.Nat.{ℕ, zero, suc, ◌+◌, ◌*◌, ◌%◌, ◌^◌, ◌≤◌, ◌<◌}
 use native.Mathlib.Nat.{mod-le, mod-eq_of_lt, two-pow-succ}
@@ -17,7 +18,7 @@ use Rattle.semantics.specs.Labels.{has}
 use Rattle.semantics.specs.Models.{Program, Question}
 use Rattle.semantics.specs.Steps.{MoreThan}
 use Rattle.semantics.specs.Questions.{Verdict}
-use Rattle.semantics.proofs.Tools.{either, same?}
+use Rattle.semantics.proofs.Tools.{same?}
 use Rattle.semantics.proofs.Sets.{has-and, has-beyond}
 use Rattle.model.specs.declared.Model.{Model}
 use Rattle.model.specs.Records.{program_of, question_of}
@@ -63,10 +64,10 @@ module _ (P : Program) (Q : Question) (xs : List ℕ) where
         long = mk.long;
         right = λ k h. let w : k < length said = omega (arith, h, mk.long) in rw (mk.each k w) (⊎_elim
             (λ (q : settled n b k ≡ true). rw q (settles-right n k b v q))
-            (λ (q : settled n b k ≡ false). rw q (r k w)) (either (settled n b k)));
+            (λ (q : settled n b k ≡ false). rw q (r k w)) (cases_Bool (settled n b k)));
         keeps = λ k h d. rw (mk.each k h) (⊎_elim
             (λ (q : settled n b k ≡ true). rw q (told-some b))
-            (λ (q : settled n b k ≡ false). rw q d) (either (settled n b k)));
+            (λ (q : settled n b k ≡ false). rw q d) (cases_Bool (settled n b k)));
       };
       told = rw (mk.each n l, settles-itself n b) refl;
     }

@@ -8,6 +8,7 @@ use native.Mathlib.Nat.{mod-lt, div-add-mod'}
 use native.Mathlib.Numerals.{add-one}
 use native.Mathlib.Omega.{arith}
 use lib.ListN.{length, get_or, take}
+use Rattle.std.proofs.lemmas.Bool.{cases_Bool}
 use Rattle.std.proofs.lemmas.List.{length-take}
 use Rattle.std.proofs.lemmas.List.Sums.{count_by-le-length, count_by_more_no, count_by_more_yes}
 use lib.Pow.{pow_pos}
@@ -15,7 +16,6 @@ use Rattle.std.specs.Prelude.{Option, None, Ok, Err, unwrap_or}
 use Rattle.rows.specs.declared.Refusal.{Refusal}
 use Rattle.semantics.specs.Models.{Program, Question, Distinct}
 use Rattle.semantics.specs.Questions.{Verdict}
-use Rattle.semantics.proofs.Tools.{either}
 use Rattle.grammar.specs.Texts.{Outcome, accepted, refused}
 use Rattle.striking.specs.Striking.{strike, rising, choices, Counts, nothing, reached, unreached, Tally}
 use Rattle.striking.specs.Numbers.{numbered, falling}
@@ -54,7 +54,7 @@ module _ (P : Program) (Q : Question) (L : List ℕ) (t : Table) (long : t.total
       ⊎_elim
       (λ (q : unwrap_or (get_or t.said i None) false ≡ true). rw (ones-more t.said i w q) (subst (λ (u : ℕ). Counts P Q (map (numbered (rising L)) (falling (suc i))) (suc (ones t.said i)) u) (omega (arith, m)) (reached (subst (Verdict (strike P (numbered (rising L) i)) Q) q v) c)))
       (λ (q : unwrap_or (get_or t.said i None) false ≡ false). rw (ones-other t.said i w q) (subst (λ (u : ℕ). Counts P Q (map (numbered (rising L)) (falling (suc i))) (ones t.said i) u) (omega (arith, m)) (unreached (subst (Verdict (strike P (numbered (rising L) i)) Q) q v) c)))
-      (either (unwrap_or (get_or t.said i None) false))
+      (cases_Bool (unwrap_or (get_or t.said i None) false))
 
   all : Counts P Q (choices L) (ones t.said t.total) (t.total - ones t.said t.total)
   all = rw (choices-numbered L, d.total) (counted (2 ^ length (rising L)) (omega arith))

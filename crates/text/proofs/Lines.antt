@@ -17,8 +17,7 @@ use Rattle.model.specs.declared.Model.{Model}
 use Rattle.grammar.specs.Bytes.{bytes, Line, ended, unended, in_front, lines}
 use Rattle.grammar.specs.Shapes.{after, line, whole, form_of}
 use Rattle.grammar.specs.Texts.{refused, read_lines, outcome}
-use Rattle.grammar.proofs.Tests.{either}
-use Rattle.std.proofs.lemmas.Bool.{true≢false}
+use Rattle.std.proofs.lemmas.Bool.{true≢false, cases_Bool}
 use Rattle.std.specs.Prelude.{Ok, Err}
 use Rattle.rows.specs.Rows.{number_of}
 use Rattle.rows.specs.declared.Row.{Row}
@@ -47,7 +46,7 @@ one_line b (unended s ∷ ls) = (_, _, refl)
 
 pub some-lines : (s : List ℕ) → 0 < length s → (l : Line) × (ls : List Line) × (lines s ≡ l ∷ ls)
 some-lines [] h = absurd (omega arith)
-some-lines (b ∷ s) h = ⊎_elim (λ (q : eqb b 10 ≡ true). rw q (ended [], lines s, refl)) (λ (q : eqb b 10 ≡ false). rw q (one_line b (lines s))) (either (eqb b 10))
+some-lines (b ∷ s) h = ⊎_elim (λ (q : eqb b 10 ≡ true). rw q (ended [], lines s, refl)) (λ (q : eqb b 10 ≡ false). rw q (one_line b (lines s))) (cases_Bool (eqb b 10))
 
 -- BEFORE THE FIRST LINE
 module _ (d : Declared) {m : Model} (z : d.count ≡ 0) (b : m ≡ blank) where

@@ -5,9 +5,9 @@ use mathlib.Core.Bool.{true, false}
 use mathlib.Core.Logic.{⊎_elim}
 use lib.Dec.{ltb}
 use borrow.Author.Tests.{ltb-true, ltb-false}
-use Rattle.grammar.proofs.Tests.{either}
 use Prim.Native.Nat.{◌≤◌}
 use native.Mathlib.Omega.{arith}
+use Rattle.std.proofs.lemmas.Bool.{cases_Bool}
 use Rattle.std.specs.Prelude.{Result, Ok, Err, IsErrAnd}
 use Rattle.grammar.proofs.Lower.{lower-first, lower-second, lower-both}
 use Rattle.rows.specs.Rows.{number_of}
@@ -88,5 +88,5 @@ module _ {A B : Type 0} (x y : Row) where
       (λ (q : ltb (number_of y) (number_of x) ≡ false). ⊎_elim
       (λ (p : ltb (number_of x) (number_of y) ≡ true). rw (e, ordered y x, q, p) (both-less x y (ltb-false _ _ q)))
       (λ (p : ltb (number_of x) (number_of y) ≡ false). rw (e, ordered y x, q, p) (both-less x y (ltb-false _ _ q)))
-      (either (ltb (number_of x) (number_of y))))
-      (either (ltb (number_of y) (number_of x)))
+      (cases_Bool (ltb (number_of x) (number_of y))))
+      (cases_Bool (ltb (number_of y) (number_of x)))

@@ -9,6 +9,7 @@ use native.Mathlib.Omega.{arith}
 use lib.Dec.{leb}
 use lib.ListN.{length, drop}
 use borrow.Author.Tests.{leb-false}
+use Rattle.std.proofs.lemmas.Bool.{cases_Bool}
 use Rattle.limits.specs.Limits as limit
 use Rattle.semantics.specs.Models as meaning
 use Rattle.semantics.specs.Models.{Program}
@@ -21,7 +22,6 @@ use Rattle.grammar.specs.Shapes.{Read, after, line, state_rest, rel_rest, rule_r
 use Rattle.grammar.specs.Rows.{row, many_clauses, fault}
 use Rattle.grammar.specs.Declarations as grammar
 use Rattle.grammar.specs.Models.{declare, clause}
-use Rattle.grammar.proofs.Tests.{either}
 use Rattle.grammar.proofs.Lower.{lower-none}
 use Rattle.std.specs.Prelude.{Result, Ok, Err, IfErr}
 use Rattle.rows.specs.declared.Row.{Row}
@@ -47,20 +47,18 @@ row-same : {A : Type 0} {x y : Row} → ◌≡◌ {A = Result A Row} (Err x) (Er
 row-same {A} {x} q = subst (λ (r : Result A Row). IfErr r (λ z. x ≡ z)) q refl
 
 -- A FORM THAT ADDS A CLAUSE leaves the declarations, and there was room for it
-none-some : {A B : Type 0} {x : A} {xs : List A} → ◌≡◌ {A = List A} [] (x ∷ xs) → B
-none-some e = absurd (let z : ◌≡◌ {A = ℕ} 0 1 = cc in omega arith)
 
 row-four : (k : ℕ) → row 4 (many_clauses k) ≡ 0 → k < 64
-row-four k e = ⊎_elim (λ (q : leb 64 k ≡ true). absurd (let g = rw q at e in omega arith)) (λ (q : leb 64 k ≡ false). leb-false 64 k q) (either (leb 64 k))
+row-four k e = ⊎_elim (λ (q : leb 64 k ≡ true). absurd (let g = rw q at e in omega arith)) (λ (q : leb 64 k ≡ false). leb-false 64 k q) (cases_Bool (leb 64 k))
 
 clause-form : (D : grammar.Declared) (k n : ℕ) (l : meaning.Line) (f : Form) → fault D k f ≡ 0 → clause D n f ≡ (n, l) ∷ [] → (k < 64) × (declare D f ≡ D)
 unfolding fault clause declare
-clause-form D k n l (state_form w) e c = none-some c
-clause-form D k n l (rel_form w a) e c = none-some c
+clause-form D k n l (state_form w) e c = cc
+clause-form D k n l (rel_form w a) e c = cc
 clause-form D k n l (rule_form h b) e c = (row-four k (lower-none (row 4 (many_clauses k)) _ e).0, refl)
 clause-form D k n l (new_form w b) e c = (row-four k (lower-none (row 4 (many_clauses k)) _ e).0, refl)
 clause-form D k n l (next_form x p q b) e c = (row-four k (lower-none (row 4 (many_clauses k)) _ e).0, refl)
-clause-form D k n l (ask_form qs) e c = none-some c
+clause-form D k n l (ask_form qs) e c = cc
 
 -- the clause of a good form is stored
 module _ {text : List ℕ} {d : Declared} {m : Model} {P : Program} (n : ℕ) {form : Form} {r : Reading} (so : stored.Holds m P) (v : Valid text d) (li : Limited d)

@@ -1,5 +1,7 @@
 -- Laws of lists.
 use mathlib.Core.Path.{◌≡◌, refl, sym, ap, ◌∙◌}
+use Rattle.std.proofs.lemmas.Nat.{one_shl}
+use Rattle.std.proofs.lemmas.Bool.{cases_Bool}
 use Rattle.std.specs.Prelude.{Option, Some, None, Result, Ok, Err, MatchOption}
 use mathlib.Core.Logic.{⊎_elim}
 use mathlib.Core.Bool.{true, false, ◌||◌, or_assoc}
@@ -25,7 +27,6 @@ use Rattle.grammar.specs.Declarations.{is_state, Declared, lookup}
 use Rattle.grammar.specs.Rows.{lower, name_fault, list_fault}
 use Rattle.grammar.specs.Models.{code_of, codes}
 use Rattle.grammar.proofs.Lower.{lower-second, lower-assoc}
-use Rattle.grammar.proofs.Tests.{either}
 use Rattle.rows.specs.declared.Row.{Row}
 use Rattle.text_scan.specs.Found.{NameEnd}
 use Rattle.text_names.specs.Names.{found}
@@ -58,10 +59,6 @@ map_more : {A B : Type 0} (f : A → B) (a : seq.List A) (x : A) → map f (a ++
 map_more f [] x = refl
 map_more f (y ∷ a) x = ap (λ (l : seq.List _). f y ∷ l) (map_more f a x)
 
--- the code's `1 << c`
-bit-of : (c : ℕ) → c < 32 → (1 * 2 ^ c) % 4294967296 ≡ 2 ^ c
-bit-of c h = let p : 2 ^ c < 2 ^ 32 = pow-lt h in rw (one-mul (2 ^ c), mod-eq_of_lt p)
-
 module _ (text : seq.List ℕ) (D : Declared) (a e : ℕ) {s : Chosen} {o : Option ℕ} {code : Chosen} {r : Result (ℕ × ℕ) Row}
     (f : lookup (slice a e text) D ≡ found o) (k : Coded (name_fault (found o)) o code) (t : Both s code r) where
   -- the row of the names with the one more
@@ -79,7 +76,7 @@ module _ (text : seq.List ℕ) (D : Declared) (a e : ℕ) {s : Chosen} {o : Opti
     coded = rw (parts.1) at k.value
 
     small : c < 32
-    small = ⊎_elim (λ (y : is_state c ≡ true). ltb-true c 32 y) (λ (y : is_state c ≡ false). absurd (let z = rw (parts.1, coded, y) at k.row in omega arith)) (either (is_state c))
+    small = ⊎_elim (λ (y : is_state c ≡ true). ltb-true c 32 y) (λ (y : is_state c ≡ false). absurd (let z = rw (parts.1, coded, y) at k.row in omega arith)) (cases_Bool (is_state c))
 
     pub name-added : NameAdded text D s a e (Ok (bit_or set ((1 * 2 ^ c) % 4294967296)))
     unfolding union
@@ -90,7 +87,7 @@ module _ (text : seq.List ℕ) (D : Declared) (a e : ℕ) {s : Chosen} {o : Opti
               let z : set ≡ set_of (codes D ws) = (rw (parts.0) at so.set) in
               record {
                 number = ap fault_in (sym q) ∙ number-more so;
-                set = ap (bit_or set) (bit-of c small) ∙ rw (z, map_more (code_of D) ws (slice a e text), set_more (codes D ws) (code_of D (slice a e text)), g);
+                set = ap (bit_or set) (one_shl c 32 small) ∙ rw (z, map_more (code_of D) ws (slice a e text), set_more (codes D ws) (code_of D (slice a e text)), g);
               };
         }
 

@@ -11,13 +11,13 @@ use lib.Dec.{eqb}
 use lib.ListN.{length, take, get_or, length-set, length-append, get_or-append}
 use lib.Seq.{slice, get_or_at, get_or-set_same, get_or-set_other, take-take}
 use borrow.Author.Tests.{eqb-true, eqb-false}
+use Rattle.std.proofs.lemmas.Bool.{cases_Bool}
 use Rattle.std.specs.List.{count_by}
 use Rattle.std.proofs.lemmas.List.Sums.{count_by_more_yes, count_by_more_no}
 use Rattle.limits.specs.Limits as limit
 use Rattle.grammar.specs.Bytes.{Word, same}
 use Rattle.grammar.specs.Declarations as grammar
 use Rattle.grammar.specs.Declarations.{lookup, count, class}
-use Rattle.grammar.proofs.Tests.{either}
 use Rattle.text_names.specs.Rows.{list_of}
 use Rattle.text_names.specs.Names.{blank, name_at, begin, end, entry, declared_of, Valid, tally, added}
 use Rattle.text_names.specs.declared.Name.{Name}
@@ -37,19 +37,19 @@ get_or-list_of zero f j d h = absurd (omega arith)
 get_or-list_of (suc n) f j d h = ⊎_elim
     (λ (q : eqb j n ≡ true). rw (eqb-true j n q) (get_or_at (list_of n f) (f n) [] d n (length-list_of n f)))
     (λ (q : eqb j n ≡ false). let k : j < n = (let z = eqb-false j n q in omega arith) in
-    get_or-append (list_of n f) (f n ∷ []) d j (omega (arith, length-list_of n f)) ∙ get_or-list_of n f j d k) (either (eqb j n))
+    get_or-append (list_of n f) (f n ∷ []) d j (omega (arith, length-list_of n f)) ∙ get_or-list_of n f j d k) (cases_Bool (eqb j n))
 
 -- LOOKING UP
 module _ (w : Word) where
   lookup-some : (D E : grammar.Declared) (c : ℕ) → lookup w D ≡ some c → lookup w (D ++ E) ≡ some c
   unfolding lookup
   lookup-some [] E c e = absurd (let z : ◌≡◌ {A = ℕ} 0 1 = cc in omega arith)
-  lookup-some (d ∷ D) E c e = ⊎_elim (λ (q : same w d.0 ≡ true). rw q (rw q at e)) (λ (q : same w d.0 ≡ false). rw q (lookup-some D E c (rw q at e))) (either (same w d.0))
+  lookup-some (d ∷ D) E c e = ⊎_elim (λ (q : same w d.0 ≡ true). rw q (rw q at e)) (λ (q : same w d.0 ≡ false). rw q (lookup-some D E c (rw q at e))) (cases_Bool (same w d.0))
 
   lookup-none : (D E : grammar.Declared) → lookup w D ≡ none → lookup w (D ++ E) ≡ lookup w E
   unfolding lookup
   lookup-none [] E e = refl
-  lookup-none (d ∷ D) E e = ⊎_elim (λ (q : same w d.0 ≡ true). absurd (let e' = rw q at e in let z : ◌≡◌ {A = ℕ} 0 1 = cc in omega arith)) (λ (q : same w d.0 ≡ false). rw q (lookup-none D E (rw q at e))) (either (same w d.0))
+  lookup-none (d ∷ D) E e = ⊎_elim (λ (q : same w d.0 ≡ true). absurd (let e' = rw q at e in let z : ◌≡◌ {A = ℕ} 0 1 = cc in omega arith)) (λ (q : same w d.0 ≡ false). rw q (lookup-none D E (rw q at e))) (cases_Bool (same w d.0))
 
   module _ (f : ℕ → Word × ℕ) where
     pub lookup-misses : (m : ℕ) → ((k : ℕ) → k < m → same w (f k).0 ≡ false) → lookup w (list_of m f) ≡ none
@@ -62,15 +62,15 @@ module _ (w : Word) where
     lookup-hit zero i h e q = absurd (omega arith)
     lookup-hit (suc n) i h e q = ⊎_elim
         (λ (p : eqb i n ≡ true). subst (λ (m : ℕ). lookup w (list_of m f ++ (f m ∷ [])) ≡ some (f i).1) (eqb-true i n p) (lookup-none (list_of i f) (f i ∷ []) e ∙ rw q))
-        (λ (p : eqb i n ≡ false). lookup-some (list_of n f) (f n ∷ []) (f i).1 (lookup-hit n i (let z = eqb-false i n p in omega arith) e q)) (either (eqb i n))
+        (λ (p : eqb i n ≡ false). lookup-some (list_of n f) (f n ∷ []) (f i).1 (lookup-hit n i (let z = eqb-false i n p in omega arith) e q)) (cases_Bool (eqb i n))
 
 -- COUNTING
 count-append : (k : ℕ) (D : grammar.Declared) (d : Word × ℕ) → count k (D ++ (d ∷ [])) ≡ cond (eqb (class d.1) k) (suc (count k D)) (count k D)
 unfolding count
 count-append k [] d = refl
 count-append k (e ∷ D) d = ⊎_elim
-    (λ (q : eqb (class e.1) k ≡ true). rw (q, count-append k D d) (⊎_elim (λ (p : eqb (class d.1) k ≡ true). rw p) (λ (p : eqb (class d.1) k ≡ false). rw p) (either (eqb (class d.1) k))))
-    (λ (q : eqb (class e.1) k ≡ false). rw (q, count-append k D d)) (either (eqb (class e.1) k))
+    (λ (q : eqb (class e.1) k ≡ true). rw (q, count-append k D d) (⊎_elim (λ (p : eqb (class d.1) k ≡ true). rw p) (λ (p : eqb (class d.1) k ≡ false). rw p) (cases_Bool (eqb (class d.1) k))))
+    (λ (q : eqb (class e.1) k ≡ false). rw (q, count-append k D d)) (cases_Bool (eqb (class e.1) k))
 
 pub tally-count : (text : List ℕ) (d : Declared) (k : ℕ) → count k (declared_of text d) ≡ tally k d.names d.count
 unfolding declared_of count
@@ -98,11 +98,11 @@ module _ {text : List ℕ} {d : Declared} (v : Valid text d) (h : d.count < limi
     within = λ i l. ⊎_elim
         (λ (z : eqb i d.count ≡ true). let e = eqb-true i d.count z in rw (e, get_or-set_same d.names d.count name blank (omega (arith, v.names))) p)
         (λ (z : eqb i d.count ≡ false). let e = eqb-false i d.count z in rw (get_or-set_other d.names d.count i name blank e) (v.within i (omega arith)))
-        (either (eqb i d.count));
+        (cases_Bool (eqb i d.count));
     coded = λ i l. ⊎_elim
         (λ (z : eqb i d.count ≡ true). let e = eqb-true i d.count z in rw (e, get_or-set_same d.names d.count name blank (omega (arith, v.names))) q)
         (λ (z : eqb i d.count ≡ false). let e = eqb-false i d.count z in rw (get_or-set_other d.names d.count i name blank e) (v.coded i (omega arith)))
-        (either (eqb i d.count));
+        (cases_Bool (eqb i d.count));
   }
 
 -- THE TEXT UP TO A PLACE
@@ -136,4 +136,4 @@ tally-by k names (suc m) h = ⊎_elim
     (λ (q : of_class k (get_or names m blank) ≡ false).
     let t : count_by (of_class k) (take (m + 1) names) ≡ count_by (of_class k) (take m names) = count_by_more_no (of_class k) names m blank (omega arith) q in
     rw (q, tally-by k names m (omega arith)) (sym (rw add-one at t)))
-    (either (of_class k (get_or names m blank)))
+    (cases_Bool (of_class k (get_or names m blank)))

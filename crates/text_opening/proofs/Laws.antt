@@ -9,8 +9,8 @@ use lib.Dec.{eqb}
 use lib.ListN.{length, take, get_or, set, get_or-map, length-map, length-set}
 use lib.Seq.{take-suc, get_or-set_same, get_or-set_other, ext_get_or}
 use borrow.Author.Tests.{eqb-true, eqb-false}
+use Rattle.std.proofs.lemmas.Bool.{cases_Bool}
 use Rattle.limits.specs.Limits as limit
-use Rattle.grammar.proofs.Tests.{either}
 use Rattle.semantics.specs.Models.{Program}
 use Rattle.model.specs.Records.{program_of}
 use Rattle.model.specs.declared.Name as models
@@ -73,7 +73,7 @@ module _ {X : Type 0} {d : Declared} (f : Name → X) {row : List X} where
     same = λ j l. ⊎_elim
         (λ (q : eqb j i ≡ true). rw (eqb-true j i q) (get_or-set_same row i (f (name_at d i)) (f no_name) (omega (arith, so.long))))
         (λ (q : eqb j i ≡ false). let z = eqb-false j i q in get_or-set_other row i j (f (name_at d i)) (f no_name) z ∙ so.same j (omega arith))
-        (either (eqb j i));
+        (cases_Bool (eqb j i));
   }
 
   pub column-all : {i : ℕ} → Column d f row i → i ≡ limit.declared → length d.names ≡ limit.declared → row ≡ map f d.names

@@ -2,6 +2,7 @@
 use mathlib.Core.Path.{◌≡◌, refl, sym, ap, ◌∙◌}
 use mathlib.Core.Logic.{⊎_elim, ◌⊎◌}
 use mathlib.Core.Bool.{Bool, true, false, not, ◌&&◌, ◌||◌, and-true, and-false, or-true}
+use Rattle.std.proofs.lemmas.Bool.{cases_Bool}
 use Rattle.std.specs.Prelude.{MatchOption}
 use Rattle.std.specs.Bool.{then_some}
 use Rattle.std.specs.List.{position}
@@ -22,7 +23,7 @@ use borrow.Author.Tests.{ltb-false, lt-leb, le-leb, eqb-true, eqb-false, eq-eqb,
 use Rattle.grammar.specs.Bytes.{bytes, letter, alphanumeric, allowed, every, Line, ended, unended, in_front, lines, Word, same, is_name}
 use Rattle.grammar.specs.Shapes.{after, word, after_word, name}
 use Rattle.grammar.specs.Texts.{judge, bad}
-use Rattle.grammar.proofs.Tests.{either, clash, and_left, and_right, and_both}
+use Rattle.grammar.proofs.Tests.{clash, and_left, and_right, and_both}
 use Rattle.text_scan.specs.Found.{NextByte, NextBytes, WordEnd, NameEnd, BadLine, LineEnd}
 
 -- PLACES
@@ -79,7 +80,7 @@ after-starts (b ∷ w) (c ∷ s) h =
 after-other : (w s : List ℕ) → pointwise eqb w (take (length w) s) ≡ false → after w s ≡ none
 after-other [] s h = clash refl h
 after-other (b ∷ w) [] h = refl
-after-other (b ∷ w) (c ∷ s) h = ⊎_elim (λ (q : eqb b c ≡ true). rw q (after-other w s (rw q at h))) (λ (q : eqb b c ≡ false). rw q) (either (eqb b c))
+after-other (b ∷ w) (c ∷ s) h = ⊎_elim (λ (q : eqb b c ≡ true). rw q (after-other w s (rw q at h))) (λ (q : eqb b c ≡ false). rw q) (cases_Bool (eqb b c))
 
 pub bytes_next : {text : List ℕ} {at : ℕ} {w : List ℕ} {r : Bool} → at ≤ length text → r ≡ pointwise eqb w (take (length w) (drop at text)) → NextBytes text at w r
 bytes_next {text} {at} {w} h e = record {
@@ -90,24 +91,24 @@ bytes_next {text} {at} {w} h e = record {
 -- WORDS
 word-within : (s : List ℕ) → length (word s) ≤ length s
 word-within [] = omega arith
-word-within (b ∷ s) = ⊎_elim (λ (q : alphanumeric b ≡ true). rw q (omega (arith, word-within s))) (λ (q : alphanumeric b ≡ false). rw q (omega arith)) (either (alphanumeric b))
+word-within (b ∷ s) = ⊎_elim (λ (q : alphanumeric b ≡ true). rw q (omega (arith, word-within s))) (λ (q : alphanumeric b ≡ false). rw q (omega arith)) (cases_Bool (alphanumeric b))
 
 word-taken : (s : List ℕ) → word s ≡ take (length (word s)) s
 word-taken [] = refl
-word-taken (b ∷ s) = ⊎_elim (λ (q : alphanumeric b ≡ true). rw q (ap (λ (w : Word). b ∷ w) (word-taken s))) (λ (q : alphanumeric b ≡ false). rw q) (either (alphanumeric b))
+word-taken (b ∷ s) = ⊎_elim (λ (q : alphanumeric b ≡ true). rw q (ap (λ (w : Word). b ∷ w) (word-taken s))) (λ (q : alphanumeric b ≡ false). rw q) (cases_Bool (alphanumeric b))
 
 word-left : (s : List ℕ) → after_word s ≡ drop (length (word s)) s
 word-left [] = refl
-word-left (b ∷ s) = ⊎_elim (λ (q : alphanumeric b ≡ true). rw q (word-left s)) (λ (q : alphanumeric b ≡ false). rw q) (either (alphanumeric b))
+word-left (b ∷ s) = ⊎_elim (λ (q : alphanumeric b ≡ true). rw q (word-left s)) (λ (q : alphanumeric b ≡ false). rw q) (cases_Bool (alphanumeric b))
 
 -- `position` of a byte that is neither a letter nor a digit, or the length
 pub word-position : (s : List ℕ) → unwrap_or (position (λ b. not (alphanumeric b)) s) (length s) ≡ length (word s)
 word-position s =
-    let e = is_position_or_len (λ w. length (word w)) (λ b. not (alphanumeric b)) refl (λ y ys. ⊎_elim (λ (q : alphanumeric y ≡ true). rw q (sym (one-add (length (word ys))))) (λ (q : alphanumeric y ≡ false). rw q) (either (alphanumeric y))) s in
+    let e = is_position_or_len (λ w. length (word w)) (λ b. not (alphanumeric b)) refl (λ y ys. ⊎_elim (λ (q : alphanumeric y ≡ true). rw q (sym (one-add (length (word ys))))) (λ (q : alphanumeric y ≡ false). rw q) (cases_Bool (alphanumeric y))) s in
     rw (← e) (⊎_elim
     (λ (q : ltb (length (word s)) (length s) ≡ true). rw q)
     (λ (q : ltb (length (word s)) (length s) ≡ false). rw q (omega (arith, word-within s, ltb-false (length (word s)) (length s) q)))
-    (either (ltb (length (word s)) (length s))))
+    (cases_Bool (ltb (length (word s)) (length s))))
 
 pub word_end : (text : List ℕ) (at : ℕ) {n : ℕ} → at ≤ length text → n ≡ length (word (drop at text)) → WordEnd text at (at + n)
 word_end text at {n} h e =
@@ -122,7 +123,7 @@ word_end text at {n} h e =
 
 pub every-word : (s : List ℕ) → every alphanumeric (word s) ≡ true
 every-word [] = refl
-every-word (b ∷ s) = ⊎_elim (λ (q : alphanumeric b ≡ true). rw (q, q) (every-word s)) (λ (q : alphanumeric b ≡ false). rw q) (either (alphanumeric b))
+every-word (b ∷ s) = ⊎_elim (λ (q : alphanumeric b ≡ true). rw (q, q) (every-word s)) (λ (q : alphanumeric b ≡ false). rw q) (cases_Bool (alphanumeric b))
 
 -- NAMES
 -- a word of letters and digits is a name by its first byte, its length and what it is not
@@ -144,7 +145,7 @@ module _ {text : List ℕ} {at e : ℕ} (end : WordEnd text at e) where
 
   some_word : is_name (slice at e text) ≡ true → at < e
   unfolding is_name
-  some_word h = ⊎_elim (λ (q : eqb at e ≡ true). clash h (rw (← eqb-true at e q, slice_empty at text))) (λ (q : eqb at e ≡ false). let z = eqb-false at e q in omega (arith, end.begins)) (either (eqb at e))
+  some_word h = ⊎_elim (λ (q : eqb at e ≡ true). clash h (rw (← eqb-true at e q, slice_empty at text))) (λ (q : eqb at e ≡ false). let z = eqb-false at e q in omega (arith, end.begins)) (cases_Bool (eqb at e))
 
   no_name : is_name (slice at e text) ≡ false → name (drop at text) ≡ none
   unfolding name

@@ -11,13 +11,14 @@ use lib.Dec.{eqb}
 use lib.ListN.{length, take, get_or, set, length-set}
 use lib.Seq.{slice, get_or-set_same, get_or-set_other, ext_get_or, take-suc}
 use borrow.Author.Tests.{eqb-true, eqb-false}
+use Rattle.std.proofs.lemmas.Bool.{cases_Bool}
 use Rattle.std.specs.Prelude.{Option, Some, None, MatchOption}
 use Rattle.std.specs.List.{list_all}
 use Rattle.std.proofs.lemmas.List.Folds.{list_all-append}
 use Rattle.grammar.specs.Bytes.{Word, same}
 use Rattle.grammar.specs.Declarations.{member, extend, place}
 use Rattle.grammar.specs.Words.{Distinct, all_marked}
-use Rattle.grammar.proofs.Tests.{either, clash}
+use Rattle.grammar.proofs.Tests.{clash}
 use Rattle.grammar.proofs.Words.{same-eq, member-append, member-last, member-left, place-hit, place-miss, place_none, place-below, marks-new, marks-old, marks-append}
 use Rattle.text_names.specs.Rows.{list_of}
 use Rattle.text_names.proofs.Laws.{list_of-same, length-list_of, get_or-list_of}
@@ -35,7 +36,7 @@ module _ (w : Word) (f : ℕ → Word) where
   member-list_of zero i h q = absurd (omega arith)
   member-list_of (suc n) i h q = ⊎_elim
       (λ (p : eqb i n ≡ true). member-append w (list_of n f) (f n ∷ []) ∙ rw (← eqb-true i n p, q) (or-true (member w (list_of i f))))
-      (λ (p : eqb i n ≡ false). member-left w (list_of n f) (f n ∷ []) (member-list_of n i (let z = eqb-false i n p in omega arith) q)) (either (eqb i n))
+      (λ (p : eqb i n ≡ false). member-left w (list_of n f) (f n ∷ []) (member-list_of n i (let z = eqb-false i n p in omega arith) q)) (cases_Bool (eqb i n))
 
   pub place-list_of : (n i : ℕ) → i < n → member w (list_of i f) ≡ false → same w (f i) ≡ true → place (list_of n f) w ≡ i
   unfolding place
@@ -44,7 +45,7 @@ module _ (w : Word) (f : ℕ → Word) where
       (λ (p : eqb i n ≡ true). subst (λ (m : ℕ). place (list_of m f ++ (f m ∷ [])) w ≡ i) (eqb-true i n p)
       (place-miss w (list_of i f) (f i ∷ []) e ∙ rw (q, length-list_of i f, add-zero)))
       (λ (p : eqb i n ≡ false). let k : i < n = (let z = eqb-false i n p in omega arith) in
-      place-hit w (list_of n f) (f n ∷ []) (member-list_of n i k q) ∙ place-list_of n i k e q) (either (eqb i n))
+      place-hit w (list_of n f) (f n ∷ []) (member-list_of n i k q) ∙ place-list_of n i k e q) (cases_Bool (eqb i n))
 
 -- FINDING A VARIABLE
 module _ {N : ℕ} (text : List ℕ) (s : Scope N) (w : Word) where
@@ -80,7 +81,7 @@ list_of-set f g n i h at_i other = ext_get_or false _ _
     get_or-list_of n g j false l' ∙ ⊎_elim
     (λ (q : eqb j i ≡ true). rw (eqb-true j i q, at_i) (sym (get_or-set_same (list_of n f) i true false (omega (arith, length-list_of n f)))))
     (λ (q : eqb j i ≡ false). other j (eqb-false j i q) ∙ sym (get_or-set_other (list_of n f) i j true false (eqb-false j i q) ∙ get_or-list_of n f j false l'))
-    (either (eqb j i)))
+    (cases_Bool (eqb j i)))
 
 module _ {N : ℕ} (s : Scope N) (i : ℕ) where
   abbrev with_mark : Variable
@@ -97,7 +98,7 @@ module _ {N : ℕ} (s : Scope N) (i : ℕ) where
     place-kept j = ⊎_elim
         (λ (q : eqb j i ≡ true). rw (eqb-true j i q, get_or-set_same s.variables i with_mark blank l) (refl, refl))
         (λ (q : eqb j i ≡ false). rw (get_or-set_other s.variables i j with_mark blank (eqb-false j i q)) (refl, refl))
-        (either (eqb j i))
+        (cases_Bool (eqb j i))
 
     pub known-marking : (text : List ℕ) → known_of text (marking s i) ≡ known_of text s
     unfolding known_of
@@ -134,7 +135,7 @@ module _ {N : ℕ} {text : List ℕ} (s : Scope N) (a e : ℕ) (p : Bool) (v : V
     within = λ j q. ⊎_elim
         (λ (y : eqb j s.count ≡ true). rw (eqb-true j s.count y, last-added) (h, k))
         (λ (y : eqb j s.count ≡ false). let t = eqb-false j s.count y in rw (others-kept j t) (v.within j (omega arith)))
-        (either (eqb j s.count));
+        (cases_Bool (eqb j s.count));
   }
 
   pub known-added : known_of text (added s a e p) ≡ known_of text s ++ (slice a e text ∷ [])
@@ -158,7 +159,7 @@ module _ {N : ℕ} {text : List ℕ} {s : Scope N} {vs S : List Word} (so : Hold
 
     within_more : (vs' : List Word) → ((x : Word) → member x vs ≡ true → member x vs' ≡ true) → member w vs' ≡ true → (x : Word) → member x (S ++ (w ∷ [])) ≡ true → member x vs' ≡ true
     within_more vs' f g x q = ⊎_elim (λ (p : member x S ≡ true). f x (so.within x p))
-        (λ (p : member x S ≡ false). subst (λ (y : Word). member y vs' ≡ true) (sym (same-eq x w (last_one x p q))) g) (either (member x S))
+        (λ (p : member x S ≡ false). subst (λ (y : Word). member y vs' ≡ true) (sym (same-eq x w (last_one x p q))) g) (cases_Bool (member x S))
       where
         last_one : (x : Word) → member x S ≡ false → member x (S ++ (w ∷ [])) ≡ true → same x w ≡ true
         last_one x p q = sym (or-false (same x w)) ∙ (rw (member-append x S (w ∷ []), p) at q)
@@ -203,6 +204,6 @@ module _ {N : ℕ} {text : List ℕ} {s : Scope N} {vs S : List Word} (so : Hold
           go false = record {
             valid = valid-added s a e false so.valid room h k;
             known = known-added s a e false so.valid room ∙ rw so.known;
-            marks = marks-added s a e false so.valid room ∙ rw so.marks (sym (marks-append S vs (w ∷ []) ∙ rw (⊎_elim (λ (q : member w S ≡ true). clash (so.within w q) m) (λ q. q) (either (member w S)))));
+            marks = marks-added s a e false so.valid room ∙ rw so.marks (sym (marks-append S vs (w ∷ []) ∙ rw (⊎_elim (λ (q : member w S ≡ true). clash (so.within w q) m) (λ q. q) (cases_Bool (member w S)))));
             within = λ x q. member-left x vs (w ∷ []) (so.within x q);
           }

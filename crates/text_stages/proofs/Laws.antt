@@ -10,6 +10,7 @@ use lib.Dec.{eqb}
 use lib.ListN.{length, take, length-set, length-append}
 use lib.Seq.{length-paste, take-set-le, get_or-set_same, take-take}
 use borrow.Author.Tests.{eqb-true, eqb-false}
+use Rattle.std.proofs.lemmas.Bool.{cases_Bool}
 use Rattle.semantics.specs.Models as meaning
 use Rattle.model.specs.Literals.{literal_of}
 use Rattle.model.specs.Records as model
@@ -20,7 +21,6 @@ use Rattle.grammar.specs.Forms as forms
 use Rattle.grammar.specs.Declarations.{Declared, member, extend, place, variables, all_variables}
 use Rattle.grammar.specs.Rows.{lower, body_fault, scope_fault, stages_fault}
 use Rattle.grammar.specs.Models.{body_of, question_of}
-use Rattle.grammar.proofs.Tests.{either}
 use Rattle.grammar.proofs.Words.{member-left, member_right, extend-append, extend-new}
 use Rattle.grammar.proofs.Lower.{lower-first, lower-second, lower-assoc}
 use Rattle.grammar.proofs.Bodies.{body-stable}
@@ -129,7 +129,7 @@ module _ {text : List ℕ} {D : Declared} {m₀ : Model} {qs : List (List forms.
   stages-held i h = ⊎_elim
       (λ (e : eqb i m.stagecount ≡ true). rw (eqb-true i m.stagecount e, placed) held)
       (λ (e : eqb i m.stagecount ≡ false). held_stage m m' keeps so.stage i (let z = eqb-false i m.stagecount e in omega arith))
-      (either (eqb i m.stagecount))
+      (cases_Bool (eqb i m.stagecount))
 
   pub stored_more : Stored text D m₀ (qs ++ (q ∷ [])) t' (with_stage m f ns)
   unfolding m'

@@ -9,9 +9,10 @@ use borrow.Author.Tests.{ltb-true, ltb-false}
 use lib.Dec.{ltb}
 use lib.ListN.{length, get_or, set, take, length-set, replicate, get_or-replicate, length-replicate, get_or-eq_default}
 use lib.Seq.{get_or-set_same, get_or-set_other, get_or-take, length-take-le}
+use Rattle.std.proofs.lemmas.Bool.{cases_Bool}
 use Rattle.limits.specs.Limits as limit
 use Rattle.semantics.specs.Models.{line}
-use Rattle.semantics.proofs.Tools.{either, same?, clash}
+use Rattle.semantics.proofs.Tools.{same?, clash}
 use Rattle.model.specs.declared.Model.{Model}
 use Rattle.model.specs.Records.{clause_line, program_of, clause_at}
 use Rattle.model.specs.WellFormed.{WellFormed}
@@ -77,7 +78,7 @@ module _ (m : Model) (s : States) where
       zero i = ⊎_elim
           (λ (z : ltb i limit.atomic ≡ true). get_or-replicate limit.atomic i false false (ltb-true i limit.atomic z))
           (λ (z : ltb i limit.atomic ≡ false). let e : length (replicate {A = Bool} limit.atomic false) ≤ i = rw length-replicate (ltb-false i limit.atomic z) in get_or-eq_default (replicate limit.atomic false) false e)
-          (either (ltb i limit.atomic))
+          (cases_Bool (ltb i limit.atomic))
 
   module _ (k : ℕ) (b : List Bool) (h : Early k b) where
     pub early-note : is_new (clause_line m.literals (clause_at m k)) ≡ true → (b' : List Bool) → Notes s.lines s.count (clause_at m k).line b b' → Early (k + 1) b'

@@ -8,13 +8,15 @@ use Prim.Native.Nat.{ℕ, zero, suc, ◌+◌, ◌*◌, ◌≤◌, ◌<◌}
 use native.Mathlib.Omega.{arith}
 use borrow.Author.Tests.{eq-eqb, ne_eqb}
 use lib.ListN.{set, get_or, length-map}
+use Rattle.std.proofs.lemmas.List.{get_or_default}
+use Rattle.std.proofs.lemmas.Bool.{cases_Bool}
 use Rattle.limits.specs.Limits as limit
 use Rattle.semantics.specs.Models.{elem, Body, vars, names, supported, Supported}
 use Rattle.semantics.specs.Facts.{In, Derived, Meets}
 use Rattle.semantics.specs.Runs.{Place, meet, nobody, named}
 use Rattle.semantics.specs.Tables.{Shows}
 use Rattle.semantics.specs.Walkers.{but, acting}
-use Rattle.semantics.proofs.Tools.{either, same?, clash, named-own}
+use Rattle.semantics.proofs.Tools.{same?, clash, named-own}
 use Rattle.semantics.proofs.Bodies.{holds_agree, more-facts, supported-vars}
 use Rattle.model.specs.declared.Model.{Model}
 use Rattle.model.specs.declared.Stage.{Stage}
@@ -30,7 +32,6 @@ use Rattle.facts_bits.specs.Bits.{in_row}
 use Rattle.facts_table.specs.Table.{table_of}
 use Rattle.facts_candidates.specs.declared.Choice.{Choice}
 use Rattle.facts_candidates.specs.Choices.{element_of, chosen}
-use Rattle.facts_candidates.proofs.Choosing.{any-default}
 use Rattle.std.specs.Prelude as prelude
 use Rattle.facts_find.specs.Bodies.{Fixed}
 use Rattle.search_states.specs.declared.States.{States}
@@ -67,7 +68,7 @@ written_as G H so most run run' at at' h = record { places = h.places; good = so
 
 -- the carried variable that is read from a cell
 pub carried-read : (m : Model) → WellFormed m → (v : ℕ) → v < limit.carried → get_or m.carried v 0 ≡ carried_at m v
-carried-read m wf v l = any-default m.carried v 0 limit.none (omega (arith, carried-cells m wf))
+carried-read m wf v l = get_or_default m.carried v 0 limit.none (omega (arith, carried-cells m wf))
 
 -- STAGE k of a well-formed model, with names of its own for its variables
 module _ (m : Model) (wf : WellFormed m) (k : ℕ) (here : k < m.stagecount) where
@@ -96,7 +97,7 @@ module _ (m : Model) (wf : WellFormed m) (k : ℕ) (here : k < m.stagecount) whe
   variable-in v e = in-vars v (rw (stage-here m wf k here) at e)
 
   pub not-variable : (v : ℕ) → ((x : ℕ) → x < st.variables → number_in st x ≢ v) → elem v (vars (get_or (question_of m) k [])) ≡ false
-  not-variable v h = ⊎_elim (λ e. let t = variable-in v e in absurd (h t.0 t.1 (sym t.2))) (λ e. e) (either (elem v (vars (get_or (question_of m) k []))))
+  not-variable v h = ⊎_elim (λ e. let t = variable-in v e in absurd (h t.0 t.1 (sym t.2))) (λ e. e) (cases_Bool (elem v (vars (get_or (question_of m) k []))))
 
   -- a stage's numbers
   pub few-variables : st.variables ≤ 3

@@ -1,10 +1,11 @@
 -- The two carried variables, and on which levels they have objects.
 use mathlib.Core.Path.{◌≡◌, refl, sym, ◌∙◌, subst, fun_ext}
 use mathlib.Core.Logic.{⊎_elim, ◌≢◌}
-use mathlib.Core.Bool.{Bool, true, false, ◌||◌}
+use mathlib.Core.Bool.{Bool, true, false, ◌||◌, and-false}
 use mathlib.Core.Option.{Option}
 use Prim.Native.Nat.{ℕ, zero, suc, ◌+◌, ◌-◌, ◌<◌}
 use lib.ListN.{length}
+use Rattle.std.proofs.lemmas.Bool.{cases_Bool}
 use Rattle.std.specs.Bool.{MatchBool}
 use Rattle.std.specs.List.{range_with_len, AllWithin, HoldsAt}
 use Rattle.std.proofs.lemmas.List.FromFn.{length-range_with_len, get_or-range_with_len}
@@ -15,7 +16,7 @@ use Rattle.semantics.specs.Models.{shared}
 use Rattle.semantics.specs.Runs.{nobody}
 use Rattle.semantics.specs.Walkers as walkers
 use Rattle.semantics.specs.Walkers.{but}
-use Rattle.semantics.proofs.Tools.{either, same?, and-false, or_right}
+use Rattle.semantics.proofs.Tools.{same?, or_right}
 use Rattle.model.specs.declared.Model.{Model}
 use Rattle.model.specs.Records.{question_of, carried_at}
 use Rattle.model.specs.WellFormed.{WellFormed}
@@ -59,7 +60,7 @@ module _ (m : Model) (wf : WellFormed m) where
   chosen-followed v zero = refl
   chosen-followed v (suc i) = ⊎_elim
       (λ (z : holder m v i ≡ true). rw (chosen-followed v i, z, carried-own m wf v i z) refl)
-      (λ (z : holder m v i ≡ false). rw (chosen-followed v i, z, and-false (shared (question_of m) (carried_at m v))) refl) (either (holder m v i))
+      (λ (z : holder m v i ≡ false). rw (chosen-followed v i, z, and-false (shared (question_of m) (carried_at m v))) refl) (cases_Bool (holder m v i))
 
   -- IN ORDER: where the second is there, the first is
   pub first-there : (i : ℕ) → chosen m 1 i ≡ true → chosen m 0 i ≡ true
