@@ -1,5 +1,5 @@
 -- WHAT THE ANALYSIS OF A PROGRAM AND A QUESTION ANSWERS, and what it leaves in the work area and the run table.
-use Rattle.std.specs.Prelude.{◌≡◌, List, [], ◌∷◌, ◌++◌, map, ℕ, ◌-◌, ◌≤◌, length, take, drop, get_or, replicate}
+use Rattle.std.specs.Prelude.{◌≡◌, List, [], ◌∷◌, ◌++◌, map, ℕ, ◌-◌, ◌≤◌, length, take, drop, slice_index, replicate}
 use Rattle.std.proofs.Math.Option.{some}
 use Rattle.limits.specs.Limits as limit
 use Rattle.semantics.specs.Models.{Program, Question}
@@ -34,7 +34,7 @@ pub record Shown (P : Program) (Q : Question) (run run' : List ℕ) (n : ℕ) (p
   pub objects : List ℕ
   pub ends : places ≡ before ++ (meet (length Q) objects ∷ [])
   pub meeting : stands_for place ≡ some (meet (length Q) objects)
-  pub last : place ≡ placed (get_or run' (n - 1) 0)
+  pub last : place ≡ placed (slice_index run' (n - 1))
   -- demand 3
   pub playing : PlayingOn P Q limit.run places
 

@@ -1,5 +1,5 @@
 -- THE NUMBERS OF ANSWERS: kind × 2^32 + value; of what is shown: where it begins × 2^32, and what else there is to say of it.
-use Rattle.std.specs.Prelude.{cond, Option, Some, None, Result, Ok, Err, ℕ, ◌+◌, ◌*◌}
+use Rattle.std.specs.Prelude.{if◌then◌else◌, Option, Some, None, Result, Ok, Err, ℕ, ◌+◌, ◌*◌}
 use Rattle.rows.specs.Rows.{number_of}
 use Rattle.rows.specs.declared.Refusal.{Refusal}
 use Rattle.words.specs.Words.{code, refusal}
@@ -21,7 +21,7 @@ abbrev pub marked : Result Mark Refusal → ℕ
 marked (Err x) = refusal (number_of x.row) x.line
 marked (Ok (Unreadable l)) = code 5 l
 marked (Ok Right) = code 6 0
-marked (Ok (Other reached)) = code 7 (cond reached 1 0)
+marked (Ok (Other reached)) = code 7 (if reached then 1 else 0)
 marked (Ok (Breaks place l)) = code 8 (place * 65536 + l)
 
 -- A PART OF A LINE: where it begins, and where it ends

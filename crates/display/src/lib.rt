@@ -1,7 +1,7 @@
 // What is declared, and what stands on a line, for display.
 #![tactic(auto)]
 
-ghost use Rattle.std.specs.Prelude.{◌≡◌, ◌<◌, get_or};
+ghost use Rattle.std.specs.Prelude.{◌≡◌, ◌<◌, slice_index};
 ghost use Rattle.limits.specs.Limits as limit;
 ghost use Rattle.model.specs.Records.{name_of};
 ghost use Rattle.grammar.specs.Texts.{outcome};
@@ -24,7 +24,7 @@ pub struct Declaration {
 // Declared relation i of a model.
 fn recorded(m: &Model, i: usize) -> Declaration
     requires { i < limit.declared }
-    ensures { (result.from ≡ (name_of m.now i).start) × (result.size ≡ (name_of m.now i).len) × (result.code ≡ get_or m.now.relations.codes i 0) }
+    ensures { (result.from ≡ (name_of m.now i).start) × (result.size ≡ (name_of m.now i).len) × (result.code ≡ slice_index m.now.relations.codes i) }
 {
     let name = m.names[i];
     Declaration {

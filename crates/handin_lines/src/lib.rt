@@ -1,7 +1,7 @@
 // One line of a hand-in, without its byte 10. Each reader takes what is left of the line.
 #![tactic(auto)]
 
-ghost use Rattle.std.specs.Prelude.{◌≡◌, MatchOption, cond, ◌+◌, ◌-◌, ◌*◌, ◌≤◌, ◌<◌, length, drop};
+ghost use Rattle.std.specs.Prelude.{◌≡◌, MatchOption, if◌then◌else◌, ◌+◌, ◌-◌, ◌*◌, ◌≤◌, ◌<◌, length, drop};
 ghost use Rattle.std.proofs.Math.Option.{none, some};
 ghost use Rattle.limits.specs.Limits as limit;
 ghost use Rattle.model.specs.declared.Place.TheVariants.{Meeting};
@@ -42,7 +42,7 @@ fn ends(line: &[u8]) -> bool
 // Whether words are next, up to the end of the line.
 // The walk stays a `while`: each word begins where the one before it ends.
 fn is_words(line: &[u8]) -> bool
-    ensures { whole (atomic_rest line.now) ≡ cond result (some nothing) none }
+    ensures { whole (atomic_rest line.now) ≡ (if result then some nothing else none) }
 {
     let mut left = line;
     while at_byte(left, 0, b' ') {
@@ -116,7 +116,7 @@ fn read_object(line: &[u8]) -> Option<Number<'_>>
 
 // What is left of a `states` line after its first word.
 fn is_number(line: &[u8]) -> bool
-    ensures { whole (states_rest line.now) ≡ cond result (some nothing) none }
+    ensures { whole (states_rest line.now) ≡ (if result then some nothing else none) }
 {
     match read_number(line) {
         Some(n) => ends(n.rest),

@@ -1,7 +1,7 @@
 // The accepted lines, lent on as a row of clause records and read one at a time.
 #![tactic(auto)]
 
-ghost use Rattle.std.specs.Prelude.{◌≡◌, cond, ltb, length, get_or};
+ghost use Rattle.std.specs.Prelude.{◌≡◌, if◌then◌else◌, nat_lt, length, slice_index_or};
 ghost use Rattle.grammar.specs.Texts.{outcome};
 ghost use Rattle.lines.specs.Lines.{nothing, recorded, line_at};
 
@@ -23,7 +23,7 @@ fn describe(c: Clause) -> u64
 // Clause i of the row, from 0; 0 where there is none.
 // 0 stays for no clause, as at `line`.
 fn describe_at(row: &[Clause], i: usize) -> u64
-    ensures { result ≡ cond (ltb i (length row.now)) (recorded (get_or row.now i nothing)) 0 }
+    ensures { result ≡ (if nat_lt i (length row.now) then recorded (slice_index_or row.now i nothing) else 0) }
 {
     match row.get(i) {
         Some(c) => describe(*c),

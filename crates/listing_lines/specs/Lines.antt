@@ -1,5 +1,5 @@
 -- THE LISTING: "one form a line", ended by byte 10.
-use Rattle.std.specs.Prelude.{Bool, true, false, cond, List, [], ◌∷◌, ◌++◌, map, ℕ, zero, suc, ◌+◌, ◌≤◌, ◌<◌, ◌*◌, length, get_or}
+use Rattle.std.specs.Prelude.{Bool, true, false, if◌then◌else◌, List, [], ◌∷◌, ◌++◌, map, ℕ, zero, suc, ◌+◌, ◌≤◌, ◌<◌, ◌*◌, length, slice_index}
 use Rattle.std.proofs.Math.Option.{Option, none, some}
 use Rattle.std.proofs.Math.Seq.{slice}
 use Rattle.limits.specs.Limits as limit
@@ -26,7 +26,7 @@ name_at text m i = slice (name_of m i).start ((name_of m i).start + (name_of m i
 -- the names of those of the first i declared relations that are in the set s, "in order of declaration"
 abbrev pub names_in : List ℕ → Model → ℕ → ℕ → List (List ℕ)
 names_in text m s zero = []
-names_in text m s (suc i) = names_in text m s i ++ cond (has s (get_or m.relations.codes i 0)) (name_at text m i ∷ []) []
+names_in text m s (suc i) = names_in text m s i ++ (if has s (slice_index m.relations.codes i) then name_at text m i ∷ [] else [])
 
 -- what acceptance guarantees of the names: each stands in the text, and "is 1 to 16 letters or digits"
 pub record Named (text : List ℕ) (m : Model) : Type 0 where

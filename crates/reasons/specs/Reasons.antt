@@ -1,5 +1,5 @@
 -- WHY A PLACE IS NOT ALLOWED.
-use Rattle.std.specs.Prelude.{Option, Some, ◌≡◌, ◌≢◌, true, List, ℕ, suc, ◌≤◌, ◌<◌, length, get_or}
+use Rattle.std.specs.Prelude.{Option, Some, ◌≡◌, ◌≢◌, true, List, ℕ, suc, ◌≤◌, ◌<◌, length, slice_index}
 use Rattle.std.proofs.Math.Option.{some}
 use Rattle.limits.specs.Limits as limit
 use Rattle.semantics.specs.Models.{elem, Line, rule, new, next, other, Program, line, Question, vars, names}
@@ -101,7 +101,7 @@ Swapped g number carried c = (carried ≢ limit.none) × ((x : ℕ) × (x < g.va
 
 -- the choice has another object than the carried one for some carried variable, whose numbers are ns
 abbrev pub AnySwapped : List ℕ → Stage → List ℕ → Choice → Type 0
-AnySwapped ns g carried c = (v : ℕ) × (v < limit.carried) × Swapped g (get_or ns v 0) (get_or carried v 0) c
+AnySwapped ns g carried c = (v : ℕ) × (v < limit.carried) × Swapped g (slice_index ns v) (slice_index carried v) c
 
 -- there is no object, or it lies beyond the objects of a database
 abbrev pub Absent : Option ℕ → ℕ → Type 0

@@ -1,5 +1,5 @@
 -- PASSING A STAGE row by row, with the variables numbered within the stage.
-use Rattle.std.specs.Prelude.{◌≡◌, ◌↔◌, ◌≢◌, Bool, true, false, cond, Option, None, Some, is_some, unwrap_or, IfSome, List, ℕ, zero, suc, ◌+◌, ◌≤◌, ◌<◌, ltb, length, take, get_or}
+use Rattle.std.specs.Prelude.{◌≡◌, ◌↔◌, ◌≢◌, Bool, true, false, if◌then◌else◌, Option, None, Some, is_some, unwrap_or, IfSome, List, ℕ, zero, suc, ◌+◌, ◌≤◌, ◌<◌, nat_lt, length, take, slice_index_or}
 use Rattle.limits.specs.Limits as limit
 use Rattle.semantics.specs.Facts.{Database}
 use Rattle.semantics.specs.Tables.{Shows, seat}
@@ -87,13 +87,13 @@ pub record Ready (w slots : List ℕ) (n : ℕ) (literals : List ℕ) (t : Meeti
 
 -- the variable of number x as a stage has it
 abbrev pub walker_of : Stage → ℕ → Bool → Walker
-walker_of g x c = let y = seat x (take g.variables g.numbers) in record { seat = cond (ltb y g.variables) (Some y) None; chosen = c }
+walker_of g x c = let y = seat x (take g.variables g.numbers) in record { seat = if nat_lt y g.variables then Some y else None; chosen = c }
 
 abbrev pub meeting_of : Stage → List ℕ → Bool → Bool → Option (List ℕ) → Meeting
 meeting_of g carried c d p = record {
   part = part_of g;
-  first = walker_of g (get_or carried 0 limit.none) c;
-  second = walker_of g (get_or carried 1 limit.none) d;
+  first = walker_of g (slice_index_or carried 0 limit.none) c;
+  second = walker_of g (slice_index_or carried 1 limit.none) d;
   pointing = p;
 }
 

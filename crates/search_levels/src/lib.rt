@@ -1,7 +1,7 @@
 // The levels of a question: in which states the carried objects can be with so many stages met, pair by pair, by who can come from which state to which.
 #![tactic(auto)]
 
-ghost use Rattle.std.specs.Prelude.{◌≡◌, ◌↔◌, true, cond, ◌&&◌, ◌||◌, ℕ, suc, ◌+◌, ◌*◌, ◌≤◌, ◌<◌, eqb, length, MatchOption, IfSome};
+ghost use Rattle.std.specs.Prelude.{◌≡◌, ◌↔◌, true, if◌then◌else◌, ◌&&◌, ◌||◌, ℕ, suc, ◌+◌, ◌*◌, ◌≤◌, ◌<◌, ◌==◌, length, MatchOption, IfSome};
 ghost use Rattle.limits.specs.Limits as limit;
 ghost use Rattle.model.specs.Records.{stage_at};
 ghost use Rattle.model.specs.WellFormed.{WellFormed};
@@ -78,7 +78,7 @@ fn asked_at(p: Option<[u8; BYTES]>, k: usize) -> Option<[u8; BYTES]>
 // The choice with slot e for the variable, where it stands in the stage.
 fn seated(c: Choice, a: Walker, e: usize) -> Choice
     requires { stands a ≡ true → place a < limit.variables }
-    ensures { (x : ℕ) → x < limit.variables → element_of result x ≡ cond (stands a && eqb x (place a)) (Some e) (element_of c x) }
+    ensures { (x : ℕ) → x < limit.variables → element_of result x ≡ (if stands a && x == place a then Some e else element_of c x) }
 {
     match a.seat {
         Some(v) => facts_candidates::choose(c, v, e),

@@ -1,5 +1,5 @@
 -- THE TABLE OF CHOICES: what is said of each choice by its number, and how a decided one settles others. What an answer means is said in `striking`.
-use Rattle.std.specs.Prelude.{◌≡◌, ◌≢◌, Option, None, Some, MatchOption, Bool, false, cond, List, ℕ, ◌^◌, ◌≤◌, ◌<◌, eqb, length, get_or, unwrap_or}
+use Rattle.std.specs.Prelude.{◌≡◌, ◌≢◌, Option, None, Some, MatchOption, Bool, false, if◌then◌else◌, List, ℕ, ◌^◌, ◌≤◌, ◌<◌, ◌==◌, length, slice_index_or, unwrap_or}
 use Rattle.std.specs.Int.Bits.{bit_and}
 use Rattle.limits.specs.Limits as limit
 use Rattle.semantics.specs.Models.{Program, Question}
@@ -17,7 +17,7 @@ use Rattle.strike_table.specs.declared.Table.{Table}
 
 -- what is said of choice k of a table
 abbrev pub said_of : List (Option Bool) → ℕ → Option Bool
-said_of said k = get_or said k None
+said_of said k = slice_index_or said k None
 
 -- what is said of a choice is right: whether it is reached, or nothing
 abbrev pub Told : Program → Question → Option Bool → Type 0
@@ -26,12 +26,12 @@ Told P Q (Some b) = Verdict P Q b
 
 -- choice n, which is reached or not, settles choice k: n is reached and strikes all that k strikes, or it is unreached and k strikes all that n strikes
 unfoldable pub settled : ℕ → Bool → ℕ → Bool
-settled n b k = cond b (eqb (bit_and k n) k) (eqb (bit_and k n) n)
+settled n b k = if b then bit_and k n == k else bit_and k n == n
 
 -- b is said of all choices that n settles, and of the others what was said
 pub record Marked (n : ℕ) (b : Bool) (said said' : List (Option Bool)) : Type 0 where
   pub long : length said' ≡ length said
-  pub each : (k : ℕ) → k < length said → said_of said' k ≡ cond (settled n b k) (Some b) (said_of said k)
+  pub each : (k : ℕ) → k < length said → said_of said' k ≡ (if settled n b k then Some b else said_of said k)
 
 module _ (P : Program) (Q : Question) (xs : List ℕ) where
   -- what is said of the choices of the lines xs is right

@@ -1,5 +1,5 @@
 -- The variables of the `ask` line that a table stands for.
-use Rattle.std.specs.Prelude.{◌≡◌, cond, List, [], ◌∷◌, ◌++◌, map, ℕ, ◌+◌, ◌≤◌, ltb, length, take, Option, Some, None}
+use Rattle.std.specs.Prelude.{◌≡◌, if◌then◌else◌, List, [], ◌∷◌, ◌++◌, map, ℕ, ◌+◌, ◌≤◌, nat_lt, length, take, Option, Some, None}
 use Rattle.std.proofs.Math.Seq.{slice}
 use Rattle.limits.specs.Limits as limit
 use Rattle.semantics.specs.Models.{elem, only}
@@ -16,7 +16,7 @@ marked t = only (scopes.mark t) (up_from 0 limit.asked)
 
 -- THE CARRIED VARIABLES that the table tells, if there are no more than cells
 abbrev pub carriers_of : Scope limit.asked → Option (List ℕ)
-carriers_of t = cond (ltb limit.carried (length (marked t))) None (Some (padded limit.carried (marked t)))
+carriers_of t = if nat_lt limit.carried (length (marked t)) then None else Some (padded limit.carried (marked t))
 
 -- the words of a stage, each once
 abbrev pub own : List Literal → List Word
@@ -30,7 +30,7 @@ each (q ∷ qs) = own q ++ each qs
 -- the words that stand in ws although they were seen before, in order
 abbrev pub repeated : List Word → List Word → List Word
 repeated seen [] = []
-repeated seen (w ∷ ws) = cond (member w seen) (w ∷ repeated seen ws) (repeated (seen ++ (w ∷ [])) ws)
+repeated seen (w ∷ ws) = if member w seen then w ∷ repeated seen ws else repeated (seen ++ (w ∷ [])) ws
 
 -- THE TABLE HOLDS the words ws, the variables of the stages so far, each once for each stage
 pub record Holds (text : List ℕ) (t : Scope limit.asked) (ws : List Word) : Type 0 where
