@@ -96,9 +96,6 @@ spaced-first line i e h l = let z : e - i ≡ suc (e - (i + 1)) = omega arith in
 pub same-behind : (line : List ℕ) (i x : ℕ) (w : Word) → BehindEnd line i x → same w (take (x - (i + 1)) (drop (i + 1) line)) ≡ member w (behind_at line i)
 same-behind line i x w v = rw (v.read, member-one w (slice (i + 1) x line), slice-part line (i + 1) x (omega (arith, v.begins)))
 
-pub same-head : (line : List ℕ) (h : Span) (w : Word) → h.from < h.to → same w (take (h.to - h.from) (drop h.from line)) ≡ member w (heading line (Some h))
-same-head line h w k = rw (member-one w (slice h.from h.to line), slice-part line h.from h.to (omega arith))
-
 -- whether the word stands behind one of the n bytes from i on
 pub stands-any : (line : List ℕ) (w : Word) (n i : ℕ) → i + n ≤ length line → list_any (λ k. member w (behind_at line k)) (range_with_len i n) ≡ member w (spaced n (drop i line))
 unfolding behind_at

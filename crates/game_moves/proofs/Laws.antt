@@ -29,7 +29,7 @@ use Rattle.search_states.proofs.Laws.{length-row, row-full}
 use Rattle.search_states.proofs.Seats.{seat-absent}
 use Rattle.search_ways.specs.Moves.{matrix_bytes, Marks, None, With, CanTake}
 use Rattle.search_ways.specs.Steps.{Turns}
-use Rattle.search_ways.proofs.Marking.{marks-none, marks-so, marks-same, marks-bit, marks_then}
+use Rattle.search_ways.proofs.Marking.{marks-none, marks-so, marks-bit, marks_then}
 use Rattle.search_ways.proofs.Stepping.{can-takes, takes-can}
 use Rattle.game_moves.specs.Own.{Own, Goes, OwnBelow}
 
@@ -61,9 +61,6 @@ seat-state S one full t l = ⊎_elim
 module _ (table : List ℕ) (i : ℕ) (S : Database) (plus minus : ℕ) where
   abbrev pub GoesBelow : ℕ → ℕ → ℕ → Type 0
   GoesBelow k e t = (e < k) × Goes table i S (Next plus minus) e t
-
-  pub goes_none : (w : List ℕ) → Marks w (With w (GoesBelow 0))
-  goes_none w = marks-same w (GoesBelow 0) (λ e t q. omega (arith, q.0))
 
   module _ (k : ℕ) (w₀ w : List ℕ) (m : Marks w (With w₀ (GoesBelow k))) where
     pub goes-more : k < length S → in_row table i k ≡ true → (t : ℕ) → t ≡ seat (relabel (state S k) plus minus) S → t < width.slots → (k * width.bits + t) / 8 < length w → Marks (with_bit w (k * width.bits + t)) (With w₀ (GoesBelow (k + 1)))

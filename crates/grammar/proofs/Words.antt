@@ -175,12 +175,6 @@ pub marks-all : (S vs : List Word) → all_marked (marks S vs) ≡ among S vs
 marks-all S [] = refl
 marks-all S (v ∷ vs) = rw (marks-all S vs)
 
-pub place-le : (x : Word) (a : List Word) → place a x ≤ length a
-place-le x a = ⊎_elim (λ (q : member x a ≡ true). let h = place-below x a q in omega arith) (λ (q : member x a ≡ false). let h = place_none x a q in omega arith) (cases_Bool (member x a))
-
-pub place-full : (x : Word) (a : List Word) → length a ≤ place a x → member x a ≡ false
-place-full x a h = ⊎_elim (λ (q : member x a ≡ true). absurd (let k = place-below x a q in omega arith)) (λ q. q) (cases_Bool (member x a))
-
 pub place-own : (x : Word) (vs : List Word) → place (extend vs (x ∷ [])) x ≡ place vs x
 unfolding extend place
 place-own x vs = ⊎_elim (λ (q : member x vs ≡ true). rw q)

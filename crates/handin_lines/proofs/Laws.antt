@@ -10,12 +10,12 @@ use Rattle.std.specs.Prelude.{Some, None}
 use Rattle.std.specs.Cmp.Lexicographic.{pointwise}
 use Rattle.std.specs.Option.{MatchOption}
 use denote.Ref.{Bor}
-use Prim.Native.Nat.{ℕ, zero, suc, ◌+◌, ◌-◌, ◌*◌, ◌≤◌, ◌<◌}
+use Prim.Native.Nat.{ℕ, zero, suc, ◌+◌, ◌-◌, ◌≤◌, ◌<◌}
 use native.Mathlib.Omega.{arith}
 use lib.Dec.{eqb}
 use lib.ListN.{length, take, drop, get_or, length-drop}
 use lib.Seq.{length-slice, take-length}
-use borrow.Author.Tests.{lt-leb, le-leb, lt-ltb, le-ltb, eqb-true, eqb-false, eq-eqb, ne_eqb}
+use borrow.Author.Tests.{le-leb, lt-ltb, le-ltb, eqb-true, eqb-false, eq-eqb, ne_eqb}
 use Rattle.grammar.specs.Bytes.{bytes, digit, Word}
 use Rattle.grammar.specs.Shapes.{Read, ◌>>=◌, after, word, rest, whole}
 use Rattle.grammar.proofs.Tests.{clash, and_left, and_right}
@@ -31,12 +31,6 @@ use Rattle.handin_lines.specs.declared.Number.{Number}
 module _ (b : ℕ) where
   pub digit-yes : 48 ≤ b → b ≤ 57 → digit b ≡ true
   digit-yes h k = rw (le-leb 48 b h, le-leb b 57 k)
-
-  digit_low : b < 48 → digit b ≡ false
-  digit_low h = rw (lt-leb 48 b h)
-
-  digit-high : 57 < b → digit b ≡ false
-  digit-high h = rw (le-leb 48 b (omega arith), lt-leb b 57 h)
 
 -- what is left from a place on
 pub left-from : (line : List ℕ) (i : ℕ) → take (length line - i) (drop i line) ≡ drop i line
@@ -71,9 +65,6 @@ module _ (line : List ℕ) where
       (λ (q : eqb (length line) 1 ≡ false). rw (q, next line 1 (omega (arith, eqb-false (length line) 1 q))))
       (cases_Bool (eqb (length line) 1)))
 
-  pub ends-not : after (bytes ")") line ≡ none → false ≡ last (after (bytes ")") line)
-  ends-not e = rw e
-
 pub whole-last : {A : Type 0} (x : A) (o : Option (List ℕ)) → whole (o >>= λ t. some (x, t)) ≡ cond (last o) (some x) none
 whole-last x none = refl
 whole-last x (some []) = refl
@@ -90,36 +81,6 @@ pub record DigitsSo (line : List ℕ) (v i : ℕ) : Type 0 where
 
 pub digits-start : (line : List ℕ) → DigitsSo line 0 0
 digits-start line = record { ends = omega arith; count = omega arith; left = refl; sum = 0; value = refl; read = refl }
-
-module _ {line : List ℕ} {v i : ℕ} (so : DigitsSo line v i) where
-  pub digits_more : {w : ℕ} → i < length line → 48 ≤ get_or line i 0 → get_or line i 0 ≤ 57 → w ≡ cut (v * 10 + (get_or line i 0 - 48)) → DigitsSo line w (i + 1)
-  digits_more {w} h p q e =
-      let b = get_or line i 0 in
-      record {
-        ends = omega arith;
-        count = (let z = so.count in rw (next line i h, digit-yes b p q) at z) ∙ omega arith;
-        left = so.left ∙ rw (next line i h, digit-yes b p q);
-        sum = so.sum * 10 + (b - 48);
-        value = omega (arith, so.value);
-        read = so.read ∙ rw (next line i h, digit-yes b p q);
-      }
-
-  module _ {r : Number} (e : r.value ≡ v) (d : r.rest.now ≡ drop i line) where
-    digits-stop : digits (drop i line) ≡ [] → after_digits (drop i line) ≡ drop i line → DigitsEnd line r
-    digits-stop p q = record {
-      count = rw d (omega (arith, so.ends, so.count, ap length p, length-drop i line));
-      left = so.left ∙ q ∙ sym d;
-      value = e ∙ so.value ∙ ap cut (sym (so.read ∙ rw p));
-    }
-
-    pub digits_low : i < length line → get_or line i 0 < 48 → DigitsEnd line r
-    digits_low h p = digits-stop (rw (next line i h, digit_low (get_or line i 0) p)) (rw (next line i h, digit_low (get_or line i 0) p))
-
-    pub digits-high : i < length line → 57 < get_or line i 0 → DigitsEnd line r
-    digits-high h p = digits-stop (rw (next line i h, digit-high (get_or line i 0) p)) (rw (next line i h, digit-high (get_or line i 0) p))
-
-  pub digits-all : {r : Number} → r.value ≡ v → r.rest.now ≡ [] → length line ≤ i → DigitsEnd line r
-  digits-all e d h = let z = no_bytes line i h in digits-stop e (d ∙ sym z) (rw z) (rw z)
 
 -- NUMERALS
 no_number : (s : List ℕ) → is_numeral (digits s) ≡ false → number s ≡ none

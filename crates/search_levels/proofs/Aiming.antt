@@ -62,14 +62,8 @@ module _ (S w literals : List ℕ) (part : Part) (c : Choice) where
 
   -- WITH MORE ASKED OF VARIABLE 0
   module _ (p : Option (List ℕ)) (r : Bool) (tells : Tells S w (body_at literals part.first part.count) part.variables c r) where
-    -- nothing fits,
-    pub pointed-none : r ≡ false → Holding S w literals part c (Aimed p) → ⊥
-    pointed-none q h = clash (tells.1 (h.0, h.1, h.2)) q
 
     module _ (told : r ≡ true) where
-      -- or nothing more is asked,
-      pub pointed-free : p ≡ None → Holding S w literals part c (Aimed p)
-      pointed-free q = let z = tells.0 told in (z.0, z.1, z.2, rw q tt)
 
       -- or its slot is fixed,
       pub pointed-fixed : (among : List ℕ) → p ≡ Some among → 0 < part.variables → (e : ℕ) → c.first ≡ Some e → (bit_at among e ≡ true) ↔ Holding S w literals part c (Aimed p)
@@ -80,10 +74,6 @@ module _ (S w literals : List ℕ) (part : Part) (c : Choice) where
         where
           at : (σ : ℕ → ℕ) → Fixed part.variables c σ → σ 0 ≡ e
           at σ f = f 0 some e l
-
-  -- or it is in the row
-  pub pointed-row : (p : Option (List ℕ)) (among : List ℕ) → p ≡ Some among → (b : Bool) → (b ≡ true) ↔ Holding S w literals part c (λ σ. bit_at among (σ 0) ≡ true) → (b ≡ true) ↔ Holding S w literals part c (Aimed p)
-  pointed-row p among g b h = rw g h
 
 -- the pair's slots are small
 pub seated-small : (c r : Choice) (a : Walker) (e : ℕ) → e ≤ limit.none → ((x : ℕ) → x < limit.variables → element_of r x ≡ cond (stands a && eqb x (place a)) (Some e) (element_of c x)) → chosen c 0 ≤ limit.none → chosen r 0 ≤ limit.none

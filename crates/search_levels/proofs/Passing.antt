@@ -12,7 +12,7 @@ use Rattle.limits.specs.Limits as limit
 use Rattle.semantics.specs.Facts.{Database}
 use Rattle.semantics.proofs.Tools.{clash}
 use Rattle.facts_bits.specs.Width as width
-use Rattle.facts_bits.specs.Bits.{bit_at, Both, Empty}
+use Rattle.facts_bits.specs.Bits.{bit_at, Both}
 use Rattle.facts_bits.proofs.Laws.{full-bits}
 use Rattle.facts_candidates.specs.declared.Choice.{Choice}
 use Rattle.facts_candidates.specs.Choices.{element_of}
@@ -75,12 +75,6 @@ module _ (S w literals : List ℕ) (t : Meeting) (row : List ℕ) (f : ℕ) wher
   any-first : stands t.first ≡ false → (d e : ℕ) → Met S w literals t d f → Met S w literals t e f
   any-first s d e h = (h.0, h.1, rw s tt, h.3, h.4)
 
-  pub met-empty : Empty row true → Has row Kept
-  met-empty z = record { bits = λ e l. ((λ q. clash q (z.none refl e)), λ q. q.0) }
-
-  pub met-kept : stands t.first ≡ false → Met S w literals t 0 f → Has row Kept
-  met-kept s h = record { bits = λ e l. ((λ q. (q, any-first s 0 e h)), λ q. q.0) }
-
   pub met-none : stands t.first ≡ false → (Met S w literals t 0 f → ⊥) → Has (replicate width.bytes 0) Kept
   met-none s h = has-nothing Kept (λ e l q. h (any-first s e 0 q.1))
 
@@ -121,10 +115,6 @@ module _ (S w literals ways : List ℕ) (t : Meeting) (A : ℕ → ℕ → Bool)
       (λ q. ((z.0 q.0).0, q.1)),
       λ q. (z.1 (q.0, hoped e q), q.1),
     ))
-
-  -- where nobody is led there is no pair
-  pub paired-empty : (led : List ℕ) → Has led (λ e. Led ways t A e f) → Empty led true → Has led Paired
-  paired-empty led l z = record { bits = λ e g. ((λ q. clash q (z.none refl e)), λ q. (l.bits e g).1 q.0) }
 
   -- and none where the stage does not hold
   pub paired_none : ((e : ℕ) → Met S w literals t e f → ⊥) → Has (replicate width.bytes 0) Paired

@@ -25,13 +25,13 @@ use Rattle.std.specs.Prelude.{Ok, Err}
 use Rattle.rows.specs.Rows.{number_of}
 use Rattle.rows.specs.declared.Row.{Row}
 use Rattle.text_faults.specs.Faults.{shaped}
-use Rattle.text_scan.proofs.Laws.{next, nothing}
+use Rattle.text_scan.proofs.Laws.{nothing}
 use Rattle.text_names.specs.Names.{blank, declared_of, Valid, tally, added}
 use Rattle.text_names.specs.declared.Name.{Name}
 use Rattle.text_names.specs.declared.Declared.{Declared}
 use Rattle.text_names.proofs.Laws.{declared-added, valid-added, tally-count}
 use Rattle.text_clauses.proofs.Laws.{whole-all, whole_part}
-use Rattle.text_declarations.specs.Declares.{Limited, state_number, rel_number, next_name, Entered, DeclarationEnd, ArityAt}
+use Rattle.text_declarations.specs.Declares.{Limited, state_number, rel_number, next_name, Entered, DeclarationEnd}
 
 -- NUMBERS
 crowded : (b : Bool) → lower 4 (row 5 b) ≡ 4
@@ -191,20 +191,6 @@ state-few text d u z = ⊎_elim
 module _ (text : List ℕ) (at : ℕ) where
   pub arity-past : length text ≤ at → arity (drop at text) ≡ none
   arity-past h = rw (nothing text at h)
-
-  module _ (h : at < length text) where
-    pub arity-low : get_or text at 0 < 48 → arity (drop at text) ≡ none
-    arity-low k = rw (next text at h, lt-leb 48 (get_or text at 0) k)
-
-    pub arity-high : 48 ≤ get_or text at 0 → 50 < get_or text at 0 → arity (drop at text) ≡ none
-    arity-high l k = rw (next text at h, le-leb 48 (get_or text at 0) l, lt-leb (get_or text at 0) 50 k)
-
-    pub arity-found : 48 ≤ get_or text at 0 → get_or text at 0 ≤ 50 → ArityAt text at (get_or text at 0 - 48)
-    arity-found k l = record {
-      small = omega arith;
-      within = h;
-      read = rw (next text at h, le-leb 48 (get_or text at 0) k, le-leb (get_or text at 0) 50 l);
-    }
 
 -- `rel`
 pub rel-few : (text : List ℕ) (d : Declared) (u : Word) (n : ℕ) → rel_number (declared_of text d) u n ≡ 0 → tally 1 d.names d.count + tally 2 d.names d.count + tally 3 d.names d.count < limit.rels

@@ -24,7 +24,7 @@ use Rattle.grammar.specs.Bytes.{bytes, letter, alphanumeric, allowed, every, Lin
 use Rattle.grammar.specs.Shapes.{after, word, after_word, name}
 use Rattle.grammar.specs.Texts.{judge, bad}
 use Rattle.grammar.proofs.Tests.{clash, and_left, and_right, and_both}
-use Rattle.text_scan.specs.Found.{NextByte, NextBytes, WordEnd, NameEnd, BadLine, LineEnd}
+use Rattle.text_scan.specs.Found.{NextBytes, WordEnd, NameEnd, BadLine, LineEnd}
 
 -- PLACES
 module _ (text : List ℕ) (i : ℕ) where
@@ -59,14 +59,6 @@ or_turn false false false = refl
 pub alphanumeric-ascii : (b : ℕ) → is_ascii_alphanumeric b ≡ alphanumeric b
 unfolding alphanumeric
 alphanumeric-ascii b = or_turn (leb 65 b && leb b 90) (leb 97 b && leb b 122) (leb 48 b && leb b 57)
-
--- THE NEXT BYTES
-module _ {text : List ℕ} {at b : ℕ} where
-  pub byte-none : length text ≤ at → NextByte text at b false
-  byte-none h = record { found = λ q. clash q refl; missing = λ q. rw (nothing text at h) }
-
-  pub byte-some : at < length text → NextByte text at b (eqb b (get_or text at 0))
-  byte-some h = record { found = λ q. (h, rw (next text at h, q)); missing = λ q. rw (next text at h, q) }
 
 -- what std's test of a beginning says
 after-starts : (w s : List ℕ) → pointwise eqb w (take (length w) s) ≡ true → (length w ≤ length s) × (after w s ≡ some (drop (length w) s))
