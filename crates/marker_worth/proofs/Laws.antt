@@ -41,9 +41,7 @@ module _ (P : Program) (Q : Question) where
   -- at a place of the run, or at its end
   pub within : (s : Session) (ns : List ℕ) (j : ℕ) → Replays P Q s ns 0 (Broken j) → j ≤ length ns
   within s ns j h = ((broken P Q s ns 0 j).0 (subst (λ (k : ℕ). Replays P Q s ns 0 (Broken k)) (omega arith) h)).0
-
   -- A NO
-
   -- A YES whose run breaks
 
 -- the work area wiped twice

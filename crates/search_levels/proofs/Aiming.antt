@@ -62,9 +62,7 @@ module _ (S w literals : List ℕ) (part : Part) (c : Choice) where
 
   -- WITH MORE ASKED OF VARIABLE 0
   module _ (p : Option (List ℕ)) (r : Bool) (tells : Tells S w (body_at literals part.first part.count) part.variables c r) where
-
     module _ (told : r ≡ true) where
-
       -- or its slot is fixed,
       pub pointed-fixed : (among : List ℕ) → p ≡ Some among → 0 < part.variables → (e : ℕ) → c.first ≡ Some e → (bit_at among e ≡ true) ↔ Holding S w literals part c (Aimed p)
       pointed-fixed among g some e l = rw g (
