@@ -39,8 +39,12 @@ def functions(text):
             break
         if open_ is None:
             continue
-        end = open_
-        for i in range(open_, len(text)):
+        # A function that a trait asks for has no body.
+        bare = re.search(r";$", text[m.start():open_], re.M)
+        if bare:
+            open_ = m.start() + bare.start()
+        end = open_ - 1 if bare else open_
+        for i in range(open_, open_ if bare else len(text)):
             if text[i] == "{":
                 depth += 1
             elif text[i] == "}":

@@ -11,6 +11,7 @@ use lib.Dec.{eqb, leb, ltb}
 use lib.Pow.{pow_mono}
 use lib.ListN.{length, get_or, get_or-append}
 use borrow.Author.Tests.{eqb-true, leb-true, ltb-false}
+use Rattle.std.proofs.lemmas.Bool.{cases_Bool}
 use Rattle.limits.specs.Limits as limit
 use Rattle.semantics.specs.Models.{Literal, is, isnt, fact, Line, rule, new, next, other, Program, Question, Safe}
 use Rattle.semantics.proofs.Tools.{or-false}
@@ -22,7 +23,7 @@ use Rattle.grammar.specs.Declarations.{Declared, count, state_code, rel_code}
 use Rattle.grammar.specs.Rows.{fault}
 use Rattle.grammar.specs.Models.{declare, clause}
 use Rattle.grammar.specs.Texts.{Outcome, accepted, refused, Judged, bad, good, shaped, judge, Step, wrong, adds, asks, effect, step, finish, read_lines, outcome}
-use Rattle.grammar.proofs.Tests.{either, and_left, and_right}
+use Rattle.grammar.proofs.Tests.{and_left, and_right}
 use Rattle.grammar.proofs.Lines.{length-lines}
 use Rattle.acceptance.specs.Sound.{Each, GoodDeclarations, GoodLiteral, GoodHead, GoodClause, body_of, line_at, GoodLines, GoodQuestion, Sound}
 use Rattle.acceptance.proofs.Shapes.{read-proper}
@@ -100,7 +101,7 @@ GoodJudged (good f) = proper f ≡ true
 pub judge-good : (l : bytes.Line) → GoodJudged (judge l)
 unfolding judge
 judge-good (unended s) = tt
-judge-good (ended s) = ⊎_elim (λ (q : every allowed s ≡ true). rw q (go (form_of s) refl)) (λ (q : every allowed s ≡ false). rw q tt) (either (every allowed s))
+judge-good (ended s) = ⊎_elim (λ (q : every allowed s ≡ true). rw q (go (form_of s) refl)) (λ (q : every allowed s ≡ false). rw q tt) (cases_Bool (every allowed s))
   where
     go : (o : Option Form) → form_of s ≡ o → GoodJudged (shaped o)
     go none e = tt
@@ -141,7 +142,7 @@ module _ (n : ℕ) (D : Declared) (P : Program) (before : GoodLines n D P) (some
   step-good (bad r) p = tt
   step-good (good f) p = ⊎_elim
       (λ (q : eqb (fault D (length P) f) 0 ≡ true). rw q (effect-good f p (eqb-true (fault D (length P) f) 0 q)))
-      (λ (q : eqb (fault D (length P) f) 0 ≡ false). rw q tt) (either (eqb (fault D (length P) f) 0))
+      (λ (q : eqb (fault D (length P) f) 0 ≡ false). rw q tt) (cases_Bool (eqb (fault D (length P) f) 0))
 
 pub finish-good : (n m : ℕ) (o : Outcome) (ls : List bytes.Line) → GoodOutcome n o → n + length ls ≡ m → GoodOutcome m (finish n o ls)
 unfolding finish
@@ -181,12 +182,12 @@ nothing-good = record {
 -- THE SAFETY of a program
 safe-program : (n : ℕ) (D : Declared) (P : Program) → Each (GoodClause n D) P → Safe P
 safe-program n D [] h ℓ = tt
-safe-program n D (c ∷ P) h ℓ = ⊎_elim (λ (q : eqb ℓ c.0 ≡ true). rw q h.0.safe) (λ (q : eqb ℓ c.0 ≡ false). rw q (safe-program n D P h.1 ℓ)) (either (eqb ℓ c.0))
+safe-program n D (c ∷ P) h ℓ = ⊎_elim (λ (q : eqb ℓ c.0 ≡ true). rw q h.0.safe) (λ (q : eqb ℓ c.0 ≡ false). rw q (safe-program n D P h.1 ℓ)) (cases_Bool (eqb ℓ c.0))
 
 -- THE THEOREM
 pub accepted-sound : (text : List ℕ) (D : Declared) (P : Program) (Q : Question) → outcome text ≡ accepted D P Q → Sound (length (lines text)) D P Q
 unfolding outcome
-accepted-sound text D P Q e = go (either (eqb (length text) 0 || ltb limit.text (length text)))
+accepted-sound text D P Q e = go (cases_Bool (eqb (length text) 0 || ltb limit.text (length text)))
   where
     sound : length text ≤ limit.text → read_lines 1 [] [] (lines text) ≡ accepted D P Q → Sound (length (lines text)) D P Q
     sound l q =

@@ -12,6 +12,7 @@ use lib.Pow.{pow-lt}
 use lib.Dec.{eqb}
 use lib.ListN.{length, get_or, length-map}
 use borrow.Author.Tests.{eqb-true, not-false}
+use Rattle.std.proofs.lemmas.Bool.{cases_Bool}
 use Rattle.semantics.specs.Labels.{union, set_of}
 use Rattle.semantics.specs.Models as meaning
 use Rattle.semantics.specs.Models.{vars}
@@ -22,7 +23,6 @@ use Rattle.grammar.specs.Declarations.{is_state, arity_of, Declared, lookup, pla
 use Rattle.grammar.specs.Rows.{row, name_fault, list_fault, head_fault, plain_fault, negated_fault, literal_fault, body_fault}
 use Rattle.grammar.specs.Models.{code_of, codes, literal_of, body_of}
 use Rattle.grammar.proofs.Lower.{lower-none}
-use Rattle.grammar.proofs.Tests.{either}
 use Rattle.acceptance.specs.Sound.{Each, GoodDeclarations, DeclaredRelation, DeclaredSet, GoodLiteral}
 use Rattle.acceptance.proofs.Declarations.{row-none, found-state, found-derived}
 
@@ -49,7 +49,7 @@ head-right (some c) n e = ⊎_elim
         eqb-true n (arity_of c) (right 7 (eqb n (arity_of c)) (omega arith)
             (subst (λ (t : Bool). cond t 6 (row 7 (not (eqb n (arity_of c)))) ≡ 0) q e)),
       ),
-    )) (either (is_state c))
+    )) (cases_Bool (is_state c))
 
 pub plain-right : (o : Option ℕ) (n : ℕ) → plain_fault o n ≡ 0 → Found o (λ c. n ≡ arity_of c)
 plain-right none n e = absurd (omega arith)
@@ -59,7 +59,7 @@ pub negated-right : (o : Option ℕ) (n : ℕ) → negated_fault o n ≡ 0 → F
 negated-right none n e = absurd (omega arith)
 negated-right (some c) n e = ⊎_elim
     (λ (q : eqb n (arity_of c) ≡ true). (c, refl, (right 8 (is_state c) (omega arith) (rw q at e), eqb-true n (arity_of c) q)))
-    (λ (q : eqb n (arity_of c) ≡ false). absurd (let z = rw q at e in omega arith)) (either (eqb n (arity_of c)))
+    (λ (q : eqb n (arity_of c) ≡ false). absurd (let z = rw q at e in omega arith)) (cases_Bool (eqb n (arity_of c)))
 
 single : (xs : List ℕ) → length xs ≡ 1 → get_or xs 0 0 ∷ [] ≡ xs
 single [] e = absurd (omega arith)
@@ -101,7 +101,7 @@ module _ (D : Declared) (vs : List Word) where
       let one : length n ≡ 1 = len ∙ f.2 ∙ rw q in
       rw q ((λ good. found-state D good a.name f.0 f.1 q), single n one, single n one))
       (λ (q : is_state f.0 ≡ false). rw q ((λ good. subst (DeclaredRelation D f.0) (sym (len ∙ f.2)) (found-derived D good a.name f.0 f.1 q)), refl, refl))
-      (either (is_state f.0)))
+      (cases_Bool (is_state f.0)))
   literal-right (negated a) e =
       let f = negated-right (lookup a.name D) (length a.variables) e in
       let n = map (place vs) a.variables in

@@ -10,6 +10,7 @@ use lib.Dec.{eqb, leb}
 use lib.ListN.{length, take, get_or, get_or-append}
 use lib.Seq.{take-append-le, take-append_seam, get_or-append_seam}
 use borrow.Author.Tests.{eq-eqb, ne_eqb, leb-false, ltb-true, ltb-false}
+use Rattle.std.proofs.lemmas.Bool.{cases_Bool}
 use Rattle.limits.specs.Limits as limit
 use Rattle.semantics.proofs.Tools.{same?, or-false}
 use Rattle.model.specs.WellFormed.{index_of}
@@ -20,7 +21,7 @@ use Rattle.grammar.specs.Rows.{row, again, many_states, many_relations, fault}
 use Rattle.grammar.specs.Models.{declare}
 use Rattle.grammar.proofs.Words.{same_refl}
 use Rattle.grammar.proofs.Lower.{lower-none}
-use Rattle.grammar.proofs.Tests.{either, clash}
+use Rattle.grammar.proofs.Tests.{clash}
 use Rattle.acceptance.specs.Sound.{name_at, code_at, GoodDeclarations, DeclaredState, DeclaredRelation}
 use Rattle.acceptance.proofs.Words.{length-snoc}
 
@@ -46,8 +47,8 @@ pub count-snoc : (k : ℕ) (D : Declared) (d : Word × ℕ) → count k (D ++ (d
 unfolding count
 count-snoc k [] d = refl
 count-snoc k (e ∷ D) d = ⊎_elim
-    (λ (q : eqb (class e.1) k ≡ true). rw (q, count-snoc k D d) (⊎_elim (λ (p : eqb (class d.1) k ≡ true). rw p) (λ (p : eqb (class d.1) k ≡ false). rw p) (either (eqb (class d.1) k))))
-    (λ (q : eqb (class e.1) k ≡ false). rw (q, count-snoc k D d)) (either (eqb (class e.1) k))
+    (λ (q : eqb (class e.1) k ≡ true). rw (q, count-snoc k D d) (⊎_elim (λ (p : eqb (class d.1) k ≡ true). rw p) (λ (p : eqb (class d.1) k ≡ false). rw p) (cases_Bool (eqb (class d.1) k))))
+    (λ (q : eqb (class e.1) k ≡ false). rw (q, count-snoc k D d)) (cases_Bool (eqb (class e.1) k))
 
 module _ (D : Declared) (w : Word) (c k : ℕ) where
   pub count-more : class c ≡ k → count k (D ++ ((w, c) ∷ [])) ≡ suc (count k D)
@@ -66,7 +67,7 @@ count_at [] i k h e = absurd (omega arith)
 count_at (d ∷ D) zero k h e = rw (eq-eqb (class d.1) k e) (omega arith)
 count_at (d ∷ D) (suc i) k h e =
     let r = count_at D i k (omega arith) e in
-    ⊎_elim (λ (q : eqb (class d.1) k ≡ true). rw q (omega arith)) (λ (q : eqb (class d.1) k ≡ false). rw q r) (either (eqb (class d.1) k))
+    ⊎_elim (λ (q : eqb (class d.1) k ≡ true). rw q (omega arith)) (λ (q : eqb (class d.1) k ≡ false). rw q r) (cases_Bool (eqb (class d.1) k))
 
 one-of-four : (k a b c d n : ℕ) → k < 4 → n ≡ a + b + c + d
     → suc n ≡ cond (eqb k 0) (suc a) a + cond (eqb k 1) (suc b) b + cond (eqb k 2) (suc c) c + cond (eqb k 3) (suc d) d
@@ -89,7 +90,7 @@ unfolding lookup
 lookup-some w [] c e = absurd (let z : ◌≡◌ {A = ℕ} 0 1 = cc in omega arith)
 lookup-some w (d ∷ D) c e = ⊎_elim
     (λ (q : same w d.0 ≡ true). let e' = rw q at e in (0, omega arith, (cc)))
-    (λ (q : same w d.0 ≡ false). let r = lookup-some w D c (rw q at e) in (suc r.0, omega arith, r.2)) (either (same w d.0))
+    (λ (q : same w d.0 ≡ false). let r = lookup-some w D c (rw q at e) in (suc r.0, omega arith, r.2)) (cases_Bool (same w d.0))
 
 pub lookup-none : (w : Word) (D : Declared) → lookup w D ≡ none → (i : ℕ) → i < length D → name_at D i ≢ w
 unfolding lookup
@@ -97,7 +98,7 @@ lookup-none w [] e i h p = omega arith
 lookup-none w (d ∷ D) e zero h p = let e' = rw (← p, same_refl d.0) at e in let z : ◌≡◌ {A = ℕ} 0 1 = cc in omega arith
 lookup-none w (d ∷ D) e (suc i) h p = ⊎_elim
     (λ (q : same w d.0 ≡ true). let e' = rw q at e in let z : ◌≡◌ {A = ℕ} 0 1 = cc in omega arith)
-    (λ (q : same w d.0 ≡ false). lookup-none w D (rw q at e) i (omega arith) p) (either (same w d.0))
+    (λ (q : same w d.0 ≡ false). lookup-none w D (rw q at e) i (omega arith) p) (cases_Bool (same w d.0))
 
 -- A NAME THAT IS FOUND
 module _ (D : Declared) (good : GoodDeclarations D) (w : Word) (c : ℕ) (found : lookup w D ≡ some c) where

@@ -6,6 +6,7 @@ use native.Mathlib.Nat.{zero-add, suc-add}
 use native.Mathlib.Omega.{arith}
 use lib.ListN.{length, take, drop, get_or}
 use lib.Seq.{take-nil, take-suc, take-take, get_or-take}
+use Rattle.std.proofs.lemmas.List.{drop-take}
 use Rattle.semantics.specs.Models.{Body, Program, Question}
 use Rattle.model.specs.declared.Model.{Model}
 use Rattle.model.specs.Literals.{literal_of}
@@ -14,17 +15,11 @@ use Rattle.acceptance.proofs.WellFormed.{clause_of}
 use Rattle.acceptance.specs.Represents.{HoldsClause, HoldsStage}
 use Rattle.acceptance.specs.Growing.{Keeps}
 
--- A PART that lies before place k of the row
-take-drop : (n size : ℕ) (row : List ℕ) → take size (drop n row) ≡ drop n (take (n + size) row)
-take-drop zero size row = rw zero-add
-take-drop (suc n) size [] = rw (take-nil size, take-nil (suc n + size))
-take-drop (suc n) size (x ∷ row) = rw suc-add (take-drop n size row)
-
 body_kept : (k first size : ℕ) (row row' : List ℕ) → take k row' ≡ take k row → first + size ≤ k → body_at row' first size ≡ body_at row first size
 body_kept k first size row row' e h = ap (map literal_of) (
-    take-drop first size row'
+    sym (drop-take first size row')
     ∙ ap (drop first) (sym (take-take (first + size) k row' h) ∙ ap (take (first + size)) e ∙ take-take (first + size) k row h)
-    ∙ sym (take-drop first size row))
+    ∙ drop-take first size row)
 
 -- an element before place k
 get_d_kept : {A : Type 0} (k : ℕ) (xs ys : List A) (i : ℕ) (d : A) → i < k → take k xs ≡ take k ys → get_or xs i d ≡ get_or ys i d

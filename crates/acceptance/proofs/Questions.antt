@@ -8,6 +8,7 @@ use native.Mathlib.Omega.{arith}
 use lib.Dec.{eqb, leb, ltb}
 use lib.ListN.{length, length-map}
 use borrow.Author.Tests.{eq-eqb, ne_eqb, leb-true, ltb-true, ltb-false}
+use Rattle.std.proofs.lemmas.Bool.{cases_Bool}
 use Rattle.limits.specs.Limits as limit
 use Rattle.semantics.specs.Models as meaning
 use Rattle.semantics.specs.Models.{elem, shared, firsts, standing, only, carriers, SafeQuestion}
@@ -21,7 +22,7 @@ use Rattle.grammar.specs.Rows.{row, lower, body_fault, scope_fault, stages_fault
 use Rattle.grammar.specs.Models.{body_of, question_of}
 use Rattle.grammar.proofs.Words.{same_refl, same-eq, member-append, member-left, member_right, place-below, extend-new}
 use Rattle.grammar.proofs.Lower.{lower-none}
-use Rattle.grammar.proofs.Tests.{either, clash, and_left, and_right}
+use Rattle.grammar.proofs.Tests.{clash, and_left, and_right}
 use Rattle.acceptance.specs.Sound.{Each, GoodDeclarations, GoodStage, GoodQuestion}
 use Rattle.acceptance.proofs.Words.{member-here, news, extend-news, news-both, place-injective}
 use Rattle.acceptance.proofs.Declarations.{row-none}
@@ -41,7 +42,7 @@ module _ (vs : List Word) where
   number_same w v h k = ⊎_elim
       (λ (q : same w v ≡ true). rw q (eq-eqb (place vs w) (place vs v) (ap (place vs) (same-eq w v q))))
       (λ (q : same w v ≡ false). rw q (ne_eqb (place vs w) (place vs v) (λ z. clash (subst (λ (u : Word). same w u ≡ true) (place-injective vs w v h k z) (same_refl w)) q)))
-      (either (same w v))
+      (cases_Bool (same w v))
 
   pub number-member : (w : Word) (ws : List Word) → member w vs ≡ true → Within ws → elem (place vs w) (map (place vs) ws) ≡ member w ws
   number-member w [] h k = refl
@@ -73,7 +74,7 @@ module _ (vs : List Word) where
       (λ (q : member w seen ≡ true). rw q (firsts-numbers seen ws S rest h))
       (λ (q : member w seen ≡ false). rw q (ap {B = List ℕ} (λ (l : List ℕ). place vs w ∷ l) (firsts-numbers (seen ++ (w ∷ [])) ws (place vs w ∷ S) rest
       (λ u e. rw (number_same vs u w e m, h u e, member-append u seen (w ∷ [])) (swap (same u w) (member u seen))))))
-      (either (member w seen)))
+      (cases_Bool (member w seen)))
 
 -- the words of a line have the numbers 0, 1 .. in order
 pub places-rise : (ws : List Word) → map (place (extend [] ws)) (extend [] ws) ≡ up_from 0 (length (extend [] ws))
@@ -86,7 +87,7 @@ only-carried vs f qs h [] k = refl
 only-carried vs f qs h (w ∷ ws) k = ⊎_elim
     (λ (e : leb 2 (words.stands w qs) ≡ true). rw (h w (k w (member-here w ws)), e, only-carried vs f qs h ws (within-rest vs w ws k)))
     (λ (e : leb 2 (words.stands w qs) ≡ false). rw (h w (k w (member-here w ws)), e) (only-carried vs f qs h ws (within-rest vs w ws k)))
-    (either (leb 2 (words.stands w qs)))
+    (cases_Bool (leb 2 (words.stands w qs)))
 
 stage-right : (D : Declared) (q : List Literal) (qs : List (List Literal)) → stages_fault D (q ∷ qs) ≡ 0 → (body_fault D q ≡ 0) × (scope_fault [] q ≡ 0) × (stages_fault D qs ≡ 0)
 unfolding stages_fault

@@ -8,8 +8,9 @@ use native.Mathlib.Omega.{arith}
 use lib.Dec.{eqb}
 use lib.ListN.{length}
 use borrow.Author.Tests.{eqb-true, eq-eqb, leb-true, le-ltb}
+use Rattle.std.proofs.lemmas.Bool.{or_cases}
 use Rattle.semantics.specs.Models.{elem, vars, firsts, Supported}
-use Rattle.semantics.proofs.Tools.{or-true-cases, or_right, elem-left, elem-right}
+use Rattle.semantics.proofs.Tools.{or_right, elem-left, elem-right}
 use Rattle.model.specs.Records.{up_from}
 use Rattle.model.specs.WellFormed.{Numbered}
 use Rattle.model.proofs.Numbering.{length-up_from}
@@ -30,21 +31,21 @@ elem-mapped f x [] e = absurd (false≢true e)
 elem-mapped f x (w ∷ ws) e = ⊎_elim
     (λ q. (w, member-here w ws, eqb-true x (f w) q))
     (λ q. let r = elem-mapped f x ws q in (r.0, or_right (same r.0 w) (member r.0 ws) r.1, r.2))
-    (or-true-cases (eqb x (f w)) (elem x (map f ws)) e)
+    (or_cases (eqb x (f w)) (elem x (map f ws)) e)
 
 pub mapped-elem : (f : Word → ℕ) (w : Word) (ws : List Word) → member w ws ≡ true → elem (f w) (map f ws) ≡ true
 mapped-elem f w [] e = absurd (false≢true e)
 mapped-elem f w (v ∷ ws) e = ⊎_elim
     (λ q. rw (eq-eqb (f w) (f v) (ap f (same-eq w v q))))
     (λ q. or_right (eqb (f w) (f v)) (elem (f w) (map f ws)) (mapped-elem f w ws q))
-    (or-true-cases (same w v) (member w ws) e)
+    (or_cases (same w v) (member w ws) e)
 
 all-members : (S ws : List Word) → all (λ x. member x S) ws ≡ true → (w : Word) → member w ws ≡ true → member w S ≡ true
 all-members S [] h w e = absurd (false≢true e)
 all-members S (v ∷ ws) h w e = ⊎_elim
     (λ q. subst (λ (u : Word). member u S ≡ true) (sym (same-eq w v q)) (and_left (member v S) (all (λ x. member x S) ws) h))
     (λ q. all-members S ws (and_right (member v S) (all (λ x. member x S) ws) h) w q)
-    (or-true-cases (same w v) (member w ws) e)
+    (or_cases (same w v) (member w ws) e)
 
 -- words are numbered from 0 by first appearance
 pub in_order : (ws : List Word) → Numbered (map (place (extend [] ws)) ws) (length (extend [] ws))

@@ -10,11 +10,12 @@ use native.Mathlib.Omega.{arith}
 use lib.Dec.{leb}
 use lib.ListN.{length}
 use borrow.Author.Tests.{leb-true, le-leb, lt-ltb}
+use Rattle.std.proofs.lemmas.Bool.{cases_Bool}
 use Rattle.limits.specs.Limits as limit
 use Rattle.grammar.specs.Bytes.{bytes, Word, is_name}
 use Rattle.grammar.specs.Forms.{Atom, Literal, Form, all, proper_atom, proper_literal, proper_list, proper_body, proper_stage, proper}
 use Rattle.grammar.specs.Shapes.{Read, ◌>>=◌, after, word, name, whether, rest, bracket, atom, literal, list, body, stage, arity, state_rest, rel_rest, rule_rest, new_rest, next_rest, ask_rest, line, whole, form_of}
-use Rattle.grammar.proofs.Tests.{either, and_both}
+use Rattle.grammar.proofs.Tests.{and_both}
 
 -- what is read, if anything, is so
 abbrev pub Gives : {A : Type 0} → (A → Type 0) → Option A → Type 0
@@ -40,7 +41,7 @@ weaken Q R (some x) h k = k x h
 
 name-reads : (s : List ℕ) → Reads is_name (name s)
 unfolding name
-name-reads s = ⊎_elim (λ (e : is_name (word s) ≡ true). rw e e) (λ (e : is_name (word s) ≡ false). rw e tt) (either (is_name (word s)))
+name-reads s = ⊎_elim (λ (e : is_name (word s) ≡ true). rw e e) (λ (e : is_name (word s) ≡ false). rw e tt) (cases_Bool (is_name (word s)))
 
 -- the bytes left are anything
 abbrev Any : {A : Type 0} → A → Type 0
@@ -114,8 +115,8 @@ arity-reads [] = tt
 arity-reads (b ∷ s) = ⊎_elim
     (λ (p : leb 48 b ≡ true). rw p (⊎_elim
     (λ (q : leb b 50 ≡ true). rw q (let z = leb-true b 50 q in le-leb (b - 48) 2 (omega arith)))
-    (λ (q : leb b 50 ≡ false). rw q tt) (either (leb b 50))))
-    (λ (p : leb 48 b ≡ false). rw p tt) (either (leb 48 b))
+    (λ (q : leb b 50 ≡ false). rw q tt) (cases_Bool (leb b 50))))
+    (λ (p : leb 48 b ≡ false). rw p tt) (cases_Bool (leb 48 b))
 
 -- THE FORMS
 abbrev Proper : Form × List ℕ → Type 0

@@ -8,6 +8,7 @@ use Prim.Native.Nat.{ℕ, zero, suc, ◌<◌}
 use native.Mathlib.Omega.{arith}
 use lib.ListN.{length, take, get_or}
 use lib.Seq.{get_or-take}
+use Rattle.std.proofs.lemmas.Bool.{cases_Bool}
 use Rattle.semantics.specs.Models.{names}
 use Rattle.model.specs.Records.{rename, renamed}
 use Rattle.grammar.specs.Bytes.{Word}
@@ -17,7 +18,6 @@ use Rattle.grammar.specs.Rows.{literal_fault, body_fault}
 use Rattle.grammar.specs.Models.{code_of, literal_of, body_of}
 use Rattle.grammar.proofs.Words.{member-left, member_right, place-below}
 use Rattle.grammar.proofs.Lower.{lower-none}
-use Rattle.grammar.proofs.Tests.{either}
 use Rattle.acceptance.proofs.Words.{member-here, extend-news, place_at}
 use Rattle.acceptance.proofs.Bodies.{Found, plain-right, negated-right, vars-body}
 use Rattle.acceptance.proofs.Questions.{Within, within-rest, firsts-numbers}
@@ -68,7 +68,7 @@ module _ (D : Declared) (vs own : List Word) (ns : List ℕ) (numbers : take (le
   literal-renamed (plain a) e k = ⊎_elim
       (λ (q : is_state (code_of D a.name) ≡ true). rw (q, first-renamed a.variables (state-arity D a e q) k))
       (λ (q : is_state (code_of D a.name) ≡ false). rw (q, numbers-renamed a.variables k))
-      (either (is_state (code_of D a.name)))
+      (cases_Bool (is_state (code_of D a.name)))
   literal-renamed (negated a) e k = rw (first-renamed a.variables (negated-arity D a e) k)
 
   pub body-renamed : (b : List Literal) → body_fault D b ≡ 0 → Within own (variables b) → renamed (λ x. get_or ns x 0) (body_of D own b) ≡ body_of D vs b

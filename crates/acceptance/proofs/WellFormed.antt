@@ -9,9 +9,10 @@ use lib.Dec.{eqb, ltb}
 use lib.ListN.{length, take, drop, get_or, length-map, length-drop, get_or-map}
 use lib.Seq.{get_or-take, get_or-drop, take-take, length-take-le}
 use borrow.Author.Tests.{ltb-true, ltb-false, ne_eqb}
+use Rattle.std.proofs.lemmas.Bool.{cases_Bool}
 use Rattle.semantics.specs.Models as models
 use Rattle.semantics.specs.Models.{elem, is, isnt, fact, Body, Line, Program, Question, other, vars, firsts, names, Distinct}
-use Rattle.semantics.proofs.Tools.{either, same?, or_right, elem-here, clash, firsts-among}
+use Rattle.semantics.proofs.Tools.{same?, or_right, elem-here, clash, firsts-among}
 use Rattle.model.specs.declared.Action.{Action}
 use Rattle.model.specs.declared.Action.TheVariants.{Rule, New, Next}
 use Rattle.model.specs.declared.Clause.{Clause}
@@ -71,7 +72,7 @@ module _ (D : Declared) where
       ⊎_elim
       (λ (p : ltb code 16777216 ≡ true). known-state (relation_of code) l (as_read (decoded-is code l (ltb-true code 16777216 p))))
       (λ (p : ltb code 16777216 ≡ false). known-state (relation_of code) l (as_read (decoded-isnot code l (ltb-false code 16777216 p))))
-      (either (ltb code 16777216)))
+      (cases_Bool (ltb code 16777216)))
       (λ (q : ltb (relation_of code) 32 ≡ false).
       let g = ltb-false (relation_of code) 32 q in
       ⊎_elim
@@ -81,9 +82,9 @@ module _ (D : Declared) where
       ⊎_elim
       (λ (o : ltb (relation_of code) 96 ≡ true). known-derived (relation_of code) 1 (as_read (decoded-single code k (ltb-true (relation_of code) 96 o))))
       (λ (o : ltb (relation_of code) 96 ≡ false). known-derived (relation_of code) 2 (as_read (decoded-pair code (ltb-false (relation_of code) 96 o))))
-      (either (ltb (relation_of code) 96)))
-      (either (ltb (relation_of code) 64)))
-      (either (ltb (relation_of code) 32))
+      (cases_Bool (ltb (relation_of code) 96)))
+      (cases_Bool (ltb (relation_of code) 64)))
+      (cases_Bool (ltb (relation_of code) 32))
     where
       as_read : {l : encoded.Literal} → decoded code ≡ l → GoodLiteral D (meaning l)
       as_read e = subst (λ (l : encoded.Literal). GoodLiteral D (meaning l)) e h
@@ -110,7 +111,7 @@ firsts-unseen x seen (y ∷ xs) h = ⊎_elim
     (λ (e : x ≡ y). clash (subst (λ (z : ℕ). elem z seen ≡ true) e h) q)
     (λ (e : x ≢ y). rw (ne_eqb x y e) (firsts-unseen x (y ∷ seen) xs (or_right (eqb x y) (elem x seen) h)))
     (same? x y)))
-    (either (elem y seen))
+    (cases_Bool (elem y seen))
 
 firsts-distinct : (seen xs : List ℕ) → Distinct (firsts seen xs)
 unfolding firsts
@@ -118,7 +119,7 @@ firsts-distinct seen [] = tt
 firsts-distinct seen (x ∷ xs) = ⊎_elim
     (λ (q : elem x seen ≡ true). rw q (firsts-distinct seen xs))
     (λ (q : elem x seen ≡ false). rw q (firsts-unseen x (x ∷ seen) xs (elem-here x seen), firsts-distinct (x ∷ seen) xs))
-    (either (elem x seen))
+    (cases_Bool (elem x seen))
 
 -- A CLAUSE of a record with its line
 abbrev pub clause_of : List ℕ → Clause → ℕ × Line

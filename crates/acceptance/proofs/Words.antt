@@ -9,21 +9,22 @@ use native.Mathlib.Omega.{arith}
 use lib.Dec.{eqb, ltb}
 use lib.ListN.{length, get_or, length-append}
 use borrow.Author.Tests.{eqb-true, eq-eqb, ne_eqb, lt-ltb, le-ltb, ltb-true, ltb-false}
+use Rattle.std.proofs.lemmas.Bool.{cases_Bool, or_cases}
 use Rattle.semantics.specs.Models.{elem, firsts, Distinct}
-use Rattle.semantics.proofs.Tools.{same?, or-true-cases, or_right, or-false, elem-here}
+use Rattle.semantics.proofs.Tools.{same?, or_right, or-false, elem-here}
 use Rattle.model.specs.Records.{up_from}
 use Rattle.grammar.specs.Bytes.{Word, same}
 use Rattle.grammar.specs.Declarations.{member, extend, place}
 use Rattle.grammar.specs.Rows.{repeats}
 use Rattle.grammar.proofs.Words.{same_refl, same-eq, member-append, member-left, member_right, place-below, place-extend}
-use Rattle.grammar.proofs.Tests.{either, clash}
+use Rattle.grammar.proofs.Tests.{clash}
 
 -- MEMBERS
 pub member-here : (x : Word) (ys : List Word) → member x (x ∷ ys) ≡ true
 member-here x ys = rw (same_refl x)
 
 pub member-cases : (x : Word) (ys zs : List Word) → member x (ys ++ zs) ≡ true → (member x ys ≡ true) ⊎ (member x zs ≡ true)
-member-cases x ys zs e = or-true-cases (member x ys) (member x zs) (rw (member-append x ys zs) at e)
+member-cases x ys zs e = or_cases (member x ys) (member x zs) (rw (member-append x ys zs) at e)
 
 -- THE NEW ONES of a list, in order of first appearance
 abbrev pub news : List Word → List Word → List Word
@@ -36,7 +37,7 @@ extend-news seen [] = sym (append-nil seen)
 extend-news seen (x ∷ xs) = ⊎_elim
     (λ (q : member x seen ≡ true). rw q (extend-news seen xs))
     (λ (q : member x seen ≡ false). rw q (extend-news (seen ++ (x ∷ [])) xs ∙ append_assoc seen (x ∷ []) (news (seen ++ (x ∷ [])) xs)))
-    (either (member x seen))
+    (cases_Bool (member x seen))
 
 extend-seen : (seen xs : List Word) (x : Word) → member x seen ≡ true → extend seen (x ∷ xs) ≡ extend seen xs
 unfolding extend
@@ -55,7 +56,7 @@ unfolding place
 place_at [] x e = absurd (false≢true e)
 place_at (y ∷ ys) x e = ⊎_elim
     (λ (q : same x y ≡ true). rw q (sym (same-eq x y q)))
-    (λ (q : same x y ≡ false). rw q (place_at ys x (rw q at e))) (either (same x y))
+    (λ (q : same x y ≡ false). rw q (place_at ys x (rw q at e))) (cases_Bool (same x y))
 
 pub place-fresh : (ys zs : List Word) (x : Word) → member x ys ≡ false → place (ys ++ (x ∷ zs)) x ≡ length ys
 unfolding place
@@ -79,7 +80,7 @@ first-place x ws = rw (extend-fresh [] ws x refl) (place-next [] ws x refl)
 one_more : (S : List ℕ) (n : ℕ) → ((i : ℕ) → elem i S ≡ ltb i n) → (i : ℕ) → elem i (n ∷ S) ≡ ltb i (suc n)
 one_more S n h i = ⊎_elim
     (λ e. rw (eq-eqb i n e, lt-ltb i (suc n) (omega arith)))
-    (λ e. rw (ne_eqb i n e, h i) (below e (either (ltb i n)))) (same? i n)
+    (λ e. rw (ne_eqb i n e, h i) (below e (cases_Bool (ltb i n)))) (same? i n)
   where
     below : (i ≡ n → ⊥) → (ltb i n ≡ true) ⊎ (ltb i n ≡ false) → ltb i n ≡ ltb i (suc n)
     below e (inl p) = let z = ltb-true i n p in rw (p, lt-ltb i (suc n) (omega arith))
@@ -96,7 +97,7 @@ numbers-in-order seen (x ∷ xs) S h = ⊎_elim
     (rw (q, place-next seen xs x q, h (length seen), le-ltb (length seen) (length seen) (omega arith))
     (ap {B = List ℕ} (λ (l : List ℕ). length seen ∷ l) (rw (length-snoc seen x) at
     (numbers-in-order (seen ++ (x ∷ [])) xs (length seen ∷ S) (λ i. rw (length-snoc seen x) (one_more S (length seen) h i)))))))
-    (either (member x seen))
+    (cases_Bool (member x seen))
 
 -- a rule's head with no variable repeated has the first numbers
 pub head-numbers : (seen hs xs : List Word) → ((x : Word) → member x hs ≡ true → member x seen ≡ false) → repeats hs ≡ false
@@ -113,9 +114,9 @@ head-numbers seen (x ∷ hs) xs h r =
     apart o y e = ⊎_elim
         (λ (q : member y (seen ++ (x ∷ [])) ≡ true). ⊎_elim
         (λ p. clash p (h y (or_right (same y x) (member y hs) e)))
-        (λ p. ⊎_elim (λ z. clash (subst (λ (w : Word). member w hs ≡ true) (same-eq y x z) e) o) (λ z. absurd (false≢true z)) (or-true-cases (same y x) false p))
+        (λ p. ⊎_elim (λ z. clash (subst (λ (w : Word). member w hs ≡ true) (same-eq y x z) e) o) (λ z. absurd (false≢true z)) (or_cases (same y x) false p))
         (member-cases y seen (x ∷ []) q))
-        (λ (q : member y (seen ++ (x ∷ [])) ≡ false). q) (either (member y (seen ++ (x ∷ []))))
+        (λ (q : member y (seen ++ (x ∷ [])) ≡ false). q) (cases_Bool (member y (seen ++ (x ∷ []))))
 
 -- NUMBERS THAT RISE by one
 pub elem-up_from : (x k n : ℕ) → elem x (up_from k n) ≡ true → (k ≤ x) × (x < k + n)
@@ -123,11 +124,11 @@ elem-up_from x k zero e = absurd (false≢true e)
 elem-up_from x k (suc n) e = ⊎_elim
     (λ q. let p = eqb-true x k q in (omega arith, omega arith))
     (λ q. let w = elem-up_from x (suc k) n q in (omega arith, omega arith))
-    (or-true-cases (eqb x k) (elem x (up_from (suc k) n)) e)
+    (or_cases (eqb x k) (elem x (up_from (suc k) n)) e)
 
 pub up_from-distinct : (k n : ℕ) → Distinct (up_from k n)
 up_from-distinct k zero = tt
-up_from-distinct k (suc n) = (⊎_elim (λ (q : elem k (up_from (suc k) n) ≡ true). absurd (let w = elem-up_from k (suc k) n q in omega arith)) (λ q. q) (either (elem k (up_from (suc k) n))), up_from-distinct (suc k) n)
+up_from-distinct k (suc n) = (⊎_elim (λ (q : elem k (up_from (suc k) n) ≡ true). absurd (let w = elem-up_from k (suc k) n q in omega arith)) (λ q. q) (cases_Bool (elem k (up_from (suc k) n))), up_from-distinct (suc k) n)
 
 -- HOW MANY. A mapped list has no more different elements
 pub few-mapped : (f : Word → ℕ) (seen xs : List Word) (S : List ℕ) → ((x : Word) → member x seen ≡ true → elem (f x) S ≡ true)
@@ -139,12 +140,12 @@ few-mapped f seen (x ∷ xs) S h = ⊎_elim
     (λ (q : member x seen ≡ false). rw q (⊎_elim
     (λ (p : elem (f x) S ≡ true). rw p (let z = few-mapped f (seen ++ (x ∷ [])) xs S (with_it S h p) in omega arith))
     (λ (p : elem (f x) S ≡ false). rw p (let z = few-mapped f (seen ++ (x ∷ [])) xs (f x ∷ S) (with_it (f x ∷ S) (λ y e. or_right (eqb (f y) (f x)) (elem (f y) S) (h y e)) (elem-here (f x) S)) in omega arith))
-    (either (elem (f x) S))))
-    (either (member x seen))
+    (cases_Bool (elem (f x) S))))
+    (cases_Bool (member x seen))
   where
     with_it : (T : List ℕ) → ((y : Word) → member y seen ≡ true → elem (f y) T ≡ true) → elem (f x) T ≡ true → (y : Word) → member y (seen ++ (x ∷ [])) ≡ true → elem (f y) T ≡ true
     with_it T k p y e = ⊎_elim (λ q. k y q)
-        (λ q. ⊎_elim (λ z. subst (λ (w : Word). elem (f w) T ≡ true) (sym (same-eq y x z)) p) (λ z. absurd (false≢true z)) (or-true-cases (same y x) false q))
+        (λ q. ⊎_elim (λ z. subst (λ (w : Word). elem (f w) T ≡ true) (sym (same-eq y x z)) p) (λ z. absurd (false≢true z)) (or_cases (same y x) false q))
         (member-cases y seen (x ∷ []) e)
 
 -- the more are seen, the fewer are new
@@ -155,11 +156,11 @@ news-fewer seen more (x ∷ xs) h = ⊎_elim
     (λ (q : member x seen ≡ false). rw q (⊎_elim
     (λ (p : member x more ≡ true). rw p (let z = news-fewer (seen ++ (x ∷ [])) more xs (λ y e. ⊎_elim (λ w. h y w) (λ w. one y w p) (member-cases y seen (x ∷ []) e)) in omega arith))
     (λ (p : member x more ≡ false). rw p (let z = news-fewer (seen ++ (x ∷ [])) (more ++ (x ∷ [])) xs (λ y e. ⊎_elim (λ w. member-left y more (x ∷ []) (h y w)) (λ w. member_right y more (x ∷ []) w) (member-cases y seen (x ∷ []) e)) in omega arith))
-    (either (member x more))))
-    (either (member x seen))
+    (cases_Bool (member x more))))
+    (cases_Bool (member x seen))
   where
     one : (y : Word) → member y (x ∷ []) ≡ true → member x more ≡ true → member y more ≡ true
-    one y e p = ⊎_elim (λ z. subst (λ (w : Word). member w more ≡ true) (sym (same-eq y x z)) p) (λ z. absurd (false≢true z)) (or-true-cases (same y x) false e)
+    one y e p = ⊎_elim (λ z. subst (λ (w : Word). member w more ≡ true) (sym (same-eq y x z)) p) (λ z. absurd (false≢true z)) (or_cases (same y x) false e)
 
 pub news-append : (seen xs ys : List Word) → news seen (xs ++ ys) ≡ news seen xs ++ news (seen ++ news seen xs) ys
 news-append seen [] ys = rw (append-nil seen)
@@ -167,7 +168,7 @@ news-append seen (x ∷ xs) ys = ⊎_elim
     (λ (q : member x seen ≡ true). rw q (news-append seen xs ys))
     (λ (q : member x seen ≡ false). rw q (ap {B = List Word} (λ (l : List Word). x ∷ l)
     (news-append (seen ++ (x ∷ [])) xs ys ∙ rw (append_assoc seen (x ∷ []) (news (seen ++ (x ∷ [])) xs)))))
-    (either (member x seen))
+    (cases_Bool (member x seen))
 
 -- two lists have no more different words than both
 pub news-both : (xs ys : List Word) → length (news [] (xs ++ ys)) ≤ length (news [] xs) + length (news [] ys)

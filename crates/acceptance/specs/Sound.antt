@@ -1,5 +1,5 @@
 -- SOUND MODELS: what the table's rows leave of an accepted text, so that no later call checks it again.
-use Rattle.std.specs.Prelude.{◌≡◌, ◌≢◌, true, List, [], ◌∷◌, ◌++◌, ℕ, suc, ◌+◌, ◌^◌, ◌≤◌, ◌<◌, length, take, get_or}
+use Rattle.std.specs.Prelude.{◌≡◌, ◌≢◌, true, List, [], ◌∷◌, ◌++◌, ℕ, suc, ◌+◌, ◌^◌, ◌≤◌, ◌<◌, length, take, slice_index_or}
 use Rattle.limits.specs.Limits as limit
 use Rattle.semantics.specs.Models.{elem, Literal, is, isnt, fact, Body, Line, rule, new, next, other, Program, Question, vars, firsts, names, standing, carriers, SafeLine, Safe, SafeQuestion}
 use Rattle.model.specs.Records.{up_from}
@@ -14,10 +14,10 @@ Each R (x ∷ xs) = R x × Each R xs
 
 -- DECLARATIONS. Declared name i, from 0, and its relation code
 abbrev pub name_at : Declared → ℕ → Word
-name_at D i = (get_or D i ([], 0)).0
+name_at D i = (slice_index_or D i ([], 0)).0
 
 abbrev pub code_at : Declared → ℕ → ℕ
-code_at D i = (get_or D i ([], 0)).1
+code_at D i = (slice_index_or D i ([], 0)).1
 
 pub record GoodDeclarations (D : Declared) : Type 0 where
   -- they are names, and none is declared again
@@ -88,7 +88,7 @@ pub record GoodClause (n : ℕ) (D : Declared) (c : ℕ × Line) : Type 0 where
   pub safe : SafeLine c.1
 
 abbrev pub line_at : Program → ℕ → ℕ
-line_at P i = (get_or P i (0, other)).0
+line_at P i = (slice_index_or P i (0, other)).0
 
 -- THE LINES before line n: declarations, and at most 64 clauses in the order of their lines
 pub record GoodLines (n : ℕ) (D : Declared) (P : Program) : Type 0 where

@@ -1,5 +1,5 @@
 -- WHAT THE ANALYSIS OF A PROGRAM AND A QUESTION ANSWERS, and what it leaves in the work area and the run table.
-use Rattle.std.specs.Prelude.{◌≡◌, List, [], ◌∷◌, ◌++◌, map, ℕ, ◌-◌, ◌≤◌, length, take, drop, get_or, replicate}
+use Rattle.std.specs.Prelude.{◌≡◌, List, [], ◌∷◌, ◌++◌, map, ℕ, ◌-◌, ◌≤◌, length, take, drop, slice_index, replicate}
 use Rattle.std.proofs.Math.Option.{some}
 use Rattle.limits.specs.Limits as limit
 use Rattle.semantics.specs.Models.{Program, Question}
@@ -9,6 +9,7 @@ use Rattle.semantics.specs.Runs.{meet, Kept}
 use Rattle.semantics.specs.PlayingOn.{PlayingOn}
 use Rattle.model.specs.declared.Place.{Place}
 use Rattle.model.specs.Places.{number_of, placed, stands_for, place_of}
+use Rattle.search_states.specs.declared.Listing.{Listing}
 use Rattle.search_states.specs.Listed.{Listed}
 use Rattle.calls.specs.Wiping.{wiped}
 use Rattle.calls.specs.Crowding.{Crowded, too_many}
@@ -33,7 +34,7 @@ pub record Shown (P : Program) (Q : Question) (run run' : List ℕ) (n : ℕ) (p
   pub objects : List ℕ
   pub ends : places ≡ before ++ (meet (length Q) objects ∷ [])
   pub meeting : stands_for place ≡ some (meet (length Q) objects)
-  pub last : place ≡ placed (get_or run' (n - 1) 0)
+  pub last : place ≡ placed (slice_index run' (n - 1))
   -- demand 3
   pub playing : PlayingOn P Q limit.run places
 
@@ -52,6 +53,10 @@ Beside P states n (Refused number line) = (states ≡ replicate limit.listed 0) 
 -- A REFUSAL with its number and line
 abbrev pub refusal : ℕ → ℕ → Analysis
 refusal n l = record { answer = Refused n l; states = replicate limit.listed 0; count = 0 }
+
+-- AN ANSWER with the listed states beside it
+abbrev pub answer_beside : Answer → Listing → Analysis
+answer_beside a l = record { answer = a; states = l.states; count = l.count }
 
 -- THE ANALYSIS a of a program and a question, with the work area and the run table before and after it; "the first 65,536 work bytes zero" with every answer
 pub record Judges (P : Program) (Q : Question) (work run : List ℕ) (a : Analysis) (work' run' : List ℕ) : Type 0 where

@@ -7,7 +7,7 @@ ghost use Rattle.model.specs.Records.{program_of, question_of};
 ghost use Rattle.model.specs.WellFormed.{WellFormed};
 ghost use Rattle.rows.specs.Rows.{number_of};
 ghost use Rattle.search.specs.Search.{Searched, Finds};
-ghost use Rattle.analyzer_verdict.specs.Judging.{Answered, Beside, refusal, Judges};
+ghost use Rattle.analyzer_verdict.specs.Judging.{Answered, Beside, refusal, answer_beside, Judges};
 
 use calls::CROWDED;
 use facts_heads::ROOM;
@@ -15,6 +15,7 @@ use limits::LISTED;
 use model::{Model, Place};
 use rows::Refusal;
 use search::Found;
+use search_states::Listing;
 
 // Reached with the number of places of the shown run and its last place, unreached, or a refusal with its number and line.
 // The three cases stay an enum with the refusal's number: document 01 writes it so.
@@ -49,6 +50,18 @@ pub fn refuse(r: Refusal) -> Analysis
     }
 }
 
+// An answer, with the listed states beside it.
+pub fn with_states(answer: Answer, listing: Listing) -> Analysis
+    ensures { result ≡ answer_beside answer listing }
+{
+    let states = listing.states;
+    Analysis {
+        answer,
+        states,
+        count: listing.count,
+    }
+}
+
 // The verdict that a search gives; the run of a reached question is written.
 // `WellFormed m` stays a clause: it speaks by recursion over the model's lists, which a ghost field cannot hold, and behind an `impl Model` other crates would read a model only through a method that gives it out whole; the length of `run` stays one too, since C lends a row that may be longer.
 fn conclude(m: Model, facts: &[u8], run: &mut [u32], found: Found) -> Answer
@@ -58,15 +71,13 @@ fn conclude(m: Model, facts: &[u8], run: &mut [u32], found: Found) -> Answer
     if !found.reached {
         return Answer::Unreached;
     }
-    let explored = found.explored;
-    let rows = &found.levels.rows;
-    let moves = &explored.moves;
+    let moves = &found.explored.moves;
     let places = witness::witness(
         run,
         facts,
         m,
-        explored.states,
-        rows,
+        found.explored.states,
+        &found.levels.rows,
         &moves.table,
         &moves.steps,
         &moves.ways,
@@ -76,6 +87,7 @@ fn conclude(m: Model, facts: &[u8], run: &mut [u32], found: Found) -> Answer
 }
 
 // The analysis that a search gives: too many states, or the verdict with the states beside it.
+// It stays beside `ask` of `from_here_verdict`: the two are alike but for the run that `conclude` writes, and it is of that run that each promises something else.
 fn judge(m: Model, facts: &[u8], run: &mut [u32], searched: Option<Found>) -> Analysis
     requires { WellFormed m × Finds m facts.now searched × (limit.run ≤ length run.old) }
     ensures { Answered (program_of m) (question_of m) run.old run.new result.answer × Beside (program_of m) result.states result.count result.answer }
@@ -84,14 +96,7 @@ fn judge(m: Model, facts: &[u8], run: &mut [u32], searched: Option<Found>) -> An
         return refuse(CROWDED);
     };
     let answer = conclude(m, facts, run, found);
-    let explored = found.explored;
-    let listing = explored.listing;
-    let states = listing.states;
-    Analysis {
-        answer,
-        states,
-        count: listing.count,
-    }
+    with_states(answer, found.explored.listing)
 }
 
 // Searches a well-formed model, writes the run of a reached question, and leaves the work bytes zero.

@@ -1,5 +1,5 @@
 -- THE MODEL THAT THE DESK WRITES for kinds, a port level and an asked receive level: what its text says.
-use Rattle.std.specs.Prelude.{cond, List, [], ◌∷◌, ◌++◌, map, ℕ, zero, suc, ◌+◌, eqb}
+use Rattle.std.specs.Prelude.{if◌then◌else◌, List, [], ◌∷◌, ◌++◌, map, ℕ, zero, suc, ◌+◌, ◌==◌}
 use Rattle.semantics.specs.Labels.{set_of}
 use Rattle.semantics.specs.Models.{is, isnt, Body, Line, new, next, Program, Question}
 use Rattle.asbestos.specs.Messages.{Process, levels, resulting_level}
@@ -24,7 +24,7 @@ abbrev pub up_to : ℕ → List ℕ
 up_to r = each (suc r) (λ (k : ℕ). receive_relation k ∷ [])
 
 abbrev pub labels : Process → List ℕ
-labels p = send_relation p.send ∷ (up_to p.receive ++ cond p.mark (mark_relation ∷ []) [])
+labels p = send_relation p.send ∷ (up_to p.receive ++ (if p.mark then mark_relation ∷ [] else []))
 
 -- the state of a process
 unfoldable pub code : Process → ℕ
@@ -40,7 +40,7 @@ passing a b more = is (send_relation a) 0 ∷ is (receive_relation b) 0 ∷ is (
 
 -- the labels that are taken away where the send level a becomes c
 abbrev pub left : ℕ → ℕ → List ℕ
-left a c = cond (eqb c a) [] (send_relation a ∷ [])
+left a c = if c == a then [] else send_relation a ∷ []
 
 -- A TABLE ENTRY, the receiver's send level a and the sender's b: `(next x (M Sc) (Sa) (Sa x) (Rb x) (Sb y) (M y))`, the second list empty where c is a;
 abbrev pub marking : ℕ → ℕ → Line
@@ -51,7 +51,7 @@ abbrev pub raising : ℕ → ℕ → Line
 raising a b = next 0 (set_of (send_relation (resulting_level a b) ∷ [])) (set_of (send_relation a ∷ [])) (passing a b (isnt mark_relation 1 ∷ []))
 
 abbrev pub entry : ℕ → ℕ → List Line
-entry a b = marking a b ∷ cond (eqb (resulting_level a b) a) [] (raising a b ∷ [])
+entry a b = marking a b ∷ (if resulting_level a b == a then [] else raising a b ∷ [])
 
 -- row by row, the columns up to the port level
 abbrev pub entries : ℕ → List Line
@@ -71,4 +71,4 @@ program kinds port = numbered 12 (clauses kinds port)
 
 -- THE QUESTION: `(ask ((M x) (Rq x) (not (Rr x))))` with r = q + 1; without the last where q is 4
 abbrev pub question : ℕ → Question
-question q = (is mark_relation 0 ∷ is (receive_relation q) 0 ∷ cond (eqb q 4) [] (isnt (receive_relation (suc q)) 0 ∷ [])) ∷ []
+question q = (is mark_relation 0 ∷ is (receive_relation q) 0 ∷ (if q == 4 then [] else isnt (receive_relation (suc q)) 0 ∷ [])) ∷ []

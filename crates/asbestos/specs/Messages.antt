@@ -1,5 +1,5 @@
 -- ASBESTOS LABELS OVER MESSAGES (section 5.2 of the paper): processes, and what they send. There is no model, no text and no set of states here.
-use Rattle.std.specs.Prelude.{◌≡◌, Bool, true, false, cond, ◌||◌, List, [], ◌∷◌, ◌++◌, ℕ, ◌≤◌, ◌<◌, max, eqb, length, set, get_or}
+use Rattle.std.specs.Prelude.{◌≡◌, Bool, true, false, if◌then◌else◌, ◌||◌, List, [], ◌∷◌, ◌++◌, ℕ, ◌≤◌, ◌<◌, max, ◌==◌, length, set, slice_index, slice_index_or}
 
 -- LEVELS: "star, 0, 1, 2, 3 in rising order, given as the numbers 0 to 4"
 abbrev pub levels : ℕ
@@ -29,11 +29,11 @@ nobody = record { send = 0; receive = 0; mark = false }
 
 -- the process of a number
 abbrev pub process : List Process → ℕ → Process
-process ps i = get_or ps i nobody
+process ps i = slice_index_or ps i nobody
 
 -- THE RULE: "A receiver whose send level is star keeps it; any other takes the larger of the two send levels"; a is the receiver's and b the sender's
 abbrev pub raised : ℕ → ℕ → ℕ
-raised a b = cond (eqb a 0) 0 (max a b)
+raised a b = if a == 0 then 0 else max a b
 
 -- THE TABLE: "The resulting send level comes from a table with a row per receiver and a column per sender"
 abbrev pub table : List (List ℕ)
@@ -46,7 +46,7 @@ table =
     ∷ []
 
 unfoldable pub resulting_level : ℕ → ℕ → ℕ
-resulting_level a b = get_or (get_or table a []) b 0
+resulting_level a b = slice_index (slice_index_or table a []) b
 
 -- A MESSAGE from p to q, through a port of that level: "passes if the sender's send level is at most the receiver's receive level and the port level"
 abbrev pub Passes : ℕ → Process → Process → Type 0

@@ -1,6 +1,6 @@
 -- WHAT IS PRINTED OF FORMS IS READ LINE BY LINE: each line is the form again, in allowed bytes.
 use mathlib.Core.Path.{◌≡◌, refl, ap, sym, ◌∙◌, subst}
-use mathlib.Core.Bool.{Bool, true, false, ◌&&◌, ◌||◌}
+use mathlib.Core.Bool.{Bool, true, false, ◌&&◌, ◌||◌, or-true}
 use mathlib.Core.List.{List, [], ◌∷◌, ◌++◌, append_assoc, append-nil}
 use Prim.Native.Nat.{ℕ, zero, suc, ◌+◌, ◌≤◌, ◌<◌}
 use native.Mathlib.Nat.{add-zero}
@@ -60,10 +60,6 @@ body-allowed b e = rest-allowed proper_literal print_literal literal-allowed b (
 
 stage-allowed : (q : List Literal) → proper_stage q ≡ true → every allowed (print_bracket print_literal q) ≡ true
 stage-allowed q e = bracket-allowed proper_literal print_literal literal-allowed q (and_left (all proper_literal q) (leb (length q) limit.body) (and_left (proper_body q) (ltb 0 (length q)) e))
-
-or-true : (b : Bool) → (b || true) ≡ true
-or-true true = refl
-or-true false = refl
 
 arity-allowed : (n : ℕ) → leb n 2 ≡ true → allowed (n + 48) ≡ true
 unfolding allowed alphanumeric

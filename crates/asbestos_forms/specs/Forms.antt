@@ -1,5 +1,5 @@
 -- THE TEXT THAT THE DESK WRITES for kinds, a port level and an asked receive level: its forms, line by line, and its bytes.
-use Rattle.std.specs.Prelude.{cond, List, [], ◌∷◌, ◌++◌, map, ℕ, suc, eqb, get_or}
+use Rattle.std.specs.Prelude.{if◌then◌else◌, List, [], ◌∷◌, ◌++◌, map, ℕ, suc, ◌==◌, slice_index_or}
 use Prim.Native.String.{String}
 use Rattle.grammar.specs.Bytes.{bytes, Word}
 use Rattle.grammar.specs.Forms.{Atom, Literal, plain, negated, Form, state_form, new_form, next_form, ask_form, print}
@@ -16,7 +16,7 @@ names =
     ∷ []
 
 unfoldable pub label : ℕ → Word
-label c = get_or names c []
+label c = slice_index_or names c []
 
 -- the declared names with their relation codes
 abbrev pub counted : ℕ → List Word → Declared
@@ -47,7 +47,7 @@ unfoldable pub raising_form : ℕ → ℕ → Form
 raising_form a b = next_form (bytes "x") (map label (send_relation (resulting_level a b) ∷ [])) (map label (send_relation a ∷ [])) (passing_form a b (negated (on mark_relation "y") ∷ []))
 
 abbrev pub entry_forms : ℕ → ℕ → List Form
-entry_forms a b = marking_form a b ∷ cond (eqb (resulting_level a b) a) [] (raising_form a b ∷ [])
+entry_forms a b = marking_form a b ∷ (if resulting_level a b == a then [] else raising_form a b ∷ [])
 
 -- row by row, the columns up to the port level
 abbrev pub row_forms : ℕ → ℕ → List Form
@@ -58,7 +58,7 @@ table_forms port = each levels (λ (a : ℕ). row_forms port a)
 
 -- THE QUESTION: `(ask ((M x) (Rq x) (not (Rr x))))` with r = q + 1; without the last where q is 4
 unfoldable pub asked_form : ℕ → Form
-asked_form q = ask_form ((plain (on mark_relation "x") ∷ plain (on (receive_relation q) "x") ∷ cond (eqb q 4) [] (negated (on (receive_relation (suc q)) "x") ∷ [])) ∷ [])
+asked_form q = ask_form ((plain (on mark_relation "x") ∷ plain (on (receive_relation q) "x") ∷ (if q == 4 then [] else negated (on (receive_relation (suc q)) "x") ∷ [])) ∷ [])
 
 -- ALL LINES
 abbrev pub clause_forms : List Process → ℕ → List Form

@@ -1,5 +1,5 @@
 -- PARTS OF A LINE, for the functions that write them. Nothing of what the call promises rests on them.
-use Rattle.std.specs.Prelude.{◌≡◌, Bool, true, false, cond, List, [], ◌∷◌, ◌++◌, ℕ, ◌+◌, eqb}
+use Rattle.std.specs.Prelude.{◌≡◌, Bool, true, false, if◌then◌else◌, List, [], ◌∷◌, ◌++◌, ℕ, ◌+◌, ◌==◌}
 use Rattle.grammar.specs.Bytes.{bytes}
 use Rattle.asbestos.specs.Messages.{Process}
 use Rattle.asbestos.specs.Desk.{each}
@@ -26,7 +26,7 @@ marked false = bytes "))\n"
 
 -- the second list of a `next` line, up to its end
 abbrev pub taken : ℕ → ℕ → List ℕ
-taken a c = cond (eqb c a) (bytes ") (") (levelled (bytes ") (S") a)
+taken a c = if c == a then bytes ") (" else levelled (bytes ") (S") a
 
 -- the senders and receivers of a `next` line: the receiver's send level a and the sender's b
 abbrev pub passed : ℕ → ℕ → List ℕ
@@ -38,4 +38,4 @@ changed first a b c last = levelled first c ++ taken a c ++ passed a b ++ last
 
 -- the end of the question, with the receive level q
 abbrev pub exactly : ℕ → List ℕ
-exactly q = cond (eqb q 4) (bytes " x)))\n") (levelled (bytes " x) (not (R") (q + 1) ++ bytes " x))))\n")
+exactly q = if q == 4 then bytes " x)))\n" else levelled (bytes " x) (not (R") (q + 1) ++ bytes " x))))\n"

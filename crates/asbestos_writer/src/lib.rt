@@ -1,14 +1,14 @@
 // A desk for Asbestos labels: writes the bracket text for process kinds, a port level and an asked receive level.
 #![tactic(auto)]
 
-ghost use Rattle.std.specs.Prelude.{◌≡◌, [], ◌∷◌, ◌++◌, map, suc, ◌+◌, ◌≤◌, ◌<◌, length};
+ghost use Rattle.std.specs.Prelude.{◌≡◌, ◌&&◌, [], ◌∷◌, ◌++◌, map, suc, ◌+◌, ◌≤◌, ◌<◌, length};
 ghost use Rattle.limits.specs.Limits as limit;
 ghost use Rattle.grammar.specs.Bytes.{bytes as quoted};
 ghost use Rattle.listing_bytes.specs.Writing.{Writes};
 ghost use Rattle.asbestos.specs.Messages.{levels, most, AllProper};
 ghost use Rattle.asbestos_forms.specs.Forms.{born_form, entry_forms, row_forms, table_forms, asked_form, printed, text};
 ghost use Rattle.asbestos_writer.specs.Parts.{levelled, receiving, marked, taken, passed, changed, exactly, Is};
-ghost use Rattle.asbestos_writer.specs.Writing.{kind_at, kinds_of, all_proper, refuses, Desks};
+ghost use Rattle.asbestos_writer.specs.Writing.{kind_at, kinds_of, is_level, all_proper, refuses, Desks};
 
 use asbestos::{LEVELS, resulting};
 use limits::TEXT;
@@ -193,18 +193,19 @@ fn put_question(out: &mut [u8], at: usize, level: u32) -> usize
     put_exactly(out, least, level)
 }
 
+// The levels of a kind are among the five.
+fn is_proper(k: Kind) -> bool
+    ensures { result ≡ (is_level k.send && is_level k.receive) }
+{
+    k.send < LEVELS && k.receive < LEVELS
+}
+
 // The levels of the first kinds, so many, are among the five.
 fn all_proper(kinds: &[u32; CELLS], count: usize) -> bool
     requires { count ≤ most }
     ensures { result ≡ all_proper (kinds_of kinds.now count) }
 {
-    for i in 0..count {
-        let k = kind_of(kinds, i);
-        if k.send >= LEVELS || k.receive >= LEVELS {
-            return false;
-        }
-    }
-    true
+    (0..count).all(|i| is_proper(kind_of(kinds, i)))
 }
 
 // The call is refused, with so many bytes of output.

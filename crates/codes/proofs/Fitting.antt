@@ -9,6 +9,7 @@ use native.Mathlib.Omega.{arith}
 use lib.Dec.{eqb, ltb}
 use lib.ListN.{length}
 use borrow.Author.Tests.{ltb-false}
+use Rattle.std.proofs.lemmas.Bool.{cases_Bool}
 use Rattle.std.specs.Prelude.{Result, Ok, Err}
 use Rattle.rows.specs.declared.Refusal.{Refusal}
 use Rattle.limits.specs.Limits as limit
@@ -18,7 +19,6 @@ use Rattle.semantics.proofs.Tools.{or-false}
 use Rattle.grammar.specs.Bytes.{Word}
 use Rattle.grammar.specs.Declarations.{Declared}
 use Rattle.grammar.specs.Texts.{Outcome, accepted, refused, outcome}
-use Rattle.grammar.proofs.Tests.{either}
 use Rattle.handin.specs.Handins.{Handin, says-no, says-yes, unreadable, reading}
 use Rattle.handin.specs.Answers.{told}
 use Rattle.marker_worth.specs.declared.Mark.{Mark}
@@ -59,7 +59,7 @@ unfolding outcome
 text-size text D P Q e = ⊎_elim
     (λ (q : (eqb (length text) 0 || ltb limit.text (length text)) ≡ true). absurd (let z = rw q at e in let y : ◌≡◌ {A = ℕ} 0 1 = cc in omega arith))
     (λ (q : (eqb (length text) 0 || ltb limit.text (length text)) ≡ false). ltb-false limit.text (length text) (or-false (eqb (length text) 0) (ltb limit.text (length text)) q).1)
-    (either (eqb (length text) 0 || ltb limit.text (length text)))
+    (cases_Bool (eqb (length text) 0 || ltb limit.text (length text)))
 
 name-fits : (text : List ℕ) (d : Option (Word × ℕ)) (r : Declaration) → length text ≤ limit.text → ShowsRelation text d r → (r.from ≤ limit.text) × (r.size ≤ limit.text)
 name-fits text none r h s = (omega (arith, s.0), omega (arith, s.1))

@@ -9,13 +9,13 @@ use native.Mathlib.Omega.{arith}
 use lib.Dec.{eqb, ltb}
 use lib.ListN.{length, length-append}
 use borrow.Author.Tests.{ltb-false}
+use Rattle.std.proofs.lemmas.Bool.{cases_Bool}
 use Rattle.limits.specs.Limits as limit
 use Rattle.semantics.specs.Runs.{Place, step, meet}
 use Rattle.grammar.specs.Bytes.{Word, bytes, Line, ended, unended, in_front, lines}
 use Rattle.grammar.specs.Shapes.{Read, ◌>>=◌, after, whether, rest, whole}
 use Rattle.grammar.specs.Declarations.{class, Declared}
 use Rattle.grammar.specs.Texts.{Outcome, accepted, refused, outcome}
-use Rattle.grammar.proofs.Tests.{either}
 use Rattle.acceptance.specs.Sound.{code_at}
 use Rattle.acceptance.proofs.Acceptance.{accepted-sound}
 use Rattle.handin_lines.specs.Lines.{verdict, below, Said, nothing, place, states_rest, atomic_rest, step_rest, meet_rest, line, said_by}
@@ -40,7 +40,7 @@ then-word (some x) f y g e = g x refl e
 after-long : (w s t : List ℕ) → after w s ≡ some t → length s ≡ length w + length t
 after-long [] s t e = omega (arith, ap length (some-injective s t e))
 after-long (b ∷ w) [] t e = absurd (none-ne-some t e)
-after-long (b ∷ w) (c ∷ s) t e = ⊎_elim (λ (q : eqb b c ≡ true). omega (arith, after-long w s t (rw q at e))) (λ (q : eqb b c ≡ false). absurd (none-ne-some t (rw q at e))) (either (eqb b c))
+after-long (b ∷ w) (c ∷ s) t e = ⊎_elim (λ (q : eqb b c ≡ true). omega (arith, after-long w s t (rw q at e))) (λ (q : eqb b c ≡ false). absurd (none-ne-some t (rw q at e))) (cases_Bool (eqb b c))
 
 -- A LINE that says something has 6 bytes at least
 line-long : (s : List ℕ) (r : Said × List ℕ) → line s ≡ some r → 6 ≤ length s
@@ -115,7 +115,7 @@ in-front-size n b (unended s ∷ ls) h = omega arith
 few_bytes : (s : List ℕ) → size (lines s) ≤ suc (length s)
 few_bytes [] = omega arith
 few_bytes (b ∷ s) =
-    ⊎_elim (λ (q : eqb b 10 ≡ true). rw q (omega (arith, few_bytes s))) (λ (q : eqb b 10 ≡ false). rw q (in-front-size (length s) b (lines s) (few_bytes s))) (either (eqb b 10))
+    ⊎_elim (λ (q : eqb b 10 ≡ true). rw q (omega (arith, few_bytes s))) (λ (q : eqb b 10 ≡ false). rw q (in-front-size (length s) b (lines s) (few_bytes s))) (cases_Bool (eqb b 10))
 
 -- THE FIRST LINE of a run, and its places
 no-yes : {A : Type 0} (n first : ℕ) (ps : List Place) → unreadable n ≡ says-yes first ps → A
@@ -133,7 +133,7 @@ module _ (first : ℕ) (ps : List Place) where
   one_place n qs l ls none q go e = no-yes (n + length qs) first ps e
   one_place n qs l ls (some nothing) q go e = no-yes (n + length qs) first ps e
   one_place n qs l ls (some (place p)) q go e =
-      ⊎_elim (λ (t : ltb (length qs) limit.run ≡ true). omega (arith, go p (rw t at e), said-long (content l) (place p) q, length-append qs (p ∷ []))) (λ (t : ltb (length qs) limit.run ≡ false). no-yes (n + length qs) first ps (rw t at e)) (either (ltb (length qs) limit.run))
+      ⊎_elim (λ (t : ltb (length qs) limit.run ≡ true). omega (arith, go p (rw t at e), said-long (content l) (place p) q, length-append qs (p ∷ []))) (λ (t : ltb (length qs) limit.run ≡ false). no-yes (n + length qs) first ps (rw t at e)) (cases_Bool (ltb (length qs) limit.run))
 
   run-first : (n : ℕ) (qs : List Place) (ls : List Line) → onwards n qs ls ≡ says-yes first ps → first * 9 + length ps * 7 ≤ n * 9 + length qs * 7 + size ls
   unfolding onwards
@@ -171,7 +171,7 @@ module _ (first : ℕ) (ps : List Place) where
   first_small handin e =
       ⊎_elim (λ (q : ltb limit.handin (length handin) ≡ true). no-yes 0 first ps (rw q at e))
       (λ (q : ltb limit.handin (length handin) ≡ false). omega (arith, lines-first (lines handin) (rw q at e), few_bytes handin, ltb-false limit.handin (length handin) q))
-      (either (ltb limit.handin (length handin)))
+      (cases_Bool (ltb limit.handin (length handin)))
 
   -- THE VALUES: a place, or the number of places, and a line are read off
   module _ (handin : List ℕ) (e : reading handin ≡ says-yes first ps) where

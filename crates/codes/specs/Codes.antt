@@ -1,17 +1,14 @@
 -- THE NUMBERS OF ANSWERS: kind × 2^32 + value; of what is shown: where it begins × 2^32, and what else there is to say of it.
-use Rattle.std.specs.Prelude.{cond, Option, Some, None, Result, Ok, Err, ℕ, ◌+◌, ◌*◌}
+use Rattle.std.specs.Prelude.{if◌then◌else◌, Option, Some, None, Result, Ok, Err, ℕ, ◌+◌, ◌*◌}
 use Rattle.rows.specs.Rows.{number_of}
 use Rattle.rows.specs.declared.Refusal.{Refusal}
-use Rattle.words.specs.Words.{refusal}
+use Rattle.words.specs.Words.{code, refusal}
 use Rattle.handin.specs.declared.Run.{Run}
 use Rattle.handin.specs.declared.Unreadable as handin
 use Rattle.marker_worth.specs.declared.Mark.{Mark}
 use Rattle.marker_worth.specs.declared.Mark.TheVariants.{Unreadable, Right, Other, Breaks}
 use Rattle.display_shapes.specs.declared.Span.{Span}
 use Rattle.display.specs.declared.Declaration.{Declaration}
-
-abbrev pub code : ℕ → ℕ → ℕ
-code kind value = kind * 4294967296 + value
 
 -- WHAT A HAND-IN SAYS: kind 5 is unreadable, with the line; kind 9 no; kind 10 yes, with places × 65,536 + the line of the first
 abbrev pub handed : Result (Option Run) handin.Unreadable → ℕ
@@ -24,7 +21,7 @@ abbrev pub marked : Result Mark Refusal → ℕ
 marked (Err x) = refusal (number_of x.row) x.line
 marked (Ok (Unreadable l)) = code 5 l
 marked (Ok Right) = code 6 0
-marked (Ok (Other reached)) = code 7 (cond reached 1 0)
+marked (Ok (Other reached)) = code 7 (if reached then 1 else 0)
 marked (Ok (Breaks place l)) = code 8 (place * 65536 + l)
 
 -- A PART OF A LINE: where it begins, and where it ends

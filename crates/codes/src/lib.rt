@@ -1,7 +1,7 @@
 // The numbers of what is answered for a mark and for display.
 #![tactic(auto)]
 
-ghost use Rattle.std.specs.Prelude.{◌≡◌, ◌≤◌, Ok};
+ghost use Rattle.std.specs.Prelude.{◌≡◌, ◌≤◌};
 ghost use Rattle.limits.specs.Limits as limit;
 ghost use Rattle.codes.specs.Codes.{handed as handin_code, marked as mark_code, spanned as span_code, declared as declaration_code};
 ghost use Rattle.codes.specs.Ranges.{ShortRun, LowPlace};
@@ -11,6 +11,7 @@ use display_shapes::Span;
 use handin::{Run, Unreadable};
 use marker_worth::Mark;
 use rows::Refusal;
+use words::Kind;
 
 // The number of what a hand-in says.
 pub fn handed(said: Result<Option<Run>, Unreadable>) -> u64
@@ -18,20 +19,10 @@ pub fn handed(said: Result<Option<Run>, Unreadable>) -> u64
     ensures { result ≡ handin_code said }
 {
     match said {
-        Ok(None) => 9 * 4_294_967_296,
-        Ok(Some(yes)) => 10 * 4_294_967_296 + (yes.places as u64 * 65_536 + yes.first as u64),
-        Err(unreadable) => 5 * 4_294_967_296 + unreadable.line as u64,
+        Ok(None) => words::word(Kind::SaysNo, 0),
+        Ok(Some(yes)) => words::word(Kind::SaysYes, yes.places as u64 * 65_536 + yes.first as u64),
+        Err(unreadable) => words::word(Kind::Unreadable, unreadable.line as u64),
     }
-}
-
-// The number of the other verdict.
-fn other(reached: bool) -> u64
-    ensures { result ≡ mark_code (Ok (Mark.Other reached)) }
-{
-    if reached {
-        return 7 * 4_294_967_296 + 1;
-    }
-    7 * 4_294_967_296
 }
 
 // The number of a mark.
@@ -40,11 +31,11 @@ pub fn marked(mark: Result<Mark, Refusal>) -> u64
     ensures { result ≡ mark_code mark }
 {
     match mark {
-        Ok(Mark::Unreadable { line }) => 5 * 4_294_967_296 + line as u64,
-        Ok(Mark::Right) => 6 * 4_294_967_296,
-        Ok(Mark::Other { reached }) => other(reached),
+        Ok(Mark::Unreadable { line }) => words::word(Kind::Unreadable, line as u64),
+        Ok(Mark::Right) => words::word(Kind::Right, 0),
+        Ok(Mark::Other { reached }) => words::word(Kind::Other, u64::from(reached)),
         Ok(Mark::Breaks { place, line }) => {
-            8 * 4_294_967_296 + (place as u64 * 65_536 + line as u64)
+            words::word(Kind::Breaks, place as u64 * 65_536 + line as u64)
         }
         Err(r) => words::refused(r),
     }

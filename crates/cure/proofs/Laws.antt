@@ -6,14 +6,13 @@ use mathlib.Core.List.{List, [], ◌∷◌}
 use mathlib.Core.Option.{none, some}
 use Prim.Native.Nat.{ℕ, suc, ◌^◌, ◌≤◌, ◌<◌}
 use native.Mathlib.Omega.{arith}
-use lib.Dec.{eqb}
 use lib.ListN.{length, get_or}
-use Rattle.std.specs.Prelude.{Option, Some, None, Ok, Err}
+use Rattle.std.proofs.lemmas.Bool.{cases_Bool}
+use Rattle.std.specs.Prelude.{Option, Some, None, Ok, Err, unwrap_or}
 use Rattle.rows.specs.declared.Refusal.{Refusal}
 use Rattle.semantics.specs.Labels.{has}
 use Rattle.semantics.specs.Models.{Program, Question}
 use Rattle.semantics.specs.Questions.{Reached, Verdict}
-use Rattle.semantics.proofs.Tools.{either}
 use Rattle.grammar.specs.Texts.{Outcome, accepted, refused}
 use Rattle.striking.specs.Striking.{strike, most, Cured, rising}
 use Rattle.striking.specs.Numbers.{numbered}
@@ -31,43 +30,43 @@ use Rattle.cure.specs.Curing.{Advises, Leaves}
 use Rattle.cure.specs.Soonest.{size_at, Least, Soonest}
 
 -- what a size says of a choice
-size-large : (xs said : List ℕ) (k : ℕ) → eqb (get_or said k 0) 1 ≡ true → size_at xs said k ≡ suc most
+size-large : (xs : List ℕ) (said : List (Option Bool)) (k : ℕ) → unwrap_or (get_or said k None) false ≡ true → size_at xs said k ≡ suc most
 size-large xs said k e = rw e
 
-size-own : (xs said : List ℕ) (k : ℕ) → eqb (get_or said k 0) 1 ≡ false → size_at xs said k ≡ length (numbered xs k)
+size-own : (xs : List ℕ) (said : List (Option Bool)) (k : ℕ) → unwrap_or (get_or said k None) false ≡ false → size_at xs said k ≡ length (numbered xs k)
 size-own xs said k e = rw e
 
 -- a choice strikes at most all lines
 numbered-few : (ys : List ℕ) (k : ℕ) → length (numbered ys k) ≤ length ys
 numbered-few [] k = omega arith
-numbered-few (y ∷ ys) k = ⊎_elim (λ (q : has k (length ys) ≡ true). rw q (omega (arith, numbered-few ys k))) (λ (q : has k (length ys) ≡ false). rw q (omega (arith, numbered-few ys k))) (either (has k (length ys)))
+numbered-few (y ∷ ys) k = ⊎_elim (λ (q : has k (length ys) ≡ true). rw q (omega (arith, numbered-few ys k))) (λ (q : has k (length ys) ≡ false). rw q (omega (arith, numbered-few ys k))) (cases_Bool (has k (length ys)))
 
 module _ (P : Program) (Q : Question) (L : List ℕ) (t : Table) (few : length (rising L) ≤ most) (d : Filled P Q (rising L) t) where
   abbrev xs : List ℕ
   xs = rising L
 
   -- a choice whose size is its own is unreached, and one with a larger size is reached
-  is-reached : (k : ℕ) → k < 2 ^ length xs → eqb (get_or t.said k 0) 1 ≡ true → Reached (strike P (numbered xs k)) Q
+  is-reached : (k : ℕ) → k < 2 ^ length xs → unwrap_or (get_or t.said k None) false ≡ true → Reached (strike P (numbered xs k)) Q
   is-reached k l e = subst (λ (b : Bool). Verdict (strike P (numbered xs k)) Q b) e (d.verdict k l)
 
-  is-unreached : (k : ℕ) → k < 2 ^ length xs → eqb (get_or t.said k 0) 1 ≡ false → Reached (strike P (numbered xs k)) Q → ⊥
+  is-unreached : (k : ℕ) → k < 2 ^ length xs → unwrap_or (get_or t.said k None) false ≡ false → Reached (strike P (numbered xs k)) Q → ⊥
   is-unreached k l e = subst (λ (b : Bool). Verdict (strike P (numbered xs k)) Q b) e (d.verdict k l)
 
   none-cures : ((k : ℕ) → k < t.total → most < size_at xs t.said k) → Cured P Q L none
   none-cures large = no-cure-by L P Q (λ k l. ⊎_elim (is-reached k l)
-      (λ (q : eqb (get_or t.said k 0) 1 ≡ false). absurd (omega (arith, large k (omega (arith, d.total, l)), size-own xs t.said k q, numbered-few xs k, few)))
-      (either (eqb (get_or t.said k 0) 1)))
+      (λ (q : unwrap_or (get_or t.said k None) false ≡ false). absurd (omega (arith, large k (omega (arith, d.total, l)), size-own xs t.said k q, numbered-few xs k, few)))
+      (cases_Bool (unwrap_or (get_or t.said k None) false)))
 
   module _ (n : ℕ) (s : Least (size_at xs t.said) t.total n) where
-    own : eqb (get_or t.said n 0) 1 ≡ false
-    own = ⊎_elim (λ (q : eqb (get_or t.said n 0) 1 ≡ true). absurd (omega (arith, s.small, size-large xs t.said n q))) (λ q. q) (either (eqb (get_or t.said n 0) 1))
+    own : unwrap_or (get_or t.said n None) false ≡ false
+    own = ⊎_elim (λ (q : unwrap_or (get_or t.said n None) false ≡ true). absurd (omega (arith, s.small, size-large xs t.said n q))) (λ q. q) (cases_Bool (unwrap_or (get_or t.said n None) false))
 
     sooner : (k : ℕ) → k < 2 ^ length xs → Sooner L k n → Reached (strike P (numbered xs k)) Q
     sooner k h w = ⊎_elim (is-reached k h)
-        (λ (q : eqb (get_or t.said k 0) 1 ≡ false). absurd (⊎_elim
+        (λ (q : unwrap_or (get_or t.said k None) false ≡ false). absurd (⊎_elim
         (λ (a : length (numbered xs k) < length (numbered xs n)). omega (arith, a, s.least k (omega (arith, d.total, h)), size-own xs t.said k q, size-own xs t.said n own))
         (λ (a : (length (numbered xs k) ≡ length (numbered xs n)) × (n < k)). omega (arith, a.0, s.highest k (omega (arith, d.total, h)) a.1, size-own xs t.said k q, size-own xs t.said n own)) w))
-        (either (eqb (get_or t.said k 0) 1))
+        (cases_Bool (unwrap_or (get_or t.said k None) false))
 
     some-cures : Cured P Q L (some (numbered xs n))
     some-cures = let l = s.within in cure-by L P Q n (omega (arith, d.total)) (is-unreached n (omega (arith, d.total)) own) sooner

@@ -1,14 +1,14 @@
 -- THE SMALLEST CHOICE in a table. Nothing of what an answer means rests on it.
-use Rattle.std.specs.Prelude.{cond, Option, MatchOption, List, ℕ, suc, ◌≤◌, ◌<◌, eqb, length, get_or}
+use Rattle.std.specs.Prelude.{Bool, false, if◌then◌else◌, Option, None, MatchOption, List, ℕ, suc, ◌≤◌, ◌<◌, length, slice_index_or, unwrap_or}
 use Rattle.striking.specs.Striking.{most}
 use Rattle.striking.specs.Numbers.{numbered}
 
--- how many lines choice n strikes, of which v is said; more than any, if it is reached
-abbrev pub size_of : List ℕ → ℕ → ℕ → ℕ
-size_of xs v n = cond (eqb v 1) (suc most) (length (numbered xs n))
+-- how many lines choice n strikes, which is reached or not; more than any, if it is reached
+abbrev pub size_of : List ℕ → Bool → ℕ → ℕ
+size_of xs reached n = if reached then suc most else length (numbered xs n)
 
-abbrev pub size_at : List ℕ → List ℕ → ℕ → ℕ
-size_at xs said n = size_of xs (get_or said n 0) n
+abbrev pub size_at : List ℕ → List (Option Bool) → ℕ → ℕ
+size_at xs said n = size_of xs (unwrap_or (slice_index_or said n None) false) n
 
 -- n is the highest of the numbers below total with the least size
 pub record Least (size : ℕ → ℕ) (total n : ℕ) : Type 0 where

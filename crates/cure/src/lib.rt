@@ -12,15 +12,15 @@ ghost use Rattle.cure.specs.Soonest.{size_of, size_at, Soonest};
 use rows::Refusal;
 use strike_calls::Choices;
 use strike_list::{Lines, MOST};
-use strike_table::{REACHED, Table};
+use strike_table::Table;
 
 // How many lines the choice strikes; a reached one counts as eleven, more than any strikes.
 // Eleven stays for a reached choice: sizes are compared, and an Option would need a case more for that.
-fn size(l: Lines, v: u8, n: u32) -> usize
+fn size(l: Lines, reached: bool, n: u32) -> usize
     requires { l.count ≤ most }
-    ensures { result ≡ size_of (listed l) v n }
+    ensures { result ≡ size_of (listed l) reached n }
 {
-    if v == REACHED {
+    if reached {
         MOST + 1
     } else {
         strike_list::choose(l, n).count
@@ -35,7 +35,7 @@ fn soonest(l: Lines, t: Table) -> Option<usize>
     let mut best = None;
     let mut least = MOST + 1;
     for i in (0..t.total).rev() {
-        let s = size(l, t.said[i], i as u32);
+        let s = size(l, t.said[i].unwrap_or(false), i as u32);
         if s < least {
             best = Some(i);
             least = s;

@@ -8,6 +8,7 @@ use lib.ListN.{length, drop, get_or, length-append, length-drop}
 use lib.Seq.{slice, get_or-take, take_at}
 use Rattle.limits.specs.Limits as limit
 use Rattle.model.specs.declared.Model.{Model}
+use Rattle.model.specs.Records.{name_of}
 use Rattle.grammar.specs.Bytes.{Word}
 use Rattle.grammar.specs.Forms.{Literal, print_literal}
 use Rattle.grammar.specs.Shapes.{◌>>=◌, literal}
@@ -48,7 +49,7 @@ module _ (text : List ℕ) (m : Model) (a : Accepts (outcome text) text m) (i : 
   pub few-relations : m.relations.count ≤ limit.declared
   few-relations = (read-well-formed text m a).relations.count
 
-  pub declared-relation : i < m.relations.count → (d : Declaration) → d.from ≡ get_or m.names i 0 → d.size ≡ get_or m.lengths i 0 → d.code ≡ get_or m.relations.codes i 0
+  pub declared-relation : i < m.relations.count → (d : Declaration) → d.from ≡ (name_of m i).start → d.size ≡ (name_of m i).len → d.code ≡ get_or m.relations.codes i 0
       → FindsRelation text (relation_at (outcome text) i) (Some d)
   declared-relation l d f z c =
       let D = a.declared in

@@ -1,8 +1,9 @@
 // What is declared, and what stands on a line, for display.
 #![tactic(auto)]
 
-ghost use Rattle.std.specs.Prelude.{◌≡◌, ◌<◌, get_or};
+ghost use Rattle.std.specs.Prelude.{◌≡◌, ◌<◌, slice_index};
 ghost use Rattle.limits.specs.Limits as limit;
+ghost use Rattle.model.specs.Records.{name_of};
 ghost use Rattle.grammar.specs.Texts.{outcome};
 ghost use Rattle.display_shapes.specs.Rows.{Shown, Shows};
 ghost use Rattle.display.specs.Shown.{relation_at, FindsRelation, ShowsRelation, literal_at, variable_at, span_of};
@@ -23,11 +24,12 @@ pub struct Declaration {
 // Declared relation i of a model.
 fn recorded(m: &Model, i: usize) -> Declaration
     requires { i < limit.declared }
-    ensures { (result.from ≡ get_or m.now.names i 0) × (result.size ≡ get_or m.now.lengths i 0) × (result.code ≡ get_or m.now.relations.codes i 0) }
+    ensures { (result.from ≡ (name_of m.now i).start) × (result.size ≡ (name_of m.now i).len) × (result.code ≡ slice_index m.now.relations.codes i) }
 {
+    let name = m.names[i];
     Declaration {
-        from: m.names[i] as usize,
-        size: m.lengths[i] as usize,
+        from: name.start as usize,
+        size: name.len as usize,
         code: m.relations.codes[i],
     }
 }

@@ -8,10 +8,10 @@ use Prim.Native.Nat.{ℕ, zero, suc}
 use lib.Dec.{eqb}
 use lib.ListN.{length}
 use borrow.Author.Tests.{eqb-true}
+use Rattle.std.proofs.lemmas.Bool.{cases_Bool}
 use Rattle.grammar.specs.Bytes.{bytes, alphanumeric, is_name}
 use Rattle.grammar.specs.Forms.{Atom, Literal, plain, negated}
 use Rattle.grammar.specs.Shapes.{Read, ◌>>=◌, after, word, after_word, name, rest, bracket, atom, literal}
-use Rattle.grammar.proofs.Tests.{either}
 use Rattle.display_shapes.proofs.Rows.{some-none, same_read}
 use Rattle.grammar.proofs.Reading.{onto, rest-closes, rest-full, rest-ends, rest-fails, rest-item}
 
@@ -30,18 +30,18 @@ after-inverse [] s {t} e = ap (λ (o : Option (List ℕ)). get_or o s) e
 after-inverse (b ∷ w) [] e = some-none e refl
 after-inverse (b ∷ w) (c ∷ s) e = ⊎_elim
     (λ (q : eqb b c ≡ true). let z = eqb-true b c q in let y = after-inverse w s (rw q at e) in cc)
-    (λ (q : eqb b c ≡ false). some-none (rw q at e) refl) (either (eqb b c))
+    (λ (q : eqb b c ≡ false). some-none (rw q at e) refl) (cases_Bool (eqb b c))
 
 word-parts : (s : List ℕ) → s ≡ word s ++ after_word s
 word-parts [] = refl
-word-parts (b ∷ s) = ⊎_elim (λ q. rw q (ap (λ (u : List ℕ). b ∷ u) (word-parts s))) (λ q. rw q) (either (alphanumeric b))
+word-parts (b ∷ s) = ⊎_elim (λ q. rw q (ap (λ (u : List ℕ). b ∷ u) (word-parts s))) (λ q. rw q) (cases_Bool (alphanumeric b))
 
 -- a name, and the bytes behind it
 pub name-inverse : (s : List ℕ) {w t : List ℕ} → name s ≡ some (w, t) → (w ≡ word s) × (t ≡ after_word s)
 unfolding name
 name-inverse s e = ⊎_elim
     (λ (q : is_name (word s) ≡ true). let (x, y) = same_read (rw q at e) in (sym x, sym y))
-    (λ (q : is_name (word s) ≡ false). some-none (rw q at e) refl) (either (is_name (word s)))
+    (λ (q : is_name (word s) ≡ false). some-none (rw q at e) refl) (cases_Bool (is_name (word s)))
 
 pub name-joined : (s : List ℕ) {w t : List ℕ} → name s ≡ some (w, t) → s ≡ w ++ t
 name-joined s e = let (p, q) = name-inverse s e in rw (p, q) (word-parts s)

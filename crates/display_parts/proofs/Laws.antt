@@ -4,17 +4,17 @@ use mathlib.Core.Logic.{⊎_elim}
 use mathlib.Core.Bool.{true, false}
 use mathlib.Core.List.{List, [], ◌∷◌, ◌++◌, append_assoc}
 use mathlib.Core.Option.{Option, none, some}
-use Prim.Native.Nat.{ℕ, ◌+◌, ◌-◌, ◌≤◌, ◌<◌}
+use Prim.Native.Nat.{ℕ, ◌-◌, ◌≤◌, ◌<◌}
 use native.Mathlib.Omega.{arith}
 use lib.Dec.{eqb}
 use lib.ListN.{length, drop, drop_of_length-le}
-use lib.Seq.{slice}
+use lib.Seq.{slice, drop-length}
 use borrow.Author.Tests.{eqb-true, eqb-false, ne_eqb}
+use Rattle.std.proofs.lemmas.Bool.{cases_Bool}
 use Rattle.grammar.specs.Bytes.{bytes, Word}
 use Rattle.grammar.specs.Forms.{Literal, Form, state_form, rel_form, rule_form, new_form, next_form, ask_form}
 use Rattle.grammar.specs.Shapes.{Read, ◌>>=◌, after, whether, name, rest, atom, literal, list, body, stage, arity, state_rest, rel_rest, rule_rest, new_rest, next_rest, ask_rest, line, whole, form_of}
 use Rattle.grammar.specs.Declarations.{variables}
-use Rattle.grammar.proofs.Tests.{either}
 use Rattle.text_scan.specs.Found.{NameEnd}
 use Rattle.text_scan.proofs.Laws.{next}
 use Rattle.std.specs.Prelude as std
@@ -25,7 +25,7 @@ use Rattle.display_shapes.specs.Rows.{pick, Row, Stands}
 use Rattle.display_shapes.specs.declared.Span.{Span}
 use Rattle.display_parts.specs.Parts as parts
 use Rattle.display_parts.specs.Parts.{part_in, part_of}
-use Rattle.display_parts.specs.Closes.{Closes}
+use Rattle.display_parts.specs.Closes.{Closes, Ended}
 use Rattle.display_parts.specs.Placed.{Placed, Gives}
 use Rattle.display_parts.specs.declared.Part.{Part}
 use Rattle.display_parts.proofs.Inverse.{found, after-inverse}
@@ -176,7 +176,7 @@ module _ {A : Type 0} (read : List ℕ → Read A) (s : List ℕ) (b : ℕ) wher
   closes-eq {e} v = ⊎_elim
       (λ (q : eqb e (length s) ≡ true). rw q (closes-end v (eqb-true e (length s) q)))
       (λ (q : eqb e (length s) ≡ false). rw q (closes-before v (eqb-false e (length s) q)))
-      (either (eqb e (length s)))
+      (cases_Bool (eqb e (length s)))
 
   pub closes-none : read (drop b s) ≡ none → Closes read s b false
   closes-none h x q = some-none q h
@@ -190,10 +190,6 @@ module _ {A : Type 0} (read : List ℕ → Read A) (s : List ℕ) (b : ℕ) wher
       go (some (x, [])) q = absurd (c x q)
       go (some (x, c ∷ t)) q = refl
 
--- at the line's end no byte is left
-at_end : (s : List ℕ) → drop (length s) s ≡ []
-at_end s = let g : length s ≤ length s = omega arith in drop_of_length-le s g
-
 -- RULES
 module _ (s : List ℕ) (l : 6 ≤ length s) (h : after (bytes "(rule ") s ≡ some (drop 6 s)) where
   pub rule-headless : atom (drop 6 s) ≡ none → part_of s 0 ≡ none
@@ -201,17 +197,21 @@ module _ (s : List ℕ) (l : 6 ≤ length s) (h : after (bytes "(rule ") s ≡ s
   rule-headless k = rw (rule-form s h, k)
 
   module _ {b : ℕ} (v : EndsAt atom s 6 b) where
-    pub rule-unended : Closes (rest literal 8) s b false → part_of s 0 ≡ none
+    rule-unended : Closes (rest literal 8) s b false → part_of s 0 ≡ none
     unfolding part_of rule_rest body
     rule-unended k = rw (rule-form s h, v.found, not-to-end (rest literal 8) s b k (rule_form v.value))
 
-    pub rule_found : Closes (rest literal 8) s b true → Gives s (part_of s 0) (Some (record { head = None; from = 6; body = b; end = length s }))
+    rule_found : Closes (rest literal 8) s b true → Gives s (part_of s 0) (Some (record { head = None; from = 6; body = b; end = length s }))
     unfolding part_of rule_rest body
     rule_found (q, c, r) =
         let a = v.value in
         gives-some s (part_of s 0) _ {hs = a.variables} {b = q} (rw (rule-form s h, v.found, r))
         (clause-placed s 6 b (length s) 8 a.variables q l v.ends (omega arith) r
-        (atom-words (drop 6 s) v.found ∙ (ap (λ (ws : List Word). a.variables ++ ws) (body-words 8 (drop b s) r) ∙ sym (append_assoc a.variables (variables q) (words [])) ∙ rw (at_end s))))
+        (atom-words (drop 6 s) v.found ∙ (ap (λ (ws : List Word). a.variables ++ ws) (body-words 8 (drop b s) r) ∙ sym (append_assoc a.variables (variables q) (words [])) ∙ rw (drop-length s))))
+
+    pub rule-ended : (o : std.Option Part) → Ended s None 6 b o → Gives s (part_of s 0) o
+    rule-ended None k = gives_none s (part_of s 0) (rule-unended k)
+    rule-ended (Some p) (k, e) = rw e (rule_found k)
 
 -- `new` LINES
 module _ (s : List ℕ) (l : 5 ≤ length s) (h : after (bytes "(new ") s ≡ some (drop 5 s)) where
@@ -220,15 +220,19 @@ module _ (s : List ℕ) (l : 5 ≤ length s) (h : after (bytes "(new ") s ≡ so
   new-listless k = rw (new-form s h, k)
 
   module _ {b : ℕ} (v : EndsAt list s 5 b) where
-    pub new-unended : Closes (rest literal 8) s b false → part_of s 0 ≡ none
+    new-unended : Closes (rest literal 8) s b false → part_of s 0 ≡ none
     unfolding part_of new_rest body
     new-unended k = rw (new-form s h, v.found, not-to-end (rest literal 8) s b k (new_form v.value))
 
-    pub new-found : Closes (rest literal 8) s b true → Gives s (part_of s 0) (Some (record { head = None; from = b; body = b; end = length s }))
+    new-found : Closes (rest literal 8) s b true → Gives s (part_of s 0) (Some (record { head = None; from = b; body = b; end = length s }))
     unfolding part_of new_rest body
     new-found (q, c, r) =
         gives-some s (part_of s 0) _ {hs = []} {b = q} (rw (new-form s h, v.found, r))
-        (clause-placed s b b (length s) 8 [] q v.ends v.ends (omega arith) r (rw (at_end s) (body-words 8 (drop b s) r)))
+        (clause-placed s b b (length s) 8 [] q v.ends v.ends (omega arith) r (rw (drop-length s) (body-words 8 (drop b s) r)))
+
+    pub new-ended : (o : std.Option Part) → Ended s None b b o → Gives s (part_of s 0) o
+    new-ended None k = gives_none s (part_of s 0) (new-unended k)
+    new-ended (Some p) (k, e) = rw e (new-found k)
 
 -- `next` LINES
 spaced-list : (t : List ℕ) {A : Type 0} (f : List Word × List ℕ → Read A) → (after (bytes " ") t >>= λ u. list u >>= f) ≡ (after_space list t >>= f)
@@ -264,15 +268,19 @@ module _ (s : List ℕ) (l : 6 ≤ length s) (h : after (bytes "(next ") s ≡ s
       next-half k = rw (next-form s h, next-rest, pl.found, k)
 
       module _ {b : ℕ} (mi : EndsAt (after_space list) s i b) where
-        pub next-unended : Closes (rest literal 8) s b false → part_of s 0 ≡ none
+        next-unended : Closes (rest literal 8) s b false → part_of s 0 ≡ none
         unfolding part_of body
         next-unended k = rw (next-form s h, next-rest, pl.found, mi.found, not-to-end (rest literal 8) s b k (next_form (slice 6 x s) pl.value mi.value))
 
-        pub next-found : Closes (rest literal 8) s b true → Gives s (part_of s 0) (Some (record { head = Some (record { from = 6; to = x }); from = b; body = b; end = length s }))
+        next-found : Closes (rest literal 8) s b true → Gives s (part_of s 0) (Some (record { head = Some (record { from = 6; to = x }); from = b; body = b; end = length s }))
         unfolding part_of body
         next-found (q, j, u) =
             gives-some s (part_of s 0) _ {hs = slice 6 x s ∷ []} {b = q} (rw (next-form s h, next-rest, pl.found, mi.found, u))
-            (next-placed s x b (length s) 8 q v.begins v.ends j (omega arith) (rw (at_end s) u))
+            (next-placed s x b (length s) 8 q v.begins v.ends j (omega arith) (rw (drop-length s) u))
+
+        pub next-ended : (o : std.Option Part) → Ended s (Some (record { from = 6; to = x })) b b o → Gives s (part_of s 0) o
+        next-ended None k = gives_none s (part_of s 0) (next-unended k)
+        next-ended (Some p) (k, e) = rw e (next-found k)
 
 -- STAGES
 abbrev stage_at : Span → Part

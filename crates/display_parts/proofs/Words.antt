@@ -10,11 +10,12 @@ use lib.Dec.{eqb}
 use lib.ListN.{length, drop}
 use lib.Seq.{drop-drop}
 use borrow.Author.Tests.{ne_eqb}
+use Rattle.std.proofs.lemmas.Bool.{cases_Bool}
 use Rattle.grammar.specs.Bytes.{bytes, alphanumeric, Word, is_name}
 use Rattle.grammar.specs.Forms.{Atom, Literal}
 use Rattle.grammar.specs.Shapes.{Read, after, after_word, name, rest, bracket, atom, literal}
 use Rattle.grammar.specs.Declarations.{variables_of, variables}
-use Rattle.grammar.proofs.Tests.{either, clash}
+use Rattle.grammar.proofs.Tests.{clash}
 use Rattle.display_shapes.specs.Rows.{Row}
 use Rattle.display_parts.specs.Placed.{behind, spaced}
 use Rattle.display_parts.proofs.Inverse.{after-inverse, name-inverse, rest-inverse, bracket-inverse, atom-inverse, literal-inverse}
@@ -43,7 +44,7 @@ no-space b h = ne_eqb b 32 (λ z. clash h (subst (λ (x : ℕ). alphanumeric x �
 
 word-words : (s : List ℕ) → words s ≡ words (after_word s)
 word-words [] = refl
-word-words (b ∷ s) = ⊎_elim (λ (q : alphanumeric b ≡ true). rw (q, no-space b q) (word-words s)) (λ (q : alphanumeric b ≡ false). rw q) (either (alphanumeric b))
+word-words (b ∷ s) = ⊎_elim (λ (q : alphanumeric b ≡ true). rw (q, no-space b q) (word-words s)) (λ (q : alphanumeric b ≡ false). rw q) (cases_Bool (alphanumeric b))
 
 pub name-words : (s : List ℕ) {w t : List ℕ} → name s ≡ some (w, t) → words s ≡ words t
 name-words s e = word-words s ∙ ap words (sym (name-inverse s e).1)

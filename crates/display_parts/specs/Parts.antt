@@ -1,5 +1,5 @@
 -- THE PARTS OF A LINE: the clause of a `rule`, `new` or `next` line is part 0, the stages of an `ask` line are parts 1 and on.
-use Rattle.std.specs.Prelude.{cond, List, [], ◌∷◌, ℕ, ◌-◌, eqb}
+use Rattle.std.specs.Prelude.{if◌then◌else◌, List, [], ◌∷◌, ℕ, ◌-◌, ◌==◌}
 use Rattle.std.proofs.Math.Option.{Option, none, some}
 use Rattle.grammar.specs.Bytes.{Word}
 use Rattle.grammar.specs.Forms.{Literal, Form, state_form, rel_form, rule_form, new_form, next_form, ask_form}
@@ -12,10 +12,10 @@ Part = List Word × List Literal
 
 -- the part of a clause, and of a stage
 abbrev pub clause_of : List Word → List Literal → ℕ → Option Part
-clause_of hs b n = cond (eqb n 0) (some (hs, b)) none
+clause_of hs b n = if n == 0 then some (hs, b) else none
 
 abbrev pub stage_of : List (List Literal) → ℕ → Option Part
-stage_of qs n = cond (eqb n 0) none (pick qs (n - 1) >>= λ q. some ([], q))
+stage_of qs n = if n == 0 then none else (pick qs (n - 1) >>= λ q. some ([], q))
 
 -- part n of a form
 abbrev pub part_in : Form → ℕ → Option Part

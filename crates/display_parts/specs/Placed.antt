@@ -1,6 +1,6 @@
 -- WHERE A PART OF A LINE STANDS.
 use Rattle.std.specs.Prelude as std
-use Rattle.std.specs.Prelude.{◌≡◌, Some, None, cond, List, [], ◌∷◌, ◌++◌, ℕ, zero, suc, ◌-◌, ◌≤◌, ◌<◌, eqb, length, drop}
+use Rattle.std.specs.Prelude.{◌≡◌, Some, None, if◌then◌else◌, List, [], ◌∷◌, ◌++◌, ℕ, zero, suc, ◌-◌, ◌≤◌, ◌<◌, ◌==◌, length, drop}
 use Rattle.std.proofs.Math.Option.{Option, none, some}
 use Rattle.std.proofs.Math.Seq.{slice}
 use Rattle.grammar.specs.Bytes.{Word}
@@ -19,7 +19,7 @@ named (some r) = r.0 ∷ []
 
 -- the name behind a space
 abbrev pub behind : ℕ → List ℕ → List Word
-behind b s = cond (eqb b 32) (named (name s)) []
+behind b s = if b == 32 then named (name s) else []
 
 -- the names behind the spaces that are among the first n bytes
 abbrev pub spaced : ℕ → List ℕ → List Word

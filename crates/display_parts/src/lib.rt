@@ -6,7 +6,7 @@ ghost use Rattle.std.proofs.Math.Option.{some};
 ghost use Rattle.grammar.specs.Bytes.{bytes};
 ghost use Rattle.grammar.specs.Shapes.{after, rest};
 ghost use Rattle.display_parts.specs.Parts.{part_of};
-ghost use Rattle.display_parts.specs.Closes.{Closes};
+ghost use Rattle.display_parts.specs.Closes.{Closes, Ended};
 ghost use Rattle.display_parts.specs.Placed.{Gives};
 
 use display_shapes::{Item, Literal, Names, Span, Stage, atom_end, item_at, items_end, spaced_end};
@@ -26,7 +26,7 @@ pub struct Part {
 }
 
 // Whether the line ends with at most n items, each after a space, and the closing bracket.
-// The line and a place stay two parameters: a part has places of the whole line.
+// The line and a place stay two parameters: the place goes into the part as it is, which a slice from it on would not show.
 fn closes<T: Item>(line: &[u8], at: usize, n: usize) -> bool
     requires { at ≤ length line.now }
     ensures { Closes (rest T.read n) line.now at result }
@@ -37,21 +37,29 @@ fn closes<T: Item>(line: &[u8], at: usize, n: usize) -> bool
     }
 }
 
+// The clause with those places, if at most eight literals behind `body` end the line.
+fn clause(line: &[u8], head: Option<Span>, from: usize, body: usize) -> Option<Part>
+    requires { body ≤ length line.now }
+    ensures { Ended line.now head from body result }
+{
+    if !closes::<Literal>(line, body, BODY) {
+        return None;
+    }
+    Some(Part {
+        head,
+        from,
+        body,
+        end: line.len(),
+    })
+}
+
 // The clause of a `rule` line.
 fn rule_part(line: &[u8]) -> Option<Part>
     requires { (6 ≤ length line.now) × (after (bytes "(rule ") line.now ≡ some (drop 6 line.now)) }
     ensures { Gives line.now (part_of line.now 0) result }
 {
     let h = atom_end(line, 6)?;
-    if !closes::<Literal>(line, h, BODY) {
-        return None;
-    }
-    Some(Part {
-        head: None,
-        from: 6,
-        body: h,
-        end: line.len(),
-    })
+    clause(line, None, 6, h)
 }
 
 // The clause of a `new` line.
@@ -60,15 +68,7 @@ fn new_part(line: &[u8]) -> Option<Part>
     ensures { Gives line.now (part_of line.now 0) result }
 {
     let l = Names::end(line, 5)?;
-    if !closes::<Literal>(line, l, BODY) {
-        return None;
-    }
-    Some(Part {
-        head: None,
-        from: l,
-        body: l,
-        end: line.len(),
-    })
+    clause(line, None, l, l)
 }
 
 // The clause of a `next` line.
@@ -79,15 +79,7 @@ fn next_part(line: &[u8]) -> Option<Part>
     let x = text_scan::name_end(line, 6)?;
     let p = spaced_end::<Names>(line, x)?;
     let b = spaced_end::<Names>(line, p)?;
-    if !closes::<Literal>(line, b, BODY) {
-        return None;
-    }
-    Some(Part {
-        head: Some(Span { from: 6, to: x }),
-        from: b,
-        body: b,
-        end: line.len(),
-    })
+    clause(line, Some(Span { from: 6, to: x }), b, b)
 }
 
 // The clause of a line.

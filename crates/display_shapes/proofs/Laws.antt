@@ -19,10 +19,6 @@ use lib.Seq.{slice}
 pub ends_some : {A : Type 0} {read : List ℕ → Read A} {text : List ℕ} {at e : ℕ} {x : A} → at < e → e ≤ length text → read (drop at text) ≡ some (x, drop e text) → EndsAt read text at e
 ends_some {x} a b h = record { value = x; begins = a; ends = b; found = h }
 
--- a name
-pub ends-name : {text : List ℕ} {at e : ℕ} → NameEnd text at e → EndsAt name text at e
-ends-name h = ends_some h.begins h.ends h.read
-
 -- AFTER A SPACE
 module _ {A : Type 0} (read : List ℕ → Read A) (text : List ℕ) (at : ℕ) where
   pub space-missing : after (bytes " ") (drop at text) ≡ none → after_space read (drop at text) ≡ none

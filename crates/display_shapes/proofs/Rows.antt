@@ -45,10 +45,6 @@ module _ {A : Type 0} (read : List ℕ → Read A) where
   no_row s [] z (t, e) = some-none e (rw z)
   no_row s (x ∷ xs) z (c, t, u, e, f, g, r) = absurd (let y : ◌≡◌ {A = ℕ} 0 1 = cc in omega arith)
 
-  closed-row : (s : List ℕ) {t : List ℕ} (n : ℕ) (xs : List A) → after (bytes ")") s ≡ some t → Row read s xs → pick xs n ≡ none
-  closed-row s n [] e r = refl
-  closed-row s n (x ∷ xs) e (c, t, u, z, f, g, r) = some-none e f
-
   -- one item is read from the row
   front : (text : List ℕ) (i : ℕ) (xs : List A) {x : A} {u : List ℕ} → i < length text → after (bytes ")") (drop i text) ≡ none → read (drop (i + 1) text) ≡ some (x, u) → Row read (drop i text) xs
       → (ys : List A) × (xs ≡ x ∷ ys) × Row read u ys

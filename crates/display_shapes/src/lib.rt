@@ -31,7 +31,7 @@ pub trait Item {
     ghost read: { List ℕ → Read Value };
 
     // Where the item that is next ends.
-    // The line and a place stay two parameters: the place where an item ends in the whole line is the answer.
+    // The line and a place stay two parameters: of a slice from the place on the answer would be a length, which each reader would add to the place again.
     fn end(text: &[u8], at: usize) -> Option<usize>
         requires { at ≤ length text.now }
         ensures { Ends read text.now at result };
@@ -119,6 +119,7 @@ pub fn spaced_end<T: Item>(text: &[u8], at: usize) -> Option<usize>
 }
 
 // Where at most n items, each after a space, end with the closing bracket.
+// The loop stays beside `text_rows::read_row`: a line is shown whatever is declared, so that there are no names to hand on and nothing is kept of an item.
 // The line and a place stay two parameters, as at `Item::end`.
 pub fn items_end<T: Item>(text: &[u8], at: usize, n: usize) -> Option<usize>
     requires { at ≤ length text.now }
@@ -155,7 +156,7 @@ pub fn atom_end(text: &[u8], at: usize) -> Option<usize>
 }
 
 // The item behind byte i, unless that closes the row.
-// The line and a place stay two parameters: the span has places of the whole line.
+// The line and a place stay two parameters: a span of a slice from the place on would be moved back by it at each call.
 fn item_behind<T: Item>(text: &[u8], i: usize) -> Option<Span>
     requires { i ≤ length text.now }
     ensures { Behind T.read text.now i result }
@@ -171,7 +172,7 @@ fn item_behind<T: Item>(text: &[u8], i: usize) -> Option<Span>
 }
 
 // Item k of the row of them that is next.
-// The line and a place stay two parameters: the span has places of the whole line.
+// The line and a place stay two parameters, as at `item_behind`.
 pub fn item_at<T: Item>(text: &[u8], at: usize, k: usize) -> Option<Span>
     requires { at ≤ length text.now }
     ensures { Picked T.read text.now at k result }

@@ -1,7 +1,7 @@
 -- Laws of variables in order of first appearance.
 use mathlib.Core.Path.{◌≡◌, refl, sym, ap, ◌∙◌, subst}
 use mathlib.Core.Logic.{⊎_elim}
-use mathlib.Core.Bool.{Bool, true, false, ◌||◌, or_assoc, or-false}
+use mathlib.Core.Bool.{true, false, ◌||◌, or_assoc, or-false}
 use mathlib.Core.List.{List, [], ◌∷◌, ◌++◌, append_assoc, append-nil}
 use mathlib.Core.Option.{none, some}
 use Prim.Native.Nat.{ℕ, zero, suc, ◌+◌, ◌-◌, ◌≤◌, ◌<◌}
@@ -10,14 +10,15 @@ use lib.Dec.{eqb}
 use lib.ListN.{length, take, drop, get_or, length-append, length-drop}
 use lib.Seq.{slice, drop-drop, take-append_seam}
 use borrow.Author.Tests.{eqb-true}
+use Rattle.std.proofs.lemmas.Bool.{cases_Bool}
 use Rattle.grammar.specs.Bytes.{Word, same, is_name}
 use Rattle.grammar.specs.Shapes.{word, name}
 use Rattle.grammar.specs.Declarations.{member, extend}
-use Rattle.grammar.proofs.Tests.{either}
 use Rattle.grammar.proofs.Words.{same-eq, member-append, extend-append}
 use Rattle.text_scan.proofs.Laws.{next, slice-part}
 use Rattle.std.specs.Prelude as std
 use Rattle.std.specs.Prelude.{Some, None}
+use Rattle.std.specs.List.{list_any, range_with_len}
 use Rattle.display_shapes.specs.declared.Span.{Span}
 use Rattle.display_shapes.specs.Rows.{pick, Shown}
 use Rattle.display_parts.specs.Placed.{behind, spaced, leading, heading, Heads}
@@ -38,7 +39,7 @@ unfolding name
 name-front s {w} {t} e = (
   ⊎_elim
       (λ (q : is_name (word s) ≡ true). let (p, r) = name-inverse s e in rw p (name-long (word s) q))
-      (λ (q : is_name (word s) ≡ false). some-none e (rw q)) (either (is_name (word s))),
+      (λ (q : is_name (word s) ≡ false). some-none e (rw q)) (cases_Bool (is_name (word s))),
   name-joined s e,
 )
 
@@ -56,7 +57,7 @@ module _ (line : List ℕ) (i : ℕ) (l : i < length line) where
       (λ (q : eqb (get_or line i 0) 32 ≡ true).
       let z : name (drop (i + 1) line) ≡ none = rw (next line i l, eqb-true (get_or line i 0) 32 q) at h in
       rw (q, z))
-      (λ (q : eqb (get_or line i 0) 32 ≡ false). rw q) (either (eqb (get_or line i 0) 32))
+      (λ (q : eqb (get_or line i 0) 32 ≡ false). rw q) (cases_Bool (eqb (get_or line i 0) 32))
 
   pub behind-found : {e : ℕ} → EndsAt (after_space name) line i e → BehindEnd line i e
   unfolding behind_at
@@ -66,7 +67,7 @@ module _ (line : List ℕ) (i : ℕ) (l : i < length line) where
       let z : name (drop (i + 1) line) ≡ some (v.value, drop e line) = (let f = v.found in rw (next line i l, q) at f) in
       let (p, w) = name-slice line (i + 1) e (omega (arith, v.begins)) v.ends z in
       record { begins = p; ends = v.ends; read = rw (← b, z, w) })
-      (λ (q : eqb 32 (get_or line i 0) ≡ false). some-none v.found (rw (next line i l, q))) (either (eqb 32 (get_or line i 0)))
+      (λ (q : eqb 32 (get_or line i 0) ≡ false). some-none v.found (rw (next line i l, q))) (cases_Bool (eqb 32 (get_or line i 0)))
 
 -- a word among one
 member-one : (x y : Word) → member x (y ∷ []) ≡ same x y
@@ -95,15 +96,11 @@ spaced-first line i e h l = let z : e - i ≡ suc (e - (i + 1)) = omega arith in
 pub same-behind : (line : List ℕ) (i x : ℕ) (w : Word) → BehindEnd line i x → same w (take (x - (i + 1)) (drop (i + 1) line)) ≡ member w (behind_at line i)
 same-behind line i x w v = rw (v.read, member-one w (slice (i + 1) x line), slice-part line (i + 1) x (omega (arith, v.begins)))
 
-pub same-head : (line : List ℕ) (h : Span) (w : Word) → h.from < h.to → same w (take (h.to - h.from) (drop h.from line)) ≡ member w (heading line (Some h))
-same-head line h w k = rw (member-one w (slice h.from h.to line), slice-part line h.from h.to (omega arith))
-
-pub stands-step : (line : List ℕ) (i to : ℕ) (w : Word) → i < to → to ≤ length line
-    → member w (spaced (to - i) (drop i line)) ≡ (member w (behind_at line i) || member w (spaced (to - (i + 1)) (drop (i + 1) line)))
-stands-step line i to w h l = ap (member w) (spaced-first line i to h (omega arith)) ∙ member-append w (behind_at line i) (spaced (to - (i + 1)) (drop (i + 1) line))
-
-pub stands-none : (line : List ℕ) (i to : ℕ) (w : Word) → to ≤ i → member w (spaced (to - i) (drop i line)) ≡ false
-stands-none line i to w h = let z : to - i ≡ 0 = omega arith in rw z
+-- whether the word stands behind one of the n bytes from i on
+pub stands-any : (line : List ℕ) (w : Word) (n i : ℕ) → i + n ≤ length line → list_any (λ k. member w (behind_at line k)) (range_with_len i n) ≡ member w (spaced n (drop i line))
+unfolding behind_at
+stands-any line w zero i h = refl
+stands-any line w (suc n) i h = rw (stands-any line w n (i + 1) (omega arith), next line i (omega arith)) (sym (member-append w (behind (get_or line i 0) (drop (i + 1) line)) (spaced n (drop (i + 1) line))))
 
 -- BEFORE A BYTE
 module _ (line : List ℕ) (p : Part) where
@@ -130,9 +127,9 @@ member-extend x vs [] = sym (or-false (member x vs))
 member-extend x vs (y ∷ ys) = ⊎_elim
     (λ (q : member y vs ≡ true). rw q (member-extend x vs ys ∙ ⊎_elim
     (λ (r : same x y ≡ true). rw (r, subst (λ (w : Word). member w vs ≡ true) (sym (same-eq x y r)) q))
-    (λ (r : same x y ≡ false). rw r) (either (same x y))))
+    (λ (r : same x y ≡ false). rw r) (cases_Bool (same x y))))
     (λ (q : member y vs ≡ false). rw q (member-extend x (vs ++ (y ∷ [])) ys ∙ rw (member-append x vs (y ∷ []), or-false (same x y)) (or_assoc (member x vs) (same x y) (member x ys))))
-    (either (member y vs))
+    (cases_Bool (member y vs))
 
 member-firsts : (x : Word) (xs : List Word) → member x (extend [] xs) ≡ member x xs
 member-firsts x xs = member-extend x [] xs
@@ -171,7 +168,7 @@ pick-extend j vs [] h = refl
 pick-extend j vs (x ∷ xs) h = ⊎_elim
     (λ (q : member x vs ≡ true). rw q (pick-extend j vs xs h))
     (λ (q : member x vs ≡ false). rw q (pick-extend j (vs ++ (x ∷ [])) xs (omega (arith, length-append vs (x ∷ []))) ∙ pick-kept j vs (x ∷ []) h))
-    (either (member x vs))
+    (cases_Bool (member x vs))
 
 pick-last : (vs : List Word) (x : Word) → pick (vs ++ (x ∷ [])) (length vs) ≡ some x
 pick-last [] x = refl

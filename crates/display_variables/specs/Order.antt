@@ -1,5 +1,5 @@
 -- VARIABLES IN ORDER OF FIRST APPEARANCE.
-use Rattle.std.specs.Prelude.{◌≡◌, false, List, [], ◌∷◌, ◌++◌, ℕ, ◌+◌, ◌-◌, ◌≤◌, ◌<◌, length, drop, get_or}
+use Rattle.std.specs.Prelude.{◌≡◌, false, List, [], ◌∷◌, ◌++◌, ℕ, ◌+◌, ◌-◌, ◌≤◌, ◌<◌, length, drop, slice_index}
 use Rattle.std.proofs.Math.Seq.{slice}
 use Rattle.grammar.specs.Bytes.{Word}
 use Rattle.grammar.specs.Declarations.{member, extend}
@@ -8,7 +8,7 @@ use Rattle.display_parts.specs.declared.Part.{Part}
 
 -- the name behind byte i, if that is a space
 unfoldable pub behind_at : List ℕ → ℕ → List Word
-behind_at line i = behind (get_or line i 0) (drop (i + 1) line)
+behind_at line i = behind (slice_index line i) (drop (i + 1) line)
 
 -- the names of a part that stand behind the spaces before byte i
 unfoldable pub before : List ℕ → Part → ℕ → List Word

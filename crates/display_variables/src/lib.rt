@@ -27,12 +27,7 @@ fn stands(line: &[u8], from: usize, to: usize, name: &[u8]) -> bool
     requires { (from ≤ to) × (to ≤ length line.now) }
     ensures { result ≡ member name.now (spaced (to - from) (drop from line.now)) }
 {
-    for i in from..to {
-        if is_behind(line, i, name) {
-            return true;
-        }
-    }
-    false
+    (from..to).any(|i| is_behind(line, i, name))
 }
 
 // Whether the name is the head.
@@ -47,7 +42,7 @@ fn is_head(line: &[u8], head: Option<Span>, name: &[u8]) -> bool
 }
 
 // Whether the name stands in the part before byte i.
-// That the part lies in the line stays a clause: a part has numbers only, and the line is lent beside it.
+// That the part lies in the line stays a clause: as an invariant it would ask for the line in each part, beside the places that `display_parts` promises more of.
 fn is_known(line: &[u8], p: Part, i: usize, name: &[u8]) -> bool
     requires { Within line.now p × (p.from ≤ i) × (i ≤ length line.now) }
     ensures { result ≡ member name.now (before line.now p i) }

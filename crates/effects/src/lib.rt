@@ -15,12 +15,7 @@ fn clause_on(m: &Model, line: u32) -> Option<usize>
     requires { WellFormed m.now }
     ensures { MatchOption result ((k : ℕ) → k < m.now.clausecount → (clause_at m.now k).line ≢ line) (λ i. (i < m.now.clausecount) × ((clause_at m.now i).line ≡ line) × ((k : ℕ) → k < i → (clause_at m.now k).line ≢ line)) }
 {
-    for i in 0..m.clausecount {
-        if m.clauses[i].line == line {
-            return Some(i);
-        }
-    }
-    None
+    (0..m.clausecount).find(|i| m.clauses[*i].line == line)
 }
 
 // The number of what a clause makes of an object in a state.

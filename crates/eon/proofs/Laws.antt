@@ -9,15 +9,16 @@ use lib.Dec.{eqb, ltb, leb}
 use lib.ListN.{length, take, get_or, replicate, length-replicate}
 use lib.Seq.{get_or-take, length-slice, length-take-le}
 use borrow.Author.Tests.{leb-true, le-ltb}
+use Rattle.std.proofs.lemmas.Bool.{cases_Bool}
 use Rattle.std.proofs.lemmas.List.{length-take}
 use Rattle.limits.specs.Limits as limit
 use Rattle.semantics.specs.Models.{Program, Question}
-use Rattle.model.specs.Records.{program_of, question_of}
+use Rattle.model.specs.Records.{name_of, program_of, question_of}
 use Rattle.model.specs.declared.Model.{Model}
 use Rattle.grammar.specs.Bytes.{bytes, Word, letter, alphanumeric, every, same, is_name, lines}
 use Rattle.grammar.specs.Declarations.{Declared}
 use Rattle.grammar.specs.Texts.{accepted, outcome}
-use Rattle.grammar.proofs.Tests.{either, and_left, and_right}
+use Rattle.grammar.proofs.Tests.{and_left, and_right}
 use Rattle.acceptance.specs.Represents.{Represents}
 use Rattle.acceptance.specs.Sound.{name_at}
 use Rattle.acceptance.proofs.Acceptance.{accepted-sound}
@@ -55,8 +56,8 @@ module _ (text : List ℕ) (D : Declared) (P : Program) (Q : Question) (m : Mode
     within = λ i h. names.within i (omega (arith, rep.declared));
     short = λ i h.
         let j : i < length D = omega (arith, rep.declared) in
-        let a = get_or m.names i 0 in
-        let l = get_or m.lengths i 0 in
+        let a = (name_of m i).start in
+        let l = (name_of m i).len in
         omega (arith, length-slice a (a + l) text (names.within i j), ap length (names.name i j), name-short (name_at D i) ((accepted-sound text D P Q ok).lines.declarations.names i j));
   }
 
@@ -129,7 +130,7 @@ zeros-length n = omega (arith, length-replicate {A = ℕ} n 0)
 -- with buffers that have their sizes, the answer is the text's
 in-room : (text : List ℕ) (short : Bool) → short ≡ false → called text short false ≡ outcome text
 unfolding called early outcome
-in-room text short e = rw e (⊎_elim (λ (q : bytes-wrong ≡ true). rw q refl) (λ (q : bytes-wrong ≡ false). rw q refl) (either bytes-wrong))
+in-room text short e = rw e (⊎_elim (λ (q : bytes-wrong ≡ true). rw q refl) (λ (q : bytes-wrong ≡ false). rw q refl) (cases_Bool bytes-wrong))
   where
     bytes-wrong : Bool
     bytes-wrong = eqb (length text) 0 || ltb limit.text (length text)

@@ -1,5 +1,5 @@
 -- WHAT IS SAID OF A RUN put to a text: the replay's answer, and for a broken run the reason.
-use Rattle.std.specs.Prelude.{◌≡◌, ◌⊎◌, List, [], ℕ, ◌<◌, length, get_or, Result}
+use Rattle.std.specs.Prelude.{◌≡◌, ◌⊎◌, List, [], ℕ, ◌<◌, length, slice_index, Result}
 use Rattle.std.proofs.Math.Option.{some}
 use Rattle.semantics.specs.Models.{Program, Question}
 use Rattle.semantics.specs.Runs as runs
@@ -24,7 +24,7 @@ use Rattle.explain.specs.declared.Explanation.TheVariants.{Kept, Broken}
 abbrev pub Reasoned : Program → Question → List ℕ → ℕ → Reason → Type 0
 Reasoned P Q run k r =
     ((k ≡ length run) × (r ≡ Ends))
-    ⊎ ((k < length run) × ((p : runs.Place) → place_of (get_or run k 0) ≡ some p → (s : runs.Session) × Leads P Q (start []) run k s × Because P Q s p r))
+    ⊎ ((k < length run) × ((p : runs.Place) → place_of (slice_index run k) ≡ some p → (s : runs.Session) × Leads P Q (start []) run k s × Because P Q s p r))
 
 -- the explanation of an answer over a program and a question
 abbrev pub Tells : Program → Question → List ℕ → Answer → Explanation → Type 0

@@ -6,15 +6,9 @@ use native.Mathlib.Omega.{arith}
 use lib.ListN.{length, take, drop, get_or, set, replicate, take-append-drop}
 use lib.Seq.{paste, take_all, drop-cons, drop-length, length-take-le}
 use Rattle.limits.specs.Limits as limit
-use Rattle.analyzer_verdict.specs.declared.Analysis.{Analysis}
 use Rattle.analyzer_verdict.specs.Judging.{refusal}
 use Rattle.replay_session.specs.declared.Session.{Session}
 use Rattle.exports.specs.Cells.{table, state_of, cells_of}
-
--- beside an answer of the analysis
-pub table_filled : (a : Analysis) (last : ℕ) → length a.states ≡ limit.listed
-    → paste (set (set (replicate (limit.listed + 2) 0) 0 a.count) (limit.listed + 1) last) 1 a.states (length a.states) ≡ table a last
-table_filled a last h = rw (take_all (length a.states) a.states (omega arith), h) refl
 
 -- beside a refusal they are zero
 pub zero-beside-refusal : (n l : ℕ) → table (refusal n l) 0 ≡ replicate (limit.listed + 2) 0

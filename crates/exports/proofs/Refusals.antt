@@ -9,6 +9,7 @@ use native.Mathlib.Omega.{arith}
 use lib.Dec.{eqb, ltb}
 use lib.ListN.{length}
 use borrow.Author.Tests.{ltb-false}
+use Rattle.std.proofs.lemmas.Bool.{cases_Bool}
 use Rattle.limits.specs.Limits as limit
 use Rattle.semantics.specs.Models.{Program, Question}
 use Rattle.grammar.specs.Bytes as bytes
@@ -19,7 +20,6 @@ use Rattle.grammar.specs.Declarations.{is_state, arity_of, Declared, lookup}
 use Rattle.grammar.specs.Rows.{row, many_states, many_relations, many_clauses, again, supported, few, repeats, carries_many, name_fault, list_fault, head_fault, plain_fault, negated_fault, literal_fault, body_fault, scope_fault, stages_fault, fault}
 use Rattle.grammar.specs.Texts.{Outcome, accepted, refused, Judged, bad, good, shaped, judge, Step, wrong, adds, asks, effect, step, finish, read_lines, outcome}
 use Rattle.semantics.proofs.Tools.{or-false}
-use Rattle.grammar.proofs.Tests.{either}
 use Rattle.grammar.proofs.Lower.{lower-bound}
 use Rattle.grammar.proofs.Lines.{length-lines}
 use Rattle.calls.specs.Calls.{early, short, called}
@@ -112,7 +112,7 @@ JudgedInRange (good f) = Unit {0}
 judge-range : (l : bytes.Line) → JudgedInRange (judge l)
 unfolding judge
 judge-range (unended s) = omega arith
-judge-range (ended s) = ⊎_elim (λ (q : every allowed s ≡ true). rw q (go (form_of s))) (λ (q : every allowed s ≡ false). rw q (omega arith)) (either (every allowed s))
+judge-range (ended s) = ⊎_elim (λ (q : every allowed s ≡ true). rw q (go (form_of s))) (λ (q : every allowed s ≡ false). rw q (omega arith)) (cases_Bool (every allowed s))
   where
     go : (o : Option Form) → JudgedInRange (shaped o)
     go none = omega arith
@@ -131,7 +131,7 @@ step_range : (n : ℕ) (D : Declared) (P : Program) (j : Judged) → JudgedInRan
 unfolding step
 step_range n D P (bad r) h = h
 step_range n D P (good f) h = ⊎_elim (λ (q : eqb (fault D (length P) f) 0 ≡ true). rw q (effect-range n D P f))
-    (λ (q : eqb (fault D (length P) f) 0 ≡ false). rw q (fault-most D (length P) f)) (either (eqb (fault D (length P) f) 0))
+    (λ (q : eqb (fault D (length P) f) 0 ≡ false). rw q (fault-most D (length P) f)) (cases_Bool (eqb (fault D (length P) f) 0))
 
 wider : (m k : ℕ) → m ≤ k → (o : Outcome) → InRange m o → InRange k o
 wider m k h (accepted D P Q) r = tt
@@ -155,7 +155,7 @@ read-range m (l ∷ ls) n D P h = go (step n D P (judge l)) (step_range n D P (j
 
 outcome-range : (text : List ℕ) → InRange (limit.text + 1) (outcome text)
 unfolding outcome
-outcome-range text = go (either wrong_size)
+outcome-range text = go (cases_Bool wrong_size)
   where
     wrong_size : Bool
     wrong_size = eqb (length text) 0 || ltb limit.text (length text)
@@ -173,7 +173,7 @@ rows-range false false false = inl (omega arith)
 
 pub called-range : (text : List ℕ) (short long : Bool) → InRange (limit.text + 1) (called text short long)
 unfolding called early
-called-range text short long = ⊎_elim (λ (q : eqb first 0 ≡ true). rw q (outcome-range text)) (λ (q : eqb first 0 ≡ false). rw q (rows-range (eqb (length text) 0 || ltb limit.text (length text)) short long, omega arith)) (either (eqb first 0))
+called-range text short long = ⊎_elim (λ (q : eqb first 0 ≡ true). rw q (outcome-range text)) (λ (q : eqb first 0 ≡ false). rw q (rows-range (eqb (length text) 0 || ltb limit.text (length text)) short long, omega arith)) (cases_Bool (eqb first 0))
   where
     first : ℕ
     first = cond (eqb (length text) 0 || ltb limit.text (length text)) 1 (cond short 12 (cond long 14 0))

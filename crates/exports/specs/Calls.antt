@@ -1,5 +1,5 @@
 -- WHAT THE EXPORTED CALLS ANSWER: each passes on the whole contract of the public call, its answer as a number and its records as cells.
-use Rattle.std.specs.Prelude.{◌≡◌, cond, List, ◌++◌, map, ℕ, ltb, length, drop, Result}
+use Rattle.std.specs.Prelude.{◌≡◌, if◌then◌else◌, List, ◌++◌, map, ℕ, nat_lt, length, drop, Result}
 use Rattle.std.proofs.Math.Option.{Option, none}
 use Rattle.limits.specs.Limits as limit
 use Rattle.grammar.specs.Texts.{outcome}
@@ -70,8 +70,8 @@ written (unreadable at) run = run
 
 -- A HAND-IN, with the run table after it: row 12, or what it says
 pub record Handed (handin run : List ℕ) (n : ℕ) (run' : List ℕ) : Type 0 where
-  pub number : n ≡ cond (ltb (length run) limit.run) (refusal 12 0) (codes.handed (told (reading handin)))
-  pub table : run' ≡ cond (ltb (length run) limit.run) run (written (reading handin) run)
+  pub number : n ≡ (if nat_lt (length run) limit.run then refusal 12 0 else codes.handed (told (reading handin)))
+  pub table : run' ≡ (if nat_lt (length run) limit.run then run else written (reading handin) run)
 
 -- THE MARK of a hand-in to a text, with the work area, the run table and the table of those who stood by after it
 pub record Marked (text handin work run stood : List ℕ) (n : ℕ) (work' run' stood' : List ℕ) : Type 0 where
@@ -94,7 +94,7 @@ pub record Declared (text : List ℕ) (i n : ℕ) : Type 0 where
 -- A PART OF A LINE; a line that is longer than a text has none
 pub record Spanned (line : List ℕ) (part : Option (List ℕ)) (n : ℕ) : Type 0 where
   pub span : Span
-  pub shows : Shows line (cond (ltb limit.text (length line)) none part) span
+  pub shows : Shows line (if nat_lt limit.text (length line) then none else part) span
   pub number : n ≡ codes.spanned span
 
 -- THE TEXT THAT A DESK for Asbestos labels writes, with the output after it

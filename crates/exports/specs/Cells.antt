@@ -1,5 +1,5 @@
 -- CELLS: rows of numbers in place of records.
-use Rattle.std.specs.Prelude.{List, [], ◌∷◌, ◌++◌, ℕ, ◌+◌, ◌-◌, take, get_or}
+use Rattle.std.specs.Prelude.{List, [], ◌∷◌, ◌++◌, ℕ, ◌+◌, ◌-◌, take, slice_index}
 use Rattle.limits.specs.Limits as limit
 use Rattle.analyzer_verdict.specs.declared.Answer.{Answer}
 use Rattle.analyzer_verdict.specs.declared.Answer.TheVariants.{Reached, Unreached, Refused}
@@ -8,7 +8,7 @@ use Rattle.replay_session.specs.declared.Session.{Session}
 
 -- the number of the shown run's last place, 0 where there is no run
 abbrev pub last_number : Answer → List ℕ → ℕ
-last_number (Reached n last) run = get_or run (n - 1) 0
+last_number (Reached n last) run = slice_index run (n - 1)
 last_number Unreached run = 0
 last_number (Refused n l) run = 0
 
@@ -21,10 +21,10 @@ abbrev pub state_of : List ℕ → Session
 state_of cells =
     record {
       states = take limit.objects cells;
-      objects = get_or cells limit.objects 0;
-      met = get_or cells (limit.objects + 1) 0;
-      carried = get_or cells (limit.objects + 2) 0 ∷ get_or cells (limit.objects + 3) 0 ∷ [];
-      kept = get_or cells (limit.objects + 4) 0;
+      objects = slice_index cells limit.objects;
+      met = slice_index cells (limit.objects + 1);
+      carried = slice_index cells (limit.objects + 2) ∷ slice_index cells (limit.objects + 3) ∷ [];
+      kept = slice_index cells (limit.objects + 4);
     }
 
 abbrev pub cells_of : Session → List ℕ

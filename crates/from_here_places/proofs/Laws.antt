@@ -2,6 +2,7 @@
 use mathlib.Core.Path.{◌≡◌, sym, ◌∙◌, subst}
 use mathlib.Core.Logic.{inl, inr, ⊎_elim}
 use mathlib.Core.Bool.{true, false}
+use Rattle.std.proofs.lemmas.Bool.{cases_Bool}
 use Rattle.std.specs.Bool.{then_some}
 use mathlib.Core.List.{List, [], ◌∷◌}
 use mathlib.Core.Option.{some-injective}
@@ -13,7 +14,7 @@ use lib.ListN.{length}
 use Rattle.semantics.specs.Models.{Program, Question}
 use Rattle.semantics.specs.Runs as runs
 use Rattle.semantics.specs.Runs.{start, after}
-use Rattle.semantics.proofs.Tools.{either, clash}
+use Rattle.semantics.proofs.Tools.{clash}
 use Rattle.model.specs.declared.Model.{Model}
 use Rattle.model.specs.Records.{program_of, question_of}
 use Rattle.replay_session.specs.declared.Answer.{Answer}
@@ -38,4 +39,4 @@ module _ (m : Model) (ns : List ℕ) (s : Session) where
   stands (Broken k) h e = ⊎_elim
       (λ (q : eqb k (length ns) ≡ true). rw q (subst (λ (i : ℕ). Stopped m ns i s) (eqb-true k (length ns) q) e))
       (λ (q : eqb k (length ns) ≡ false). rw q (λ t l. clash (eq-eqb k (length ns) (omega (arith, at-its-length (program_of m) (question_of m) (start []) t ns 0 k h l))) q))
-      (either (eqb k (length ns)))
+      (cases_Bool (eqb k (length ns)))

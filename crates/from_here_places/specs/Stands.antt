@@ -1,5 +1,5 @@
 -- WHERE PLACES LEAD from the empty database, wherever they end.
-use Rattle.std.specs.Prelude.{Bool, true, Option, Some, None, List, [], ℕ, eqb, length}
+use Rattle.std.specs.Prelude.{Bool, true, Option, Some, None, List, [], ℕ, ◌==◌, length}
 use Rattle.semantics.specs.Runs as runs
 use Rattle.semantics.specs.Runs.{start}
 use Rattle.model.specs.declared.Model.{Model}
@@ -12,7 +12,7 @@ use Rattle.replay_runs.specs.Endings.{Leads, Stopped}
 -- the answer to a run of n places says that none of them is broken: "a run that ends early is broken at its length"
 abbrev pub unbroken : Answer → ℕ → Bool
 unbroken Kept n = true
-unbroken (Broken k) n = eqb k n
+unbroken (Broken k) n = k == n
 
 -- all places are allowed, and lead to the state; or they lead nowhere, since one of them is broken
 abbrev pub Stands : Model → List ℕ → Option Session → Type 0

@@ -1,5 +1,5 @@
 -- WHAT CAN STILL BECOME OF AN OBJECT (document 02, R-7), for a program and a question: what is answered, and what is left in the work area and the run table.
-use Rattle.std.specs.Prelude.{◌≡◌, ◌⊎◌, ◌≢◌, List, [], ◌∷◌, ◌++◌, map, ℕ, ◌-◌, ◌≤◌, ◌<◌, length, take, drop, get_or}
+use Rattle.std.specs.Prelude.{◌≡◌, ◌⊎◌, ◌≢◌, List, [], ◌∷◌, ◌++◌, map, ℕ, ◌-◌, ◌≤◌, ◌<◌, length, take, drop, slice_index, slice_index_or}
 use Rattle.std.proofs.Math.Option.{some}
 use Rattle.limits.specs.Limits as limit
 use Rattle.semantics.specs.Models.{Program, Question, names}
@@ -45,7 +45,7 @@ pub record ShownFrom (P : Program) (Q : Question) (D : Database) (x o : ℕ) (ru
   pub objects : List ℕ
   pub ends : places ≡ before ++ (meet (length Q) objects ∷ [])
   pub meeting : stands_for place ≡ some (meet (length Q) objects)
-  pub last : place ≡ placed (get_or run' (n - 1) 0)
+  pub last : place ≡ placed (slice_index run' (n - 1))
 
 -- THE VERDICT: "all stages are met from here on, counted anew, and the first variable of stage 1", x, "stands for that object"
 abbrev pub Answered : Program → Question → Database → ℕ → ℕ → List ℕ → List ℕ → Answer → Type 0
@@ -71,7 +71,7 @@ module _ (run : List ℕ) (a : Analysis) (run' : List ℕ) where
     -- object o after the places ns: "16 if one of the places is broken or the object hasn't been created"
     abbrev pub Put : List ℕ → ℕ → Type 0
     Put ns o = (((t : Session) → Leave P Q ns t → o < length t.db → ⊥) × Refuses 16)
-        ⊎ ((t : Session) × Leave P Q ns t × (o < length t.db) × Asked t.db o (names (get_or Q 0 [])))
+        ⊎ ((t : Session) × Leave P Q ns t × (o < length t.db) × Asked t.db o (names (slice_index_or Q 0 [])))
 
 -- THE ANSWER a to the question put with the places ns and the object o, with the work area and the run table before and after it; the first work bytes are zero with every answer
 pub record Judges (P : Program) (Q : Question) (ns : List ℕ) (o : ℕ) (work run : List ℕ) (a : Analysis) (work' run' : List ℕ) : Type 0 where

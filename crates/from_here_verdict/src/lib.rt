@@ -17,24 +17,8 @@ use facts_heads::ROOM;
 use limits::EARLIER;
 use model::Model;
 use replay_session::Session;
-use rows::{Refusal, Row};
+use rows::Row;
 use search::Found;
-
-// The refusals: a place is broken or the object was not created; stage 1 has no variable; too many objects exist.
-const NOT_THERE: Refusal = Refusal {
-    row: Row::Place,
-    line: 0,
-};
-
-const NO_VARIABLE: Refusal = Refusal {
-    row: Row::NoVariable,
-    line: 0,
-};
-
-const MANY_OBJECTS: Refusal = Refusal {
-    row: Row::Objects,
-    line: 0,
-};
 
 // Writes the run of a reached question. Returns how many places it has.
 // `Ready m s object` stays a clause and its three parameters stay apart, since the search asks for the model and one state alone and a record would be taken apart for it; the length of `run` stays a clause, since C lends a row that may be longer.
@@ -42,14 +26,8 @@ fn show(m: Model, s: Session, object: u32, facts: &[u8], run: &mut [u32], found:
     requires { Ready m s object × SearchedFrom m (state_in s object) facts.now found × (found.reached ≡ true) × (limit.run ≤ length run.old) }
     ensures { ShownFrom m (there m s) object run.old run.new result }
 {
-    let explored = found.explored;
-    let states = explored.states;
-    let levels = found.levels;
-    let rows = levels.rows;
-    let moves = explored.moves;
-    let table = moves.table;
-    let steps = moves.steps;
-    let ways = moves.ways;
+    let states = found.explored.states;
+    let moves = &found.explored.moves;
     let slot = search_states::seek(
         &states.states[..states.count],
         s.states[object as usize],
@@ -59,10 +37,10 @@ fn show(m: Model, s: Session, object: u32, facts: &[u8], run: &mut [u32], found:
         facts,
         m,
         states,
-        &rows,
-        &table,
-        &steps,
-        &ways,
+        &found.levels.rows,
+        &moves.table,
+        &moves.steps,
+        &moves.ways,
         s.objects as u32,
         object,
         slot,
@@ -100,14 +78,7 @@ fn ask(m: Model, s: Session, object: u32, run: &mut [u32]) -> Analysis
         return analyzer_verdict::refuse(CROWDED);
     };
     let answer = conclude(m, s, object, &facts, run, found);
-    let explored = found.explored;
-    let listing = explored.listing;
-    let states = listing.states;
-    Analysis {
-        answer,
-        states,
-        count: listing.count,
-    }
+    analyzer_verdict::with_states(answer, found.explored.listing)
 }
 
 // The answer about an object after the places, with the refusals that come before the states are counted.
@@ -116,17 +87,17 @@ fn judge(m: Model, places: &[u32], object: u32, run: &mut [u32]) -> Analysis
     ensures { Put run.old result run.new (program_of m) (question_of m) places.now object }
 {
     let Some(s) = from_here_places::stand(m, places) else {
-        return analyzer_verdict::refuse(NOT_THERE);
+        return analyzer_verdict::refuse(Row::Place.refusal());
     };
     if object as usize >= s.objects {
-        return analyzer_verdict::refuse(NOT_THERE);
+        return analyzer_verdict::refuse(Row::Place.refusal());
     }
     let first = m.stages[0];
     if first.variables == 0 {
-        return analyzer_verdict::refuse(NO_VARIABLE);
+        return analyzer_verdict::refuse(Row::NoVariable.refusal());
     }
     if s.objects > EARLIER {
-        return analyzer_verdict::refuse(MANY_OBJECTS);
+        return analyzer_verdict::refuse(Row::Objects.refusal());
     }
     ask(m, s, object, run)
 }

@@ -8,13 +8,14 @@ use Prim.Native.Nat.{ℕ, suc, ◌≤◌, ◌<◌}
 use native.Mathlib.Omega.{arith}
 use lib.ListN.{length, take, get_or}
 use lib.Seq.{get_or-take, length-take-le}
+use Rattle.std.proofs.lemmas.Bool.{cases_Bool}
 use Rattle.limits.specs.Limits as limit
 use Rattle.semantics.specs.Models.{elem, Body, next, Program, line, vars, Supported, SafeLine}
 use Rattle.semantics.specs.Facts.{Database, state}
 use Rattle.semantics.specs.Steps.{Reachable}
 use Rattle.semantics.specs.Tables.{Within, seat}
 use Rattle.semantics.specs.Walkers.{Takes}
-use Rattle.semantics.proofs.Tools.{either, seat-ok}
+use Rattle.semantics.proofs.Tools.{seat-ok}
 use Rattle.semantics.proofs.WalkersMoves.{takes-live}
 use Rattle.semantics.proofs.WalkersSlots.{takes-within}
 use Rattle.model.specs.declared.Model.{Model}
@@ -75,7 +76,7 @@ module _ (m : Model) (wf : WellFormed m) (one : OneVariable m) (w : List ℕ) (r
   few = omega (arith, many, h.proper.count)
 
   full : elem 0 S ≡ false
-  full = ⊎_elim (λ e. absurd (row-full r.states h.proper e)) (λ e. e) (either (elem 0 S))
+  full = ⊎_elim (λ e. absurd (row-full r.states h.proper e)) (λ e. e) (cases_Bool (elem 0 S))
 
   listed : (t : ℕ) → elem t S ≡ true → Reachable P t
   listed t e = (h.reachable t).1 (inr e)
@@ -98,7 +99,7 @@ module _ (m : Model) (wf : WellFormed m) (one : OneVariable m) (w : List ℕ) (r
           unmet = ⊎_elim
               (λ (z : bit_at M r.states.count ≡ true). absurd (omega (arith, many, met-below m wf one S r.states.count ((met.bits r.states.count (omega (arith, h.proper.count))).0 z))))
               (λ (z : bit_at M r.states.count ≡ false). z)
-              (either (bit_at M r.states.count));
+              (cases_Bool (bit_at M r.states.count));
         }
 
     abbrev G : Arena

@@ -10,13 +10,14 @@ use borrow.Author.Tests.{eqb-true}
 use lib.Dec.{eqb}
 use lib.ListN.{length, take, drop, get_or, replicate, take-append-drop}
 use lib.Seq.{ext_get_or, get_or-take, length-take-le}
+use Rattle.std.proofs.lemmas.Bool.{cases_Bool}
 use Rattle.std.specs.Prelude.{Result, Ok, Err}
 use Rattle.rows.specs.Rows.{number_of}
 use Rattle.rows.specs.declared.Refusal.{Refusal}
 use Rattle.rows.proofs.Laws.{same-refusal}
 use Rattle.limits.specs.Limits as limit
 use Rattle.semantics.specs.Models.{Body, Program, Question, names}
-use Rattle.semantics.proofs.Tools.{either, clash, no_none}
+use Rattle.semantics.proofs.Tools.{clash, no_none}
 use Rattle.games.specs.Game.{Tells}
 use Rattle.games.specs.Sides.{Hosts}
 use Rattle.games.proofs.Holding.{tells-one}
@@ -32,12 +33,12 @@ told-one v w e = ⊎_elim
     (λ (p : eqb v limit.none ≡ true). ⊎_elim
     (λ (q : eqb w limit.none ≡ true). eqb-true v limit.none p ∙ sym (eqb-true w limit.none q))
     (λ (q : eqb w limit.none ≡ false). no_none {A = v ≡ w} (rw (p, q) at e))
-    (either (eqb w limit.none)))
+    (cases_Bool (eqb w limit.none)))
     (λ (p : eqb v limit.none ≡ false). ⊎_elim
     (λ (q : eqb w limit.none ≡ true). no_none {A = v ≡ w} (sym (rw (p, q) at e)))
     (λ (q : eqb w limit.none ≡ false). some-injective v w (rw (p, q) at e))
-    (either (eqb w limit.none)))
-    (either (eqb v limit.none))
+    (cases_Bool (eqb w limit.none)))
+    (cases_Bool (eqb v limit.none))
 
 -- the ask has one form
 abbrev first : Question → Body

@@ -1,5 +1,5 @@
 -- ATTACKER AND GUARDIAN (document 02, R-12): what is answered for a program, a question and the lines of the two sides, and what is left in the work area.
-use Rattle.std.specs.Prelude.{◌≡◌, ◌⊎◌, Bool, true, false, cond, ◌||◌, List, ℕ, ◌-◌, ◌<◌, eqb, drop, get_or, replicate, Result, Ok, Err}
+use Rattle.std.specs.Prelude.{◌≡◌, ◌⊎◌, Bool, true, false, if◌then◌else◌, ◌||◌, List, ℕ, ◌-◌, ◌<◌, ◌==◌, drop, slice_index, replicate, Result, Ok, Err}
 use Rattle.rows.specs.Rows.{number_of}
 use Rattle.rows.specs.declared.Refusal.{Refusal}
 use Rattle.std.proofs.Math.Option.{Option, none, some}
@@ -22,14 +22,14 @@ owned A B guardian = B
 
 -- WHAT A NUMBER TELLS: 255 stands for none
 unfoldable pub told : ℕ → Option ℕ
-told v = cond (eqb v limit.none) none (some v)
+told v = if v == limit.none then none else some v
 
 -- THE GAME IS TOLD beside the helpers H: it has an arena, and in each arena of it, in whatever order that has the moves, each of the first n states has the number of moves within which the attacker
 -- can force the outcome, and with no fewer; or 255, and the guardian can hold out
 pub record Played (P : Program) (lines : Side → List ℕ) (b : Body) (x : ℕ) (states moves : List ℕ) (n : ℕ) (H : Database) : Type 0 where
   pub arena : Arena
   pub hosts : Hosts P H lines b x arena
-  pub tells : (G : Arena) → Hosts P H lines b x G → (i : ℕ) → i < n → Tells G (get_or states i 0) (told (get_or moves i 0))
+  pub tells : (G : Arena) → Hosts P H lines b x G → (i : ℕ) → i < n → Tells G (slice_index states i) (told (slice_index moves i))
 
 -- the ask has the form of a game's
 abbrev pub Formed : Question → Type 0

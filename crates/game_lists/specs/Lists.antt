@@ -1,5 +1,5 @@
 -- WHAT IS REFUSED OF A GAME (document 02, R-12): the list of a side's lines, and the form of the question.
-use Rattle.std.specs.Prelude.{◌≡◌, Bool, true, false, not, ◌||◌, List, [], ◌∷◌, ℕ, ltb, length}
+use Rattle.std.specs.Prelude.{◌≡◌, Bool, true, false, not, ◌||◌, List, [], ◌∷◌, ℕ, nat_lt, length}
 use Rattle.semantics.specs.Models.{Body, Line, rule, new, next, other, Program, line, Question, names}
 use Rattle.model.specs.declared.Model.{Model}
 use Rattle.model.specs.Records.{stage_at}
@@ -21,7 +21,7 @@ strange P (ℓ ∷ ls) = not (is_next (line P ℓ)) || strange P ls
 
 -- 21: the list is "over ten", or names such a line
 unfoldable pub faulty : Program → List ℕ → Bool
-faulty P ls = ltb most (length ls) || strange P ls
+faulty P ls = nat_lt most (length ls) || strange P ls
 
 -- "THE ASK HAS ONE STAGE WITH ONE VARIABLE": the stage b and the variable x. 22 "if the ask has another form"
 abbrev pub Form : Question → Body → ℕ → Type 0

@@ -6,12 +6,13 @@ use mathlib.Core.List.{List}
 use Prim.Native.Nat.{ℕ, ◌+◌, ◌*◌, ◌/◌, ◌≤◌, ◌<◌}
 use native.Mathlib.Omega.{arith}
 use lib.ListN.{length, replicate, get_or-eq_default}
+use Rattle.std.proofs.lemmas.Bool.{cases_Bool}
 use Rattle.semantics.specs.Labels.{relabel}
 use Rattle.semantics.specs.Models.{elem, Distinct, line}
 use Rattle.semantics.specs.Facts.{Database, state}
 use Rattle.semantics.specs.Tables.{Within, seat}
 use Rattle.semantics.specs.Walkers.{Whole, Takes}
-use Rattle.semantics.proofs.Tools.{either, same?, clash, seat-ok}
+use Rattle.semantics.proofs.Tools.{same?, clash, seat-ok}
 use Rattle.semantics.proofs.WalkersMoves.{elem-state}
 use Rattle.semantics.proofs.WalkersSlots.{one-slot, takes-within}
 use Rattle.model.specs.declared.Action.{Action}
@@ -28,13 +29,13 @@ use Rattle.search_states.proofs.Laws.{length-row, row-full}
 use Rattle.search_states.proofs.Seats.{seat-absent}
 use Rattle.search_ways.specs.Moves.{matrix_bytes, Marks, None, With, CanTake}
 use Rattle.search_ways.specs.Steps.{Turns}
-use Rattle.search_ways.proofs.Marking.{marks-none, marks-so, marks-same, marks-bit, marks_then}
+use Rattle.search_ways.proofs.Marking.{marks-none, marks-so, marks-bit, marks_then}
 use Rattle.search_ways.proofs.Stepping.{can-takes, takes-can}
 use Rattle.game_moves.specs.Own.{Own, Goes, OwnBelow}
 
 -- THE PLACE OF A STATE, listed or empty
 pub seat-most : (s : ℕ) (S : Database) → seat s S ≤ length S
-seat-most s S = ⊎_elim (λ (e : elem s S ≡ true). omega (arith, (seat-ok s S e).0)) (λ (e : elem s S ≡ false). omega (arith, seat-absent s S e)) (either (elem s S))
+seat-most s S = ⊎_elim (λ (e : elem s S ≡ true). omega (arith, (seat-ok s S e).0)) (λ (e : elem s S ≡ false). omega (arith, seat-absent s S e)) (cases_Bool (elem s S))
 
 -- behind the last state is the empty one
 pub state-behind : (S : Database) → state S (length S) ≡ 0
@@ -45,7 +46,7 @@ state-seat S s (inr e) = (seat-ok s S e).1
 state-seat S s (inl z) = ⊎_elim
     (λ (e : elem s S ≡ true). (seat-ok s S e).1)
     (λ (e : elem s S ≡ false). ap (state S) (seat-absent s S e) ∙ state-behind S ∙ sym z)
-    (either (elem s S))
+    (cases_Bool (elem s S))
 
 pub seat-state : (S : Database) → Distinct S → elem 0 S ≡ false → (t : ℕ) → t ≤ length S → seat (state S t) S ≡ t
 seat-state S one full t l = ⊎_elim
@@ -60,9 +61,6 @@ seat-state S one full t l = ⊎_elim
 module _ (table : List ℕ) (i : ℕ) (S : Database) (plus minus : ℕ) where
   abbrev pub GoesBelow : ℕ → ℕ → ℕ → Type 0
   GoesBelow k e t = (e < k) × Goes table i S (Next plus minus) e t
-
-  pub goes_none : (w : List ℕ) → Marks w (With w (GoesBelow 0))
-  goes_none w = marks-same w (GoesBelow 0) (λ e t q. omega (arith, q.0))
 
   module _ (k : ℕ) (w₀ w : List ℕ) (m : Marks w (With w₀ (GoesBelow k))) where
     pub goes-more : k < length S → in_row table i k ≡ true → (t : ℕ) → t ≡ seat (relabel (state S k) plus minus) S → t < width.slots → (k * width.bits + t) / 8 < length w → Marks (with_bit w (k * width.bits + t)) (With w₀ (GoesBelow (k + 1)))
@@ -135,7 +133,7 @@ module _ (m : Model) (wf : WellFormed m) (s : States) (proper : Proper s) (whole
   S = row s
 
   full : elem 0 S ≡ false
-  full = ⊎_elim (λ e. absurd (row-full s proper e)) (λ e. e) (either (elem 0 S))
+  full = ⊎_elim (λ e. absurd (row-full s proper e)) (λ e. e) (cases_Bool (elem 0 S))
 
   below : {e : ℕ} → e < length S → e < s.count
   below l = omega (arith, l, length-row s proper)

@@ -17,6 +17,7 @@ use search_states::States;
 use search_ways::{MATRIX, TABLE};
 
 // Marks where a `next` clause leads from each slot of its row of the table; a state without a slot is the empty one, whose slot is the one behind the last.
+// It stays beside `lead_next` of search_ways, which passes over a state without a slot.
 fn lead(
     states: &[u32],
     plus: u32,

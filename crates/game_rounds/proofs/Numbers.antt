@@ -9,10 +9,11 @@ use native.Mathlib.Omega.{arith}
 use borrow.Author.Tests.{ltb-true, ltb-false}
 use lib.Dec.{ltb}
 use lib.ListN.{length}
+use Rattle.std.proofs.lemmas.Bool.{cases_Bool}
 use Rattle.std.specs.Prelude as prelude
 use Rattle.limits.specs.Limits as limit
 use Rattle.semantics.specs.Models.{elem}
-use Rattle.semantics.proofs.Tools.{either, same?, clash}
+use Rattle.semantics.proofs.Tools.{same?, clash}
 use Rattle.facts_bits.specs.Bits.{bit_at, in_row}
 use Rattle.games.specs.Game.{Side, attacker, guardian, Arena, options, at}
 use Rattle.games.specs.Rounds.{Closed, Ranks, is_some, fill, table, Saturated, before, ready_before, Amid}
@@ -57,7 +58,7 @@ module _ (A B M : List ℕ) (n : ℕ) (fits : Fits A B M n) where
     λ a. slots-none (of A B a) n (suc n) (λ t l. ⊎_elim
         (λ (q : in_row (of A B a) n t ≡ true). absurd (omega (arith, (inside a n t (omega (arith, l, fits.few)) q).0)))
         (λ (q : in_row (of A B a) n t ≡ false). q)
-        (either (in_row (of A B a) n t))),
+        (cases_Bool (in_row (of A B a) n t))),
   )
 
   -- AT MOST 252 ROUNDS give a number
@@ -75,7 +76,7 @@ module _ (A B M : List ℕ) (n : ℕ) (fits : Fits A B M n) where
       start e l = ⊎_elim
           (λ (q : bit_at M e ≡ true). rw q (ap rank_of (rw q at (h.each e l))))
           (λ (q : bit_at M e ≡ false). rw q (ap rank_of (rw q at (h.each e l))))
-          (either (bit_at M e))
+          (cases_Bool (bit_at M e))
 
       same : (a : Side) (e : ℕ) → e ≤ n → ranked ranks ranks (at a e) ≡ table G 0 (at a e)
       same attacker e l = start e l
@@ -146,7 +147,7 @@ module _ (A B M : List ℕ) (n : ℕ) (fits : Fits A B M n) where
 
   -- so the rounds come to an end
   ends : (k : ℕ) → (Saturated G (up_to (suc n)) k → ⊥) → k < 252
-  ends k h = ⊎_elim (λ (q : ltb k few.0 ≡ true). omega (arith, ltb-true k few.0 q, few.1)) (λ (q : ltb k few.0 ≡ false). absurd (h (saturated-later G (up_to (suc n)) closed few.0 k (ltb-false k few.0 q) few.2))) (either (ltb k few.0))
+  ends k h = ⊎_elim (λ (q : ltb k few.0 ≡ true). omega (arith, ltb-true k few.0 q, few.1)) (λ (q : ltb k few.0 ≡ false). absurd (h (saturated-later G (up_to (suc n)) closed few.0 k (ltb-false k few.0 q) few.2))) (cases_Bool (ltb k few.0))
 
   -- THE LOOP: where k rounds were made, and the round's number is one more
   module _ (k round : ℕ) (number : round ≡ suc k) (most : k ≤ 252) (us vs : List Number) (agree : Agree G n k us vs) (us' : List Number) (r : Bool) (first : Turned attacker A n us vs round us' r) (vs' : List Number) (q : Bool) (second : Turned guardian B n vs us' round vs' q) where

@@ -1,7 +1,7 @@
 -- The slots of a row, and whether a side can get a number there.
 use mathlib.Core.Path.{◌≡◌, refl, sym, ap, ◌∙◌, subst}
 use mathlib.Core.Logic.{⊎_elim, ◌≢◌}
-use mathlib.Core.Bool.{Bool, true, false, ◌&&◌, ◌||◌, false≢true}
+use mathlib.Core.Bool.{Bool, true, false, ◌&&◌, ◌||◌, false≢true, or-false, and-true}
 use mathlib.Core.List.{List, [], ◌∷◌}
 use Prim.Native.Nat.{ℕ, zero, suc, ◌+◌, ◌≤◌, ◌<◌}
 use native.Mathlib.Omega.{arith}
@@ -9,10 +9,11 @@ use native.Mathlib.Nat.{not-suc-le-zero}
 use borrow.Author.Tests.{eqb-true, eq-eqb}
 use lib.Dec.{eqb}
 use lib.ListN.{length}
+use Rattle.std.proofs.lemmas.Bool.{cases_Bool, or_cases}
 use Rattle.std.specs.Bool.{MatchBool}
 use Rattle.limits.specs.Limits as limit
 use Rattle.semantics.specs.Models.{elem}
-use Rattle.semantics.proofs.Tools.{either, same?, clash, or-true-cases, or_right}
+use Rattle.semantics.proofs.Tools.{same?, clash, or_right}
 use Rattle.facts_bits.specs.Bits.{in_row, Copied, Vacant}
 use Rattle.games.specs.Game.{Side, attacker, guardian, or_stay}
 use Rattle.games.specs.Rounds.{any, every}
@@ -27,7 +28,7 @@ slots-here w e (suc k) t l q = ⊎_elim
     (λ (z : t ≢ k). ⊎_elim
     (λ (b : in_row w e k ≡ true). rw b (or_right (eqb t k) (elem t (slots w e k)) (slots-here w e k t (omega (arith, l, z)) q)))
     (λ (b : in_row w e k ≡ false). rw b (slots-here w e k t (omega (arith, l, z)) q))
-    (either (in_row w e k)))
+    (cases_Bool (in_row w e k)))
     (same? t k)
 
 pub slots_set : (w : List ℕ) (e k t : ℕ) → elem t (slots w e k) ≡ true → (t < k) × (in_row w e t ≡ true)
@@ -36,9 +37,9 @@ slots_set w e (suc k) t i = ⊎_elim
     (λ (b : in_row w e k ≡ true). ⊎_elim
     (λ q. let z = eqb-true t k q in (omega (arith, z), subst (λ (x : ℕ). in_row w e x ≡ true) (sym z) b))
     (λ q. let r = slots_set w e k t q in (omega (arith, r.0), r.1))
-    (or-true-cases (eqb t k) (elem t (slots w e k)) (rw b at i)))
+    (or_cases (eqb t k) (elem t (slots w e k)) (rw b at i)))
     (λ (b : in_row w e k ≡ false). let r = slots_set w e k t (rw b at i) in (omega (arith, r.0), r.1))
-    (either (in_row w e k))
+    (cases_Bool (in_row w e k))
 
 pub slots-none : (w : List ℕ) (e k : ℕ) → ((t : ℕ) → t < k → in_row w e t ≡ false) → slots w e k ≡ []
 slots-none w e zero h = refl
@@ -51,7 +52,7 @@ up-here (suc k) t l = ⊎_elim (λ (z : t ≡ k). rw (eq-eqb t k z) refl) (λ (z
 
 pub up-below : (k t : ℕ) → elem t (up_to k) ≡ true → t < k
 up-below zero t i = absurd (false≢true i)
-up-below (suc k) t i = ⊎_elim (λ q. omega (arith, eqb-true t k q)) (λ q. omega (arith, up-below k t q)) (or-true-cases (eqb t k) (elem t (up_to k)) i)
+up-below (suc k) t i = ⊎_elim (λ q. omega (arith, eqb-true t k q)) (λ q. omega (arith, up-below k t q)) (or_cases (eqb t k) (elem t (up_to k)) i)
 
 pub length_up : (k : ℕ) → length (up_to k) ≡ k
 length_up zero = refl
@@ -66,7 +67,7 @@ module _ (f : ℕ → Bool) (w : List ℕ) (e n : ℕ) where
   any-slots false h = ⊎_elim
       (λ (q : any f (slots w e (suc n)) ≡ true). let r = any-use f (slots w e (suc n)) q in let s = slots_set w e (suc n) r.0 r.1 in clash r.2 (h r.0 (omega arith) (omega (arith, s.0)) s.1))
       (λ (q : any f (slots w e (suc n)) ≡ false). sym q)
-      (either (any f (slots w e (suc n))))
+      (cases_Bool (any f (slots w e (suc n))))
 
   pub every-slots : (r : Bool)
       → MatchBool r ((t : ℕ) → 0 ≤ t → t < n + 1 → in_row w e t ≡ true → f t ≡ true) ((t : ℕ) × (0 ≤ t) × (t < n + 1) × (in_row w e t ≡ true × f t ≡ false))
@@ -75,20 +76,12 @@ module _ (f : ℕ → Bool) (w : List ℕ) (e n : ℕ) where
   every-slots false h = ⊎_elim
       (λ (z : every f (slots w e (suc n)) ≡ true). clash (every-use f h.0 (slots w e (suc n)) z (slots-here w e (suc n) h.0 (omega (arith, h.2)) h.3.0)) h.3.1)
       (λ (z : every f (slots w e (suc n)) ≡ false). sym z)
-      (either (every f (slots w e (suc n))))
+      (cases_Bool (every f (slots w e (suc n))))
 
 -- READY, by whether the side has a move
 stay-same : (e t : ℕ) (xs : List ℕ) → elem t xs ≡ true → or_stay e xs ≡ xs
 stay-same e t [] i = absurd (false≢true i)
 stay-same e t (x ∷ xs) i = refl
-
-or_same : (b : Bool) → (b || false) ≡ b
-or_same true = refl
-or_same false = refl
-
-and_same : (b : Bool) → (b && true) ≡ b
-and_same true = refl
-and_same false = refl
 
 module _ (w : List ℕ) (e n : ℕ) (few : n ≤ limit.atomic) (ranks : List Number) (round : ℕ) (row : List ℕ) (copied : Copied w e row) (r : Bool) (vacant : Vacant row r) where
   -- without a move the side stays
@@ -99,8 +92,8 @@ module _ (w : List ℕ) (e n : ℕ) (few : n ≤ limit.atomic) (ranks : List Num
       none = slots-none w e (suc n) (λ t l. sym (copied.bits t (omega (arith, l, few))) ∙ vacant.none q t (omega (arith, l, few)))
 
       go : (a : Side) → sooner ranks round e ≡ ready_by a w e n ranks round
-      go attacker = rw none (sym (or_same (sooner ranks round e)))
-      go guardian = rw none (sym (and_same (sooner ranks round e)))
+      go attacker = rw none (sym (or-false (sooner ranks round e)))
+      go guardian = rw none (sym (and-true (sooner ranks round e)))
 
   -- with one it must move
   module _ (inside : Inside w n) (q : r ≡ false) where

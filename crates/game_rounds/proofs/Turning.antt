@@ -37,16 +37,6 @@ module _ (a : Side) (w : List ℕ) (n : ℕ) (ranks₀ others : List Number) (ro
     pub some : changed ≡ true → (k : ℕ) × (k < e) × (number_at ranks₀ k ≡ prelude.None) × (can k ≡ true)
     pub same : changed ≡ false → (k : ℕ) → k < e → number_at ranks k ≡ number_at ranks₀ k
 
-  pub partly_none : Partly 0 ranks₀ false
-  partly_none =
-      record {
-        long = refl;
-        done = λ k l. absurd (omega (arith, l));
-        rest = λ k l. refl;
-        some = λ q. absurd (false≢true q);
-        same = λ q k l. absurd (omega (arith, l));
-      }
-
   module _ (e : ℕ) (ranks : List Number) (changed : Bool) (p : Partly e ranks changed) where
     -- slot e gets the round's number
     pub partly-given : e < length ranks → number_at ranks e ≡ prelude.None → can e ≡ true → Partly (e + 1) (set ranks e (prelude.Some round)) true

@@ -1,17 +1,19 @@
 -- THE BOARD: a game on the slots 0 to n, by matrices of moves, and the numbers that rounds give its positions.
-use Rattle.std.specs.Prelude.{◌≡◌, Bool, true, false, cond, List, [], ◌∷◌, ℕ, zero, suc, ◌*◌, ◌≤◌, ◌<◌, length, get_or}
+use Rattle.std.specs.Prelude.{◌≡◌, Bool, true, false, if◌then◌else◌, List, [], ◌∷◌, ℕ, zero, suc, ◌*◌, ◌≤◌, ◌<◌, length, slice_index_or}
 use Rattle.std.specs.Prelude as prelude
 use Rattle.std.proofs.Math.Option.{Option, none, some}
 use Rattle.limits.specs.Limits as limit
 use Rattle.facts_bits.specs.Width as width
 use Rattle.facts_bits.specs.Bits.{bit_at, in_row}
+use Rattle.game_rounds.specs.declared.Side as declared
+use Rattle.game_rounds.specs.declared.Side.TheVariants.{Attacker, Guardian}
 use Rattle.games.specs.Game.{Side, attacker, guardian, Arena, or_stay, at}
 use Rattle.games.specs.Rounds.{any, every, before, table, Saturated}
 
 -- the slots below k that row e of a matrix has, the last first
 abbrev pub slots : List ℕ → ℕ → ℕ → List ℕ
 slots w e zero = []
-slots w e (suc k) = cond (in_row w e k) (k ∷ slots w e k) (slots w e k)
+slots w e (suc k) = if in_row w e k then k ∷ slots w e k else slots w e k
 
 -- THE GAME of slots: A has the attacker's moves, B the guardian's, and M the slots that meet the question
 abbrev pub of : List ℕ → List ℕ → Side → List ℕ
@@ -46,7 +48,7 @@ rank_of (prelude.Some v) = some v
 rank_of prelude.None = none
 
 abbrev pub number_at : List Number → ℕ → Number
-number_at ranks e = get_or ranks e prelude.None
+number_at ranks e = slice_index_or ranks e prelude.None
 
 -- a slot's number is below the round's
 abbrev pub sooner : List Number → ℕ → ℕ → Bool
@@ -57,9 +59,9 @@ abbrev pub ready_by : Side → List ℕ → ℕ → ℕ → List Number → ℕ 
 ready_by attacker w e n ranks round = any (sooner ranks round) (or_stay e (slots w e (suc n)))
 ready_by guardian w e n ranks round = every (sooner ranks round) (or_stay e (slots w e (suc n)))
 
-abbrev pub side_of : Bool → Side
-side_of true = attacker
-side_of false = guardian
+abbrev pub side_of : declared.Side → Side
+side_of Attacker = attacker
+side_of Guardian = guardian
 
 -- who has no number and can get one gets the round's
 abbrev pub given : Number → Bool → ℕ → Number
@@ -77,7 +79,7 @@ pub record Turned (a : Side) (w : List ℕ) (n : ℕ) (ranks others : List Numbe
 -- before the first round: 0 where the question is met, and no number elsewhere
 pub record Begun (M : List ℕ) (n : ℕ) (ranks : List Number) : Type 0 where
   pub long : length ranks ≡ limit.listed
-  pub each : (e : ℕ) → e ≤ n → number_at ranks e ≡ cond (bit_at M e) (prelude.Some 0) prelude.None
+  pub each : (e : ℕ) → e ≤ n → number_at ranks e ≡ (if bit_at M e then prelude.Some 0 else prelude.None)
 
 -- THE ATTACKER'S NUMBERS are those of so many rounds, and another round would give none
 pub record Solves (A B M : List ℕ) (n : ℕ) (ranks : List Number) : Type 0 where

@@ -13,6 +13,13 @@ use limits::LISTED;
 // The size stays here beside that of search_ways: a board is played without a search, whose crates are not named here.
 const MATRIX: usize = LISTED * BYTES;
 
+// The two sides of a game.
+#[derive(Clone, Copy)]
+enum Side {
+    Attacker,
+    Guardian,
+}
+
 // Is the number one of a round before?
 fn sooner(rank: Option<u32>, round: u32) -> bool
     ensures { result ≡ before round (rank_of rank) }
@@ -54,9 +61,8 @@ fn all_sooner(
 }
 
 // Can the side get a number at slot e in this round? A side without a move passes.
-// The flag `attacks` stays: it is asked here alone, and an enum of two sides would be asked by the same `if`.
 fn ready(
-    attacks: bool,
+    side: Side,
     moves: &[u8; MATRIX],
     e: usize,
     n: usize,
@@ -64,21 +70,20 @@ fn ready(
     round: u32,
 ) -> bool
     requires { (n ≤ limit.atomic) × (e ≤ n) × Inside moves.now n }
-    ensures { result ≡ ready_by (side_of attacks) moves.now e n ranks.now round }
+    ensures { result ≡ ready_by (side_of side) moves.now e n ranks.now round }
 {
     if facts_bits::vacant(facts_bits::row(moves, e)) {
         return sooner(ranks[e], round);
     }
-    if attacks {
-        return some_sooner(moves, e, n, ranks, round);
+    match side {
+        Side::Attacker => some_sooner(moves, e, n, ranks, round),
+        Side::Guardian => all_sooner(moves, e, n, ranks, round),
     }
-    all_sooner(moves, e, n, ranks, round)
 }
 
 // One side's part of a round: each slot without a number that can get one gets the round's. Whether one did.
-// The flag `attacks` stays: it is only handed on.
 fn turn(
-    attacks: bool,
+    side: Side,
     moves: &[u8; MATRIX],
     n: usize,
     ranks: &mut [Option<u32>; LISTED],
@@ -86,11 +91,11 @@ fn turn(
     round: u32,
 ) -> bool
     requires { (n ≤ limit.atomic) × Inside moves.now n }
-    ensures { Turned (side_of attacks) moves.now n ranks.old others.now round ranks.new result }
+    ensures { Turned (side_of side) moves.now n ranks.old others.now round ranks.new result }
 {
     let mut changed = false;
     for e in 0..=n {
-        if ranks[e].is_none() && ready(attacks, moves, e, n, others, round) {
+        if ranks[e].is_none() && ready(side, moves, e, n, others, round) {
             ranks[e] = Some(round);
             changed = true;
         }
@@ -127,8 +132,8 @@ pub fn solve(
     let mut round: u32 = 1;
     // The loop stays: it ends when a round gives no number, after no number of rounds that is known before.
     loop {
-        let moved = turn(true, ours, n, &mut first, &second, round);
-        let answered = turn(false, theirs, n, &mut second, &first, round);
+        let moved = turn(Side::Attacker, ours, n, &mut first, &second, round);
+        let answered = turn(Side::Guardian, theirs, n, &mut second, &first, round);
         if !moved && !answered {
             return first;
         }

@@ -8,10 +8,11 @@ use native.Mathlib.Omega.{arith}
 use borrow.Author.Tests.{eqb-true, eq-eqb}
 use lib.Dec.{eqb}
 use lib.ListN.{length, replicate}
+use Rattle.std.proofs.lemmas.Bool.{or_cases}
 use Rattle.limits.specs.Limits as limit
 use Rattle.semantics.specs.Models.{elem, Body, vars, supported, Supported}
 use Rattle.semantics.specs.Facts.{Database, In, Derived}
-use Rattle.semantics.proofs.Tools.{same?, clash, or-true-cases, or_right}
+use Rattle.semantics.proofs.Tools.{same?, clash, or_right}
 use Rattle.semantics.proofs.Bodies.{holds_agree, more-facts, supported-vars}
 use Rattle.model.specs.declared.Model.{Model}
 use Rattle.model.specs.declared.Stage.{Stage}
@@ -24,7 +25,8 @@ use Rattle.facts_bits.specs.Bits.{bit_at, with_bit}
 use Rattle.facts_bits.proofs.Laws.{with-bit, zero_bits}
 use Rattle.facts_table.specs.Table.{table_of}
 use Rattle.facts_candidates.specs.declared.Choice.{Choice}
-use Rattle.facts_candidates.specs.Choices.{chosen}
+use Rattle.facts_candidates.specs.Choices.{element_of}
+use Rattle.std.specs.Prelude.{Option, Some, unwrap_or}
 use Rattle.facts_find.specs.Bodies.{Fixed}
 use Rattle.facts_holds.specs.Shows.{Evaluable}
 use Rattle.facts.specs.Facts.{Exact}
@@ -32,11 +34,11 @@ use Rattle.game_lists.specs.Lists.{OneVariable}
 use Rattle.game_stage.specs.Meeting.{ShowsWith, MetAt}
 
 -- ONE FIXED VARIABLE
-pub fixed-one : (free fixed : Choice) (e : ℕ) → e < limit.listed → ((x : ℕ) → chosen free x ≡ 255) → ((x : ℕ) → x < limit.variables → chosen fixed x ≡ cond (eqb x 0) e (chosen free x)) → (σ : ℕ → ℕ) → Fixed 1 fixed σ ↔ (σ 0 ≡ e)
-fixed-one free fixed e l f c σ =
-    let here : chosen fixed 0 ≡ e = c 0 (omega arith) in (
-      (λ h. h 0 (omega arith) (λ z. omega (arith, sym here ∙ z, l)) ∙ here),
-      λ q x h n. let z : x ≡ 0 = omega (arith, h) in subst (λ (y : ℕ). σ y ≡ chosen fixed y) (sym z) (q ∙ sym here),
+pub fixed-one : (free fixed : Choice) (e : ℕ) → ((x : ℕ) → x < limit.variables → element_of fixed x ≡ cond (eqb x 0) (Some e) (element_of free x)) → (σ : ℕ → ℕ) → Fixed 1 fixed σ ↔ (σ 0 ≡ e)
+fixed-one free fixed e c σ =
+    let here : element_of fixed 0 ≡ Some e = c 0 (omega arith) in (
+      (λ h. h 0 (omega arith) e here),
+      λ q x h i n. let z : x ≡ 0 = omega (arith, h) in ap σ z ∙ q ∙ ap (λ (o : Option ℕ). unwrap_or o 0) (sym here ∙ ap (element_of fixed) (sym z) ∙ n),
     )
 
 -- a body is safe if it is with other names
@@ -106,7 +108,7 @@ module _ (D : ℕ → Type 0) where
       λ q. ⊎_elim
           (λ x. let z = eqb-true t e x in (omega (arith, z), subst D (sym z) d))
           (λ x. let y = (h t l).0 x in (omega (arith, y.0), y.1))
-          (or-true-cases (eqb t e) (bit_at r t) (sym (with-bit r e t room) ∙ q)),
+          (or_cases (eqb t e) (bit_at r t) (sym (with-bit r e t room) ∙ q)),
       λ q. with-bit r e t room ∙ ⊎_elim (λ (z : t ≡ e). rw (eq-eqb t e z) refl) (λ (z : t ≢ e). or_right (eqb t e) (bit_at r t) ((h t l).1 (omega (arith, q.0, z), q.1))) (same? t e),
     )
 

@@ -25,7 +25,7 @@ fn meets(work: &[u8], slots: &[u8], n: usize, literals: &[u32], part: Part, e: u
     requires { Consistent work.now × Own width.slots slots.now × (n ≤ width.slots) × Evaluable literals.now part × (part.variables ≡ 1) × (e < limit.listed) }
     ensures { (S : Database) → Rows S work.now → length S ≡ n → (result ≡ true) ↔ ShowsWith S work.now (body_at literals.now part.first part.count) e }
 {
-    let free = facts_holds::free();
+    let free = facts_candidates::free();
     let fixed = facts_candidates::choose(free, 0, e);
     facts_holds::shows(work, slots, n, literals, part, fixed)
 }
@@ -36,12 +36,7 @@ pub fn meeting(work: &[u8], m: Model, s: States) -> [u8; BYTES]
     ensures { Meeting (program_of m) (row s) (stage_of m.literals (stage_at m 0)) (number_in (stage_at m 0) 0) result }
 {
     let slots = facts_candidates::slots();
-    let stage = m.stages[0];
-    let part = Part {
-        first: stage.first,
-        count: stage.count,
-        variables: stage.variables as usize,
-    };
+    let part = Part::from(m.stages[0]);
     let mut met = [0u8; BYTES];
     for e in 0..s.count {
         if meets(work, &slots, s.count, &m.literals, part, e) {

@@ -7,12 +7,13 @@ use Prim.Native.Nat.{ℕ, ◌+◌, ◌≤◌}
 use borrow.Author.Tests.{eqb-true}
 use lib.Dec.{eqb}
 use lib.ListN.{length}
+use Rattle.std.proofs.lemmas.Bool.{cases_Bool, or_cases}
 use Rattle.semantics.specs.Models.{elem, Body, next, Program, line, SafeLine, Safe}
 use Rattle.semantics.specs.Facts.{Database}
 use Rattle.semantics.specs.Steps.{Reachable}
 use Rattle.semantics.specs.Tables.{Within}
 use Rattle.semantics.specs.Walkers.{Whole}
-use Rattle.semantics.proofs.Tools.{either, or-true-cases, or_right, elem-here}
+use Rattle.semantics.proofs.Tools.{or_right, elem-here}
 use Rattle.semantics.proofs.Similar.{meets-live}
 use Rattle.semantics.proofs.WalkersMoves.{takes-live}
 use Rattle.semantics.proofs.WalkersSlots.{takes-within}
@@ -30,7 +31,7 @@ pub within-elem : (S : Database) (s : ℕ) → Within S s → elem s (0 ∷ S) �
 within-elem S s w = ⊎_elim (λ q. subst (λ (z : ℕ). elem z (0 ∷ S) ≡ true) (sym q) (elem-here 0 S)) (λ q. or_right (eqb s 0) (elem s S) q) w
 
 pub elem-within : (S : Database) (s : ℕ) → elem s (0 ∷ S) ≡ true → Within S s
-elem-within S s e = ⊎_elim (λ q. inl (eqb-true s 0 q)) (λ q. inr q) (or-true-cases (eqb s 0) (elem s S) e)
+elem-within S s e = ⊎_elim (λ q. inl (eqb-true s 0 q)) (λ q. inr q) (or_cases (eqb s 0) (elem s S) e)
 
 no-elem : (xs : List ℕ) → ((t : ℕ) → elem t xs ≡ true → ⊥) → xs ≡ []
 no-elem [] h = refl
@@ -51,7 +52,7 @@ module _ (P : Program) (safe : Safe P) (S : Database) (listed : (t : ℕ) → el
     -- "The empty state is the guardian's": nothing moves it, and it doesn't meet
     pub hosts-dead : Dead G 0
     hosts-dead = (
-      ⊎_elim (λ (q : G.met 0 ≡ true). absurd (unmet-empty ((hosts.asking 0 (elem-here 0 H)).0 q))) (λ (q : G.met 0 ≡ false). q) (either (G.met 0)),
+      ⊎_elim (λ (q : G.met 0 ≡ true). absurd (unmet-empty ((hosts.asking 0 (elem-here 0 H)).0 q))) (λ (q : G.met 0 ≡ false). q) (cases_Bool (G.met 0)),
       λ a. no-elem (G.moves a 0) (λ t i. let r = (hosts.moving a 0 t (elem-here 0 H)).0 i in takes-live P safe S 0 t (line P r.0) (safe r.0) ((moves-takes P safe S listed reached H helpers 0 (inl refl) r.0 t).0 r.2) refl),
     )
       where

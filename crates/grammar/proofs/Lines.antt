@@ -7,8 +7,8 @@ use Prim.Native.Nat.{ℕ, suc, ◌≤◌}
 use native.Mathlib.Omega.{arith}
 use lib.Dec.{eqb}
 use lib.ListN.{length}
+use Rattle.std.proofs.lemmas.Bool.{cases_Bool}
 use Rattle.grammar.specs.Bytes.{Line, ended, unended, in_front, lines}
-use Rattle.grammar.proofs.Tests.{either}
 
 length_front : (b : ℕ) (ls : List Line) → length (in_front b ls) ≤ suc (length ls)
 length_front b [] = omega arith
@@ -19,4 +19,4 @@ pub length-lines : (s : List ℕ) → length (lines s) ≤ length s
 length-lines [] = omega arith
 length-lines (b ∷ s) =
     let h = length-lines s in
-    ⊎_elim (λ (q : eqb b 10 ≡ true). rw q (omega arith)) (λ (q : eqb b 10 ≡ false). rw q (let z = length_front b (lines s) in omega arith)) (either (eqb b 10))
+    ⊎_elim (λ (q : eqb b 10 ≡ true). rw q (omega arith)) (λ (q : eqb b 10 ≡ false). rw q (let z = length_front b (lines s) in omega arith)) (cases_Bool (eqb b 10))

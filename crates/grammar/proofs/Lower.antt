@@ -6,8 +6,8 @@ use Prim.Native.Nat.{ℕ, min, ◌≤◌}
 use native.Mathlib.Omega.{arith}
 use lib.Dec.{eqb}
 use borrow.Author.Tests.{eqb-true, eqb-false, eq-eqb, ne_eqb}
+use Rattle.std.proofs.lemmas.Bool.{cases_Bool}
 use Rattle.grammar.specs.Rows.{lower}
-use Rattle.grammar.proofs.Tests.{either}
 
 module _ (a b : ℕ) where
   pub lower-first : a ≡ 0 → lower a b ≡ b
@@ -16,14 +16,14 @@ module _ (a b : ℕ) where
 
   pub lower-second : b ≡ 0 → lower a b ≡ a
   unfolding lower
-  lower-second z = ⊎_elim (λ (p : eqb a 0 ≡ true). rw p (omega (arith, eqb-true a 0 p))) (λ (p : eqb a 0 ≡ false). rw (p, eq-eqb b 0 z)) (either (eqb a 0))
+  lower-second z = ⊎_elim (λ (p : eqb a 0 ≡ true). rw p (omega (arith, eqb-true a 0 p))) (λ (p : eqb a 0 ≡ false). rw (p, eq-eqb b 0 z)) (cases_Bool (eqb a 0))
 
   pub lower-both : (a ≡ 0 → ⊥) → (b ≡ 0 → ⊥) → lower a b ≡ min a b
   unfolding lower
   lower-both p q = rw (ne_eqb a 0 p, ne_eqb b 0 q)
 
 zero? : (a : ℕ) → (a ≡ 0) ⊎ (a ≡ 0 → ⊥)
-zero? a = ⊎_elim (λ p. inl (eqb-true a 0 p)) (λ p. inr (eqb-false a 0 p)) (either (eqb a 0))
+zero? a = ⊎_elim (λ p. inl (eqb-true a 0 p)) (λ p. inr (eqb-false a 0 p)) (cases_Bool (eqb a 0))
 
 -- where there is no number, both have none
 pub lower-none : (a b : ℕ) → lower a b ≡ 0 → (a ≡ 0) × (b ≡ 0)

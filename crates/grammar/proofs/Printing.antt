@@ -9,12 +9,13 @@ use native.Mathlib.Nat.{not-suc-le-zero, le_of_suc-le-suc}
 use native.Mathlib.Omega.{arith}
 use lib.Dec.{eqb, leb, ltb}
 use lib.ListN.{length, length-append}
-use borrow.Author.Tests.{eqb-true, ne_eqb, leb-true, le-leb}
+use borrow.Author.Tests.{eqb-true, ne_eqb, leb-true, le-leb, not-true}
+use Rattle.std.proofs.lemmas.Bool.{cases_Bool}
 use Rattle.limits.specs.Limits as limit
 use Rattle.grammar.specs.Bytes.{bytes, letter, alphanumeric, every, Word, same, is_name}
 use Rattle.grammar.specs.Forms.{Atom, Literal, plain, negated, Form, state_form, rel_form, rule_form, new_form, next_form, ask_form, print_rest, print_bracket, print_word, print_atom, print_literal, print, all, proper_atom, proper_literal, proper_list, proper_body, proper_stage, proper}
 use Rattle.grammar.specs.Shapes.{Read, after, word, after_word, name, rest, bracket, atom, literal, list, body, stage, arity, state_rest, rel_rest, rule_rest, new_rest, next_rest, ask_rest, line, form_of}
-use Rattle.grammar.proofs.Tests.{either, clash, and_left, and_right, not-true, eqb_same}
+use Rattle.grammar.proofs.Tests.{clash, and_left, and_right, eqb_same}
 
 -- the bytes begin with none that belongs to a word
 abbrev pub Stops : List ℕ → Type 0
@@ -112,7 +113,7 @@ after-other (d ∷ k) [] b s p q e h = rw (ne_eqb d b (λ z. clash (and_left (al
 after-other (d ∷ k) (c ∷ w) b s p q e h = ⊎_elim
     (λ (z : eqb d c ≡ true). rw z (after-other k w b s (and_right (alphanumeric d) (every alphanumeric k) p) (and_right (alphanumeric c) (every alphanumeric w) q)
     (rw (← eqb-true d c z, eqb_same d) at e) h))
-    (λ (z : eqb d c ≡ false). rw z) (either (eqb d c))
+    (λ (z : eqb d c ≡ false). rw z) (cases_Bool (eqb d c))
 
 pub not-begins : (a : Atom) → proper_atom a ≡ true → (s : List ℕ) → after (bytes "(not ") (print_atom a ++ s) ≡ none
 unfolding alphanumeric

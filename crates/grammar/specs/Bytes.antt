@@ -1,5 +1,5 @@
 -- BYTES, WORDS AND LINES. A text is a list of bytes, each a number.
-use Rattle.std.specs.Prelude.{Bool, true, false, cond, not, ◌&&◌, ◌||◌, List, [], ◌∷◌, ℕ, ◌-◌, eqb, leb, length}
+use Rattle.std.specs.Prelude.{Bool, true, false, if◌then◌else◌, not, ◌&&◌, ◌||◌, List, [], ◌∷◌, ℕ, ◌-◌, ◌==◌, nat_le, length}
 use Prim.Native.Char.{code}
 use Prim.Native.String.{String}
 use Rattle.limits.specs.Limits as limit
@@ -11,11 +11,11 @@ bytes (String.◌∷◌ c s) = code c ∷ bytes s
 
 -- "A to Z, a to z"
 abbrev pub letter : ℕ → Bool
-letter b = leb 65 b && leb b 90 || leb 97 b && leb b 122
+letter b = nat_le 65 b && nat_le b 90 || nat_le 97 b && nat_le b 122
 
 -- "digits"
 abbrev pub digit : ℕ → Bool
-digit b = leb 48 b && leb b 57
+digit b = nat_le 48 b && nat_le b 57
 
 -- "letters or digits"
 unfoldable pub alphanumeric : ℕ → Bool
@@ -23,7 +23,7 @@ alphanumeric b = letter b || digit b
 
 -- the bytes of a line: "A to Z, a to z, digits, space, the brackets ( and )"
 unfoldable pub allowed : ℕ → Bool
-allowed b = alphanumeric b || eqb b 32 || eqb b 40 || eqb b 41
+allowed b = alphanumeric b || b == 32 || b == 40 || b == 41
 
 -- every byte passes the test
 abbrev pub every : (ℕ → Bool) → List ℕ → Bool
@@ -42,7 +42,7 @@ in_front b (unended s ∷ ls) = unended (b ∷ s) ∷ ls
 
 abbrev pub lines : List ℕ → List Line
 lines [] = []
-lines (b ∷ s) = cond (eqb b 10) (ended [] ∷ lines s) (in_front b (lines s))
+lines (b ∷ s) = if b == 10 then ended [] ∷ lines s else in_front b (lines s)
 
 -- WORDS
 abbrev pub Word : Type 0
@@ -53,9 +53,9 @@ abbrev pub same : Word → Word → Bool
 same [] [] = true
 same [] (c ∷ v) = false
 same (b ∷ w) [] = false
-same (b ∷ w) (c ∷ v) = eqb b c && same w v
+same (b ∷ w) (c ∷ v) = b == c && same w v
 
 -- "A NAME OR VARIABLE is 1 to 16 letters or digits, first a letter, and is not `not`"
 unfoldable pub is_name : Word → Bool
 is_name [] = false
-is_name (b ∷ w) = letter b && every alphanumeric w && leb (length w) (limit.name - 1) && not (same (b ∷ w) (bytes "not"))
+is_name (b ∷ w) = letter b && every alphanumeric w && nat_le (length w) (limit.name - 1) && not (same (b ∷ w) (bytes "not"))

@@ -1,5 +1,5 @@
 -- DECLARATIONS: the declared relations and their codes, and the variables of a line.
-use Rattle.std.specs.Prelude.{Bool, false, cond, ◌||◌, List, [], ◌∷◌, ◌++◌, ℕ, suc, ◌+◌, ◌*◌, ◌/◌, ◌-◌, eqb, ltb}
+use Rattle.std.specs.Prelude.{Bool, false, if◌then◌else◌, ◌||◌, List, [], ◌∷◌, ◌++◌, ℕ, suc, ◌+◌, ◌*◌, ◌/◌, ◌-◌, ◌==◌, nat_lt}
 use Rattle.std.proofs.Math.Option.{Option, none, some}
 use Rattle.grammar.specs.Bytes.{Word, same}
 use Rattle.grammar.specs.Forms.{Literal, plain, negated}
@@ -9,11 +9,11 @@ abbrev pub class : ℕ → ℕ
 class c = c / 32
 
 abbrev pub is_state : ℕ → Bool
-is_state c = ltb c 32
+is_state c = nat_lt c 32
 
 -- how many variables the relation takes, a state relation one
 abbrev pub arity_of : ℕ → ℕ
-arity_of c = cond (is_state c) 1 (class c - 1)
+arity_of c = if is_state c then 1 else class c - 1
 
 -- "names are DECLARED on an earlier line and share one name space": the names in order, each with its code
 abbrev pub Declared : Type 0
@@ -22,12 +22,12 @@ Declared = List (Word × ℕ)
 -- the code of a declared name
 unfoldable pub lookup : Word → Declared → Option ℕ
 lookup w [] = none
-lookup w (d ∷ D) = cond (same w d.0) (some d.1) (lookup w D)
+lookup w (d ∷ D) = if same w d.0 then some d.1 else lookup w D
 
 -- how many relations of a class are declared
 unfoldable pub count : ℕ → Declared → ℕ
 count k [] = 0
-count k (d ∷ D) = cond (eqb (class d.1) k) (suc (count k D)) (count k D)
+count k (d ∷ D) = if class d.1 == k then suc (count k D) else count k D
 
 -- the code of the next state relation, and of the next derived relation of arity n
 abbrev pub state_code : Declared → ℕ
@@ -44,12 +44,12 @@ member x (y ∷ ys) = same x y || member x ys
 -- the variables seen so far and those of xs, each once, "in order of first appearance"
 unfoldable pub extend : List Word → List Word → List Word
 extend seen [] = seen
-extend seen (x ∷ xs) = extend (cond (member x seen) seen (seen ++ (x ∷ []))) xs
+extend seen (x ∷ xs) = extend (if member x seen then seen else seen ++ (x ∷ [])) xs
 
 -- the number of a variable among those seen
 unfoldable pub place : List Word → Word → ℕ
 place [] x = 0
-place (y ∷ ys) x = cond (same x y) 0 (suc (place ys x))
+place (y ∷ ys) x = if same x y then 0 else suc (place ys x)
 
 abbrev pub variables_of : Literal → List Word
 variables_of (plain a) = a.variables
@@ -71,7 +71,7 @@ supports (l ∷ b) = supports_of l ++ supports b
 -- in how many stages a variable stands
 unfoldable pub stands : Word → List (List Literal) → ℕ
 stands x [] = 0
-stands x (q ∷ qs) = cond (member x (variables q)) (suc (stands x qs)) (stands x qs)
+stands x (q ∷ qs) = if member x (variables q) then suc (stands x qs) else stands x qs
 
 -- the variables of all stages
 unfoldable pub all_variables : List (List Literal) → List Word

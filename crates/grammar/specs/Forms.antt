@@ -1,5 +1,5 @@
 -- FORMS: what a line of the bracket text says, as a tree with names as words; and how each is written.
-use Rattle.std.specs.Prelude.{Bool, true, ◌&&◌, List, [], ◌∷◌, ◌++◌, ℕ, ◌+◌, leb, ltb, length}
+use Rattle.std.specs.Prelude.{Bool, true, ◌&&◌, List, [], ◌∷◌, ◌++◌, ℕ, ◌+◌, nat_le, nat_lt, length}
 use Rattle.limits.specs.Limits as limit
 use Rattle.grammar.specs.Bytes.{bytes, Word, is_name}
 
@@ -69,21 +69,21 @@ proper_literal (negated a) = proper_atom a
 
 -- document 02, R-6: "lists of up to 24 names"
 abbrev pub proper_list : List Word → Bool
-proper_list l = all is_name l && leb (length l) limit.list
+proper_list l = all is_name l && nat_le (length l) limit.list
 
 -- "a body 0 to 8 literals"
 abbrev pub proper_body : List Literal → Bool
-proper_body b = all proper_literal b && leb (length b) limit.body
+proper_body b = all proper_literal b && nat_le (length b) limit.body
 
 -- a stage has "1 to 8 literals"
 abbrev pub proper_stage : List Literal → Bool
-proper_stage q = proper_body q && ltb 0 (length q)
+proper_stage q = proper_body q && nat_lt 0 (length q)
 
 -- the form keeps the limits: "`n` being 0, 1 or 2", "1 to 4 stages"
 abbrev pub proper : Form → Bool
 proper (state_form w) = is_name w
-proper (rel_form w n) = is_name w && leb n 2
+proper (rel_form w n) = is_name w && nat_le n 2
 proper (rule_form h b) = proper_atom h && proper_body b
 proper (new_form l b) = proper_list l && proper_body b
 proper (next_form x p m b) = is_name x && proper_list p && proper_list m && proper_body b
-proper (ask_form qs) = all proper_stage qs && ltb 0 (length qs) && leb (length qs) limit.stages
+proper (ask_form qs) = all proper_stage qs && nat_lt 0 (length qs) && nat_le (length qs) limit.stages

@@ -1,5 +1,5 @@
 -- WHAT AN ACCEPTED LINE SAYS, as a part of a spec-level model. A line's variables are numbered from 0 by first appearance, a rule's head or a `next` line's variable first.
-use Rattle.std.specs.Prelude.{cond, List, [], ◌∷◌, ◌++◌, map, ℕ, get_or}
+use Rattle.std.specs.Prelude.{if◌then◌else◌, List, [], ◌∷◌, ◌++◌, map, ℕ, slice_index}
 use Rattle.std.proofs.Math.Option
 use Rattle.semantics.specs.Labels.{set_of}
 use Rattle.semantics.specs.Models as meaning
@@ -30,10 +30,10 @@ module _ (D : Declared) (vs : List Word) where
 
   abbrev pub literal_of : Literal → meaning.Literal
   literal_of (plain a) =
-      cond (is_state (code_of D a.name))
-      (meaning.is (code_of D a.name) (get_or (numbers a.variables) 0 0))
-      (meaning.fact (code_of D a.name) (numbers a.variables))
-  literal_of (negated a) = meaning.isnt (code_of D a.name) (get_or (numbers a.variables) 0 0)
+      if is_state (code_of D a.name)
+      then meaning.is (code_of D a.name) (slice_index (numbers a.variables) 0)
+      else meaning.fact (code_of D a.name) (numbers a.variables)
+  literal_of (negated a) = meaning.isnt (code_of D a.name) (slice_index (numbers a.variables) 0)
 
   abbrev pub body_of : List Literal → meaning.Body
   body_of b = map literal_of b

@@ -1,5 +1,5 @@
 -- THE TABLE'S ROWS 4 TO 9 AND 11, for a line that has a shape. "In a line .. 4 to 9 by number, 11": a line gets its lowest number; 0 stands for none.
-use Rattle.std.specs.Prelude.{Bool, true, false, cond, not, ◌&&◌, ◌||◌, List, [], ◌∷◌, ◌++◌, ℕ, ◌+◌, min, eqb, leb, ltb, length}
+use Rattle.std.specs.Prelude.{Bool, true, false, if◌then◌else◌, not, ◌&&◌, ◌||◌, List, [], ◌∷◌, ◌++◌, ℕ, ◌+◌, min, ◌==◌, nat_le, nat_lt, length}
 use Rattle.std.proofs.Math.Option.{Option, none, some}
 use Rattle.limits.specs.Limits as limit
 use Rattle.grammar.specs.Bytes.{Word}
@@ -8,21 +8,21 @@ use Rattle.grammar.specs.Declarations.{is_state, arity_of, Declared, lookup, cou
 
 -- the lower of two numbers, 0 standing for none
 unfoldable pub lower : ℕ → ℕ → ℕ
-lower a b = cond (eqb a 0) b (cond (eqb b 0) a (min a b))
+lower a b = if a == 0 then b else (if b == 0 then a else min a b)
 
 -- the row's number where it applies
 abbrev pub row : ℕ → Bool → ℕ
-row n applies = cond applies n 0
+row n applies = if applies then n else 0
 
 -- row 4, "one declaration or clause too many": up to 24 states; 16 relations, of them 6 with n = 2; 64 clauses
 abbrev pub many_states : Declared → Bool
-many_states D = leb limit.states (count 0 D)
+many_states D = nat_le limit.states (count 0 D)
 
 abbrev pub many_relations : Declared → ℕ → Bool
-many_relations D n = leb limit.rels (count 1 D + count 2 D + count 3 D) || eqb n 2 && leb limit.pairs (count 3 D)
+many_relations D n = nat_le limit.rels (count 1 D + count 2 D + count 3 D) || n == 2 && nat_le limit.pairs (count 3 D)
 
 abbrev pub many_clauses : ℕ → Bool
-many_clauses clauses = leb limit.clauses clauses
+many_clauses clauses = nat_le limit.clauses clauses
 
 -- row 5, "a name declared again"
 abbrev pub again : Option ℕ → Bool
@@ -41,16 +41,16 @@ list_fault D (w ∷ ws) = lower (name_fault (lookup w D)) (list_fault D ws)
 -- a rule's head with n variables: row 6, a derived relation is wanted; row 7, "wrong number of variables"
 abbrev pub head_fault : Option ℕ → ℕ → ℕ
 head_fault none n = 6
-head_fault (some c) n = cond (is_state c) 6 (row 7 (not (eqb n (arity_of c))))
+head_fault (some c) n = if is_state c then 6 else row 7 (not (n == arity_of c))
 
 -- a literal with n variables: row 6; row 7; row 8, "`not` before a derived relation"
 abbrev pub plain_fault : Option ℕ → ℕ → ℕ
 plain_fault none n = 6
-plain_fault (some c) n = row 7 (not (eqb n (arity_of c)))
+plain_fault (some c) n = row 7 (not (n == arity_of c))
 
 abbrev pub negated_fault : Option ℕ → ℕ → ℕ
 negated_fault none n = 6
-negated_fault (some c) n = cond (eqb n (arity_of c)) (row 8 (not (is_state c))) 7
+negated_fault (some c) n = if n == arity_of c then row 8 (not (is_state c)) else 7
 
 abbrev pub literal_fault : Declared → Literal → ℕ
 literal_fault D (plain a) = plain_fault (lookup a.name D) (length a.variables)
@@ -65,7 +65,7 @@ abbrev pub supported : List Word → List Literal → Bool
 supported hs b = all (λ x. member x (supports b)) (hs ++ variables b)
 
 abbrev pub few : List Word → List Literal → Bool
-few hs b = leb (length (extend [] (hs ++ variables b))) limit.variables
+few hs b = nat_le (length (extend [] (hs ++ variables b))) limit.variables
 
 abbrev pub scope_fault : List Word → List Literal → ℕ
 scope_fault hs b = row 9 (not (supported hs b && few hs b))
@@ -83,10 +83,10 @@ stages_fault D (q ∷ qs) = lower (lower (body_fault D q) (scope_fault [] q)) (s
 -- row 11, variables that stand in two or more stages are carried; document 02, R-5: "Two variables may now be carried; three or more are refused 11"
 abbrev pub carried : List (List Literal) → List Word → List Word
 carried qs [] = []
-carried qs (x ∷ xs) = cond (leb 2 (stands x qs)) (x ∷ carried qs xs) (carried qs xs)
+carried qs (x ∷ xs) = if nat_le 2 (stands x qs) then x ∷ carried qs xs else carried qs xs
 
 abbrev pub carries_many : List (List Literal) → Bool
-carries_many qs = ltb limit.carried (length (carried qs (extend [] (all_variables qs))))
+carries_many qs = nat_lt limit.carried (length (carried qs (extend [] (all_variables qs))))
 
 -- THE LINE'S NUMBER, after the declarations D and so many clauses
 unfoldable pub fault : Declared → ℕ → Form → ℕ

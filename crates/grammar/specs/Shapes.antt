@@ -1,5 +1,5 @@
 -- SHAPES: reading a line as a form (row 3). Each reader takes what it reads from the front of a list of bytes, and gives that and the bytes left.
-use Rattle.std.specs.Prelude.{cond, List, [], ◌∷◌, ℕ, zero, suc, ◌-◌, eqb, leb, length}
+use Rattle.std.specs.Prelude.{if◌then◌else◌, List, [], ◌∷◌, ℕ, zero, suc, ◌-◌, ◌==◌, nat_le, length}
 use Rattle.std.proofs.Math.Option.{Option, none, some}
 use Rattle.limits.specs.Limits as limit
 use Rattle.grammar.specs.Bytes.{bytes, alphanumeric, Word, is_name}
@@ -18,20 +18,20 @@ abbrev pub ◌>>=◌ : {A B : Type 0} → Option A → (A → Option B) → Opti
 abbrev pub after : List ℕ → List ℕ → Option (List ℕ)
 after [] s = some s
 after (b ∷ w) [] = none
-after (b ∷ w) (c ∷ s) = cond (eqb b c) (after w s) none
+after (b ∷ w) (c ∷ s) = if b == c then after w s else none
 
 -- the letters and digits at the front, and what follows them
 abbrev pub word : List ℕ → Word
 word [] = []
-word (b ∷ s) = cond (alphanumeric b) (b ∷ word s) []
+word (b ∷ s) = if alphanumeric b then b ∷ word s else []
 
 abbrev pub after_word : List ℕ → List ℕ
 after_word [] = []
-after_word (b ∷ s) = cond (alphanumeric b) (after_word s) (b ∷ s)
+after_word (b ∷ s) = if alphanumeric b then after_word s else b ∷ s
 
 -- a name or variable
 unfoldable pub name : List ℕ → Read Word
-name s = cond (is_name (word s)) (some (word s, after_word s)) none
+name s = if is_name (word s) then some (word s, after_word s) else none
 
 -- a choice by whether there is something
 abbrev pub whether : {A B : Type 0} → Option A → (A → B) → B → B
@@ -91,7 +91,7 @@ stage s = bracket literal (limit.body - 1) s
 -- "`n` being 0, 1 or 2"
 abbrev pub arity : List ℕ → Read ℕ
 arity [] = none
-arity (b ∷ s) = cond (leb 48 b) (cond (leb b 50) (some (b - 48, s)) none) none
+arity (b ∷ s) = if nat_le 48 b then (if nat_le b 50 then some (b - 48, s) else none) else none
 
 -- `(state A)`, after its first word
 unfoldable pub state_rest : List ℕ → Read Form

@@ -1,5 +1,5 @@
 -- TEXTS: what the table answers to a text, line by line.
-use Rattle.std.specs.Prelude.{cond, ◌||◌, List, [], ◌∷◌, ◌++◌, ℕ, suc, eqb, ltb, length}
+use Rattle.std.specs.Prelude.{if◌then◌else◌, ◌||◌, List, [], ◌∷◌, ◌++◌, ℕ, suc, ◌==◌, nat_lt, length}
 use Rattle.std.proofs.Math.Option.{Option, none, some}
 use Rattle.limits.specs.Limits as limit
 use Rattle.semantics.specs.Models.{Program, Question}
@@ -26,7 +26,7 @@ shaped (some f) = good f
 
 unfoldable pub judge : Line → Judged
 judge (unended s) = bad 2
-judge (ended s) = cond (every allowed s) (shaped (form_of s)) (bad 2)
+judge (ended s) = if every allowed s then shaped (form_of s) else bad 2
 
 -- WHAT A LINE DOES, after the declarations D and the program P: it is refused; it adds to them; or it asks, and the text is to end
 pub data Step : Type 0 where
@@ -46,7 +46,7 @@ effect n D P (ask_form qs) = asks (accepted D P (question_of D qs))
 -- rows 2 and 3, then the others
 unfoldable pub step : ℕ → Declared → Program → Judged → Step
 step n D P (bad r) = wrong r
-step n D P (good f) = cond (eqb (fault D (length P) f) 0) (effect n D P f) (wrong (fault D (length P) f))
+step n D P (good f) = if fault D (length P) f == 0 then effect n D P f else wrong (fault D (length P) f)
 
 -- after `ask` on line n: row 10, "a line after `ask` (that line)"
 unfoldable pub finish : ℕ → Outcome → List Line → Outcome
@@ -60,4 +60,4 @@ read_lines n D P (l ∷ ls) = elim (step n D P (judge l)) [ wrong r ↦ refused 
 
 -- THE ANSWER TO A TEXT: row 1, "no bytes, or over 16,384"; "then line by line"
 unfoldable pub outcome : List ℕ → Outcome
-outcome text = cond (eqb (length text) 0 || ltb limit.text (length text)) (refused 1 0) (read_lines 1 [] [] (lines text))
+outcome text = if length text == 0 || nat_lt limit.text (length text) then refused 1 0 else read_lines 1 [] [] (lines text)

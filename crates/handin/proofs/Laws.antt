@@ -10,6 +10,7 @@ use native.Mathlib.Omega.{arith}
 use lib.Dec.{eqb, ltb}
 use lib.ListN.{length, take, drop, set, length-append, length-drop, length-map}
 use borrow.Author.Tests.{lt-ltb, le-ltb, ltb-true, ltb-false, eqb-true, eqb-false}
+use Rattle.std.proofs.lemmas.Bool.{cases_Bool}
 use Rattle.std.specs.List.{position}
 use Rattle.std.specs.Option.{unwrap_or}
 use Rattle.std.proofs.lemmas.List.{nil_from_length}
@@ -18,7 +19,6 @@ use Rattle.limits.specs.Limits as limit
 use Rattle.semantics.specs.Runs.{Place}
 use Rattle.model.specs.Places.{number_of}
 use Rattle.grammar.specs.Bytes.{Line, ended, unended, lines}
-use Rattle.grammar.proofs.Tests.{either}
 use Rattle.handin_lines.specs.Lines as lines_of
 use Rattle.handin_lines.specs.Lines.{verdict, nothing, place, said_by}
 use Rattle.handin_lines.specs.Found.{is_silent, number_said, clear}
@@ -39,12 +39,12 @@ longer b s q (unended w, e, f) = rw q (unended (b ∷ w), rw e, ap (λ (v : List
 first-line : (s : List ℕ) → 0 < length s → First s
 unfolding First
 first-line [] h = absurd (omega arith)
-first-line (b ∷ []) h = ⊎_elim (λ (q : eqb b 10 ≡ true). rw q (ended [], refl, refl)) (λ (q : eqb b 10 ≡ false). rw q (unended (b ∷ []), refl, refl)) (either (eqb b 10))
-first-line (b ∷ c ∷ s) h = ⊎_elim (λ (q : eqb b 10 ≡ true). rw q (ended [], refl, refl)) (λ (q : eqb b 10 ≡ false). longer b (c ∷ s) q (first-line (c ∷ s) (omega arith))) (either (eqb b 10))
+first-line (b ∷ []) h = ⊎_elim (λ (q : eqb b 10 ≡ true). rw q (ended [], refl, refl)) (λ (q : eqb b 10 ≡ false). rw q (unended (b ∷ []), refl, refl)) (cases_Bool (eqb b 10))
+first-line (b ∷ c ∷ s) h = ⊎_elim (λ (q : eqb b 10 ≡ true). rw q (ended [], refl, refl)) (λ (q : eqb b 10 ≡ false). longer b (c ∷ s) q (first-line (c ∷ s) (omega arith))) (cases_Bool (eqb b 10))
 
 pub first-end : (s : List ℕ) → first_length s ≤ length s
 first-end [] = omega arith
-first-end (b ∷ s) = ⊎_elim (λ (q : eqb b 10 ≡ true). rw q (omega arith)) (λ (q : eqb b 10 ≡ false). rw q (omega (arith, first-end s))) (either (eqb b 10))
+first-end (b ∷ s) = ⊎_elim (λ (q : eqb b 10 ≡ true). rw q (omega arith)) (λ (q : eqb b 10 ≡ false). rw q (omega (arith, first-end s))) (cases_Bool (eqb b 10))
 
 -- `position` of byte 10, or the length
 pub position-first : (s : List ℕ) → unwrap_or (position (λ b. eqb b 10) s) (length s) ≡ first_length s
@@ -53,7 +53,7 @@ position-first s =
     rw (← e) (⊎_elim
     (λ (q : ltb (first_length s) (length s) ≡ true). rw q)
     (λ (q : ltb (first_length s) (length s) ≡ false). rw q (omega (arith, first-end s, ltb-false (first_length s) (length s) q)))
-    (either (ltb (first_length s) (length s))))
+    (cases_Bool (ltb (first_length s) (length s))))
 
 pub front : (s : List ℕ) {e : ℕ} {others : List ℕ} → (length s ≡ 0 → ⊥) → e ≡ first_length s → others ≡ drop (e + 1) s → Front s (take e s) others
 unfolding First
@@ -211,7 +211,7 @@ Says left = (n first : ℕ) × (ps : List Place) × (onwards n [] (lines left) �
 -- there is room for one place more
 pub run_room : {left i line j : List ℕ} {k : ℕ} → RunSo left i k → Says left → Front i line j → k < limit.run
 run_room {k = k} so (n, first, ps, e) f =
-    ⊎_elim (λ q. ltb-true k limit.run q) (λ q. absurd (no-yes (sym (run-full so n f (omega (arith, so.few, ltb-false k limit.run q))) ∙ e))) (either (ltb k limit.run))
+    ⊎_elim (λ q. ltb-true k limit.run q) (λ q. absurd (no-yes (sym (run-full so n f (omega (arith, so.few, ltb-false k limit.run q))) ∙ e))) (cases_Bool (ltb k limit.run))
 
 -- AFTER THE PREFACE
 module _ (left : List ℕ) (n : ℕ) where
@@ -266,7 +266,7 @@ module _ (handin : List ℕ) where
 -- A HAND-IN THAT SAYS YES
 module _ (handin : List ℕ) {first : ℕ} {ps : List Place} (yes : reading handin ≡ says-yes first ps) where
   pub yes-short : length handin ≤ limit.handin
-  yes-short = ⊎_elim (λ q. absurd (no-yes (sym (reading-long handin (ltb-true limit.handin (length handin) q)) ∙ yes))) (λ q. ltb-false limit.handin (length handin) q) (either (ltb limit.handin (length handin)))
+  yes-short = ⊎_elim (λ q. absurd (no-yes (sym (reading-long handin (ltb-true limit.handin (length handin) q)) ∙ yes))) (λ q. ltb-false limit.handin (length handin) q) (cases_Bool (ltb limit.handin (length handin)))
 
   pub yes-some : handin ≡ [] → ⊥
   yes-some z = no-yes (sym (reading-empty handin yes-short z) ∙ yes)
@@ -276,7 +276,7 @@ module _ (handin : List ℕ) {first : ℕ} {ps : List Place} (yes : reading hand
     where
       away : follows false s.line (lines s.left.now) ≡ says-yes first ps → ⊥
       away q = ⊎_elim (λ z. absurd (let y = sym (follows-none s.left.now s.line (eqb-true (length s.left.now) 0 z)) ∙ q in let x : ◌≡◌ {A = ℕ} 0 1 = cc in omega arith))
-          (λ z. no-yes (sym (follows-more s.left.now s.line (eqb-false (length s.left.now) 0 z)) ∙ q)) (either (eqb (length s.left.now) 0))
+          (λ z. no-yes (sym (follows-more s.left.now s.line (eqb-false (length s.left.now) 0 z)) ∙ q)) (cases_Bool (eqb (length s.left.now) 0))
 
       go : (o : Option Bool) → verdict line ≡ o → onwards s.line [] (lines s.left.now) ≡ says-yes first ps
       go none q = absurd (no-yes (sym (first_said handin yes-short f none q) ∙ yes))

@@ -9,6 +9,7 @@ use native.Mathlib.Nat.{add-zero}
 use native.Mathlib.Omega.{arith}
 use lib.ListN.{length, get_or, length-append}
 use borrow.Author.Tests.{lt-ltb, le-ltb}
+use Rattle.std.proofs.lemmas.Bool.{cases_Bool}
 use Rattle.limits.specs.Limits as limit
 use Rattle.semantics.specs.Labels.{has}
 use Rattle.semantics.specs.Runs.{Place, step, meet}
@@ -16,7 +17,7 @@ use Rattle.model.specs.Places.{Numerable}
 use Rattle.model.specs.declared.Model.{Model}
 use Rattle.grammar.specs.Bytes.{allowed, alphanumeric, ended, lines, Word, is_name}
 use Rattle.grammar.specs.Forms.{all}
-use Rattle.grammar.proofs.Tests.{either, and_left, and_right, and_both}
+use Rattle.grammar.proofs.Tests.{and_left, and_right, and_both}
 use Rattle.listing_bytes.specs.Numerals.{decimal}
 use Rattle.listing_lines.specs.Lines.{verdict_line, states_line, name_at, names_in, atomic_line, place_line, joined, listing_of}
 use Rattle.handin_lines.specs.Lines.{verdict, place, said_by}
@@ -68,7 +69,7 @@ module _ (text : List ℕ) (m : Model) (named : (i : ℕ) → i < m.relations.co
   names-named s (suc i) h = ⊎_elim
       (λ (q : has s (get_or m.relations.codes i 0) ≡ true). rw q (all_append (names_in text m s i) (name_at text m i ∷ []) (names-named s i (omega arith)) (and_both (named i h) refl)))
       (λ (q : has s (get_or m.relations.codes i 0) ≡ false). rw (q, append-nil) (names-named s i (omega arith)))
-      (either (has s (get_or m.relations.codes i 0)))
+      (cases_Bool (has s (get_or m.relations.codes i 0)))
 
   abbrev names_of : ℕ → List Word
   names_of s = names_in text m s m.relations.count

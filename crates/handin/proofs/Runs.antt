@@ -9,11 +9,11 @@ use native.Mathlib.Omega.{arith}
 use lib.Dec.{ltb}
 use lib.ListN.{length, length-append}
 use borrow.Author.Tests.{ltb-true}
+use Rattle.std.proofs.lemmas.Bool.{cases_Bool}
 use Rattle.limits.specs.Limits as limit
 use Rattle.semantics.specs.Runs.{Place}
 use Rattle.model.specs.Places.{Numerable}
 use Rattle.grammar.specs.Bytes.{Line, lines}
-use Rattle.grammar.proofs.Tests.{either}
 use Rattle.handin_lines.specs.Lines.{Said, verdict, nothing, place, said_by}
 use Rattle.handin_lines.proofs.Numbers.{numerable}
 use Rattle.handin.specs.Handins.{Handin, says-no, says-yes, unreadable, content, onwards, follows, preface, read_lines, reading}
@@ -47,7 +47,7 @@ onwards-good first ps (l ∷ ls) h = go (said_by (content l)) refl (λ qs k. onw
     go (some nothing) e on = rw (e, onwards) tt
     go (some (place p)) e on = ⊎_elim
         (λ (q : ltb (length ps) limit.run ≡ true). rw (e, onwards, q) (on (ps ++ p ∷ []) (omega (arith, ltb-true (length ps) limit.run q, length-append ps (p ∷ [])), numerables-more ps p h.1 (numerable (content l) p e))))
-        (λ (q : ltb (length ps) limit.run ≡ false). rw (e, onwards, q) tt) (either (ltb (length ps) limit.run))
+        (λ (q : ltb (length ps) limit.run ≡ false). rw (e, onwards, q) tt) (cases_Bool (ltb (length ps) limit.run))
 
 follows-good : (reached : Bool) (n : ℕ) (ls : List Line) → Good (follows reached n ls)
 unfolding follows
@@ -79,4 +79,4 @@ pub run-writable : (handin : List ℕ) (first : ℕ) (ps : List Place) → readi
 unfolding reading
 run-writable handin first ps e = subst Good e (⊎_elim
     (λ (q : ltb limit.handin (length handin) ≡ true). rw q tt)
-    (λ (q : ltb limit.handin (length handin) ≡ false). rw q (lines-good (lines handin))) (either (ltb limit.handin (length handin))))
+    (λ (q : ltb limit.handin (length handin) ≡ false). rw q (lines-good (lines handin))) (cases_Bool (ltb limit.handin (length handin))))

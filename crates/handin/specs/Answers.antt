@@ -1,5 +1,5 @@
 -- WHAT READING A HAND-IN ANSWERS, and how far it is read.
-use Rattle.std.specs.Prelude.{◌≡◌, Bool, cond, Option, Some, None, Result, Ok, Err, List, [], ◌∷◌, ℕ, suc, ◌+◌, ◌≤◌, ◌<◌, eqb, length}
+use Rattle.std.specs.Prelude.{◌≡◌, Bool, if◌then◌else◌, Option, Some, None, Result, Ok, Err, List, [], ◌∷◌, ℕ, suc, ◌+◌, ◌≤◌, ◌<◌, ◌==◌, length}
 use Rattle.std.specs.Borrow.{Bor}
 use Rattle.grammar.specs.Bytes.{Line, lines}
 use Rattle.handin.specs.Handins.{Handin, says-no, says-yes, unreadable, content, follows, preface}
@@ -17,7 +17,7 @@ told (unreadable line) = Err (record { line = line })
 -- how many bytes the first line has before its byte 10
 abbrev pub first_length : List ℕ → ℕ
 first_length [] = 0
-first_length (b ∷ s) = cond (eqb b 10) 0 (suc (first_length s))
+first_length (b ∷ s) = if b == 10 then 0 else suc (first_length s)
 
 -- the first line of the bytes, and the bytes of the others
 pub record Front (left line others : List ℕ) : Type 0 where

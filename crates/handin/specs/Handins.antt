@@ -1,5 +1,5 @@
 -- HAND-INS: what a hand-in says, line by line.
-use Rattle.std.specs.Prelude.{Bool, true, false, cond, List, [], ◌∷◌, ◌++◌, ℕ, suc, ◌+◌, ltb, length}
+use Rattle.std.specs.Prelude.{Bool, true, false, if◌then◌else◌, List, [], ◌∷◌, ◌++◌, ℕ, suc, ◌+◌, nat_lt, length}
 use Rattle.std.proofs.Math.Option.{none, some}
 use Rattle.limits.specs.Limits as limit
 use Rattle.semantics.specs.Runs.{Place}
@@ -23,7 +23,7 @@ onwards first ps [] = says-yes first ps
 onwards first ps (l ∷ ls) = elim (said_by (content l)) [
   | none ↦ unreadable (first + length ps)
   | some nothing ↦ unreadable (first + length ps)
-  | some (place p) ↦ cond (ltb (length ps) limit.run) (onwards first (ps ++ p ∷ []) ls) (unreadable (first + length ps))
+  | some (place p) ↦ if nat_lt (length ps) limit.run then onwards first (ps ++ p ∷ []) ls else unreadable (first + length ps)
 ]
 
 -- the lines from line n on: the run, "for a yes"; none, for a no
@@ -48,4 +48,4 @@ read_lines (l ∷ ls) = elim (verdict (content l)) [ none ↦ unreadable 1 | som
 
 -- WHAT A HAND-IN SAYS
 unfoldable pub reading : List ℕ → Handin
-reading handin = cond (ltb limit.handin (length handin)) (unreadable 0) (read_lines (lines handin))
+reading handin = if nat_lt limit.handin (length handin) then unreadable 0 else read_lines (lines handin)

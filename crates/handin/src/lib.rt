@@ -76,6 +76,7 @@ fn behind(left: &[u8], end: usize) -> &[u8]
 }
 
 // Past the lines that say nothing, from line 2 on.
+// The bound on the bytes stays a clause: they are a slice, and a struct with the bound would be made of them for each of the three calls.
 // The walk stays a `while`: the line that ends it is read again, and a `for` would have taken it.
 fn preface_end(left: &[u8]) -> Start<'_>
     requires { length left.now ≤ limit.handin }
@@ -96,6 +97,7 @@ fn preface_end(left: &[u8]) -> Start<'_>
 }
 
 // The places from line `first` on.
+// The count stays by hand: it is the answer behind the last line, where `enumerate` has none left, and `count` would walk over the lines a second time.
 fn read_places(left: &[u8], first: u32) -> Result<Option<Run>, Unreadable>
     requires { first ≤ limit.handin + 2 }
     ensures { result ≡ told (onwards first [] (lines left.now)) }
@@ -103,16 +105,11 @@ fn read_places(left: &[u8], first: u32) -> Result<Option<Run>, Unreadable>
     let lines = Lines { left };
     let mut places = 0;
     for line in lines {
-        if places == RUN {
+        if places == RUN || read_place(line).is_none() {
             return Err(Unreadable {
                 line: first + places as u32,
             });
         }
-        let Some(_) = read_place(line) else {
-            return Err(Unreadable {
-                line: first + places as u32,
-            });
-        };
         places += 1;
     }
     Ok(Some(Run { first, places }))
@@ -166,13 +163,11 @@ fn write_places(left: &[u8], run: &mut [u32])
         → run.new ≡ map number_of ps ++ drop (length ps) run.old }
 {
     let lines = Lines { left };
-    let mut k = 0;
-    for line in lines {
+    for (k, line) in lines.enumerate() {
         let Some(number) = read_place(line) else {
             return;
         };
         run[k] = number;
-        k += 1;
     }
 }
 

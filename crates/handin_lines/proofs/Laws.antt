@@ -4,17 +4,21 @@ use mathlib.Core.Logic.{⊎_elim}
 use mathlib.Core.Bool.{Bool, true, false, cond, not, or-true, or-false}
 use mathlib.Core.List.{List, [], ◌∷◌}
 use mathlib.Core.Option.{Option, none, some, none-ne-some}
+use Rattle.std.proofs.lemmas.Bool.{cases_Bool}
 use Rattle.std.specs.Prelude as std
 use Rattle.std.specs.Prelude.{Some, None}
-use Prim.Native.Nat.{ℕ, zero, suc, ◌+◌, ◌-◌, ◌*◌, ◌≤◌, ◌<◌}
+use Rattle.std.specs.Cmp.Lexicographic.{pointwise}
+use Rattle.std.specs.Option.{MatchOption}
+use denote.Ref.{Bor}
+use Prim.Native.Nat.{ℕ, zero, suc, ◌+◌, ◌-◌, ◌≤◌, ◌<◌}
 use native.Mathlib.Omega.{arith}
 use lib.Dec.{eqb}
 use lib.ListN.{length, take, drop, get_or, length-drop}
 use lib.Seq.{length-slice, take-length}
-use borrow.Author.Tests.{lt-leb, le-leb, lt-ltb, le-ltb, eqb-true, eqb-false, eq-eqb, ne_eqb}
+use borrow.Author.Tests.{le-leb, lt-ltb, le-ltb, eqb-true, eqb-false, eq-eqb, ne_eqb}
 use Rattle.grammar.specs.Bytes.{bytes, digit, Word}
 use Rattle.grammar.specs.Shapes.{Read, ◌>>=◌, after, word, rest, whole}
-use Rattle.grammar.proofs.Tests.{either}
+use Rattle.grammar.proofs.Tests.{clash, and_left, and_right}
 use Rattle.grammar.proofs.Reading.{onto, rest-closes, rest-ends, rest-fails, rest-item}
 use Rattle.listing_bytes.specs.Numerals.{value_after}
 use Rattle.text_scan.specs.Found.{WordEnd}
@@ -28,15 +32,30 @@ module _ (b : ℕ) where
   pub digit-yes : 48 ≤ b → b ≤ 57 → digit b ≡ true
   digit-yes h k = rw (le-leb 48 b h, le-leb b 57 k)
 
-  digit_low : b < 48 → digit b ≡ false
-  digit_low h = rw (lt-leb 48 b h)
-
-  digit-high : 57 < b → digit b ≡ false
-  digit-high h = rw (le-leb 48 b (omega arith), lt-leb b 57 h)
-
 -- what is left from a place on
 pub left-from : (line : List ℕ) (i : ℕ) → take (length line - i) (drop i line) ≡ drop i line
 left-from line i = rw (← length-drop i line) (take-length (drop i line))
+
+-- BYTES that are next
+next-found : (w s : List ℕ) → pointwise eqb (take (length w) s) w ≡ true → after w s ≡ some (drop (length w) s)
+next-found [] s h = refl
+next-found (b ∷ w) [] h = clash h refl
+next-found (b ∷ w) (c ∷ s) h =
+    let same = eqb-true c b (and_left (eqb c b) (pointwise eqb (take (length w) s) w) h) in
+    rw (eq-eqb b c (sym same)) (next-found w s (and_right (eqb c b) (pointwise eqb (take (length w) s) w) h))
+
+next-missing : (w s : List ℕ) → pointwise eqb (take (length w) s) w ≡ false → after w s ≡ none
+next-missing [] s h = clash refl h
+next-missing (b ∷ w) [] h = refl
+next-missing (b ∷ w) (c ∷ s) h = ⊎_elim
+    (λ (q : eqb b c ≡ true). rw q (next-missing w s (rw (eq-eqb c b (sym (eqb-true b c q))) at h)))
+    (λ (q : eqb b c ≡ false). rw q) (cases_Bool (eqb b c))
+
+pub stripped : (w s : List ℕ) (r : std.Option (Bor (List ℕ)))
+    → MatchOption r (pointwise eqb (take (length w) s) w ≡ false) (λ x. (pointwise eqb (take (length w) s) w ≡ true) × (x.now ≡ drop (length w) s) × (length x.now + length w ≡ length s))
+    → MatchOption r (after w s ≡ none) (λ x. after w s ≡ some x.now)
+stripped w s None h = next-missing w s h
+stripped w s (Some x) h = next-found w s h.0 ∙ ap some (sym h.1)
 
 -- THE END OF A LINE
 module _ (line : List ℕ) where
@@ -44,10 +63,7 @@ module _ (line : List ℕ) where
   ends_there h e = rw e (⊎_elim
       (λ (q : eqb (length line) 1 ≡ true). rw (q, no_bytes line 1 (omega (arith, eqb-true (length line) 1 q))))
       (λ (q : eqb (length line) 1 ≡ false). rw (q, next line 1 (omega (arith, eqb-false (length line) 1 q))))
-      (either (eqb (length line) 1)))
-
-  pub ends-not : after (bytes ")") line ≡ none → false ≡ last (after (bytes ")") line)
-  ends-not e = rw e
+      (cases_Bool (eqb (length line) 1)))
 
 pub whole-last : {A : Type 0} (x : A) (o : Option (List ℕ)) → whole (o >>= λ t. some (x, t)) ≡ cond (last o) (some x) none
 whole-last x none = refl
@@ -65,36 +81,6 @@ pub record DigitsSo (line : List ℕ) (v i : ℕ) : Type 0 where
 
 pub digits-start : (line : List ℕ) → DigitsSo line 0 0
 digits-start line = record { ends = omega arith; count = omega arith; left = refl; sum = 0; value = refl; read = refl }
-
-module _ {line : List ℕ} {v i : ℕ} (so : DigitsSo line v i) where
-  pub digits_more : {w : ℕ} → i < length line → 48 ≤ get_or line i 0 → get_or line i 0 ≤ 57 → w ≡ cut (v * 10 + (get_or line i 0 - 48)) → DigitsSo line w (i + 1)
-  digits_more {w} h p q e =
-      let b = get_or line i 0 in
-      record {
-        ends = omega arith;
-        count = (let z = so.count in rw (next line i h, digit-yes b p q) at z) ∙ omega arith;
-        left = so.left ∙ rw (next line i h, digit-yes b p q);
-        sum = so.sum * 10 + (b - 48);
-        value = omega (arith, so.value);
-        read = so.read ∙ rw (next line i h, digit-yes b p q);
-      }
-
-  module _ {r : Number} (e : r.value ≡ v) (d : r.rest.now ≡ drop i line) where
-    digits-stop : digits (drop i line) ≡ [] → after_digits (drop i line) ≡ drop i line → DigitsEnd line r
-    digits-stop p q = record {
-      count = rw d (omega (arith, so.ends, so.count, ap length p, length-drop i line));
-      left = so.left ∙ q ∙ sym d;
-      value = e ∙ so.value ∙ ap cut (sym (so.read ∙ rw p));
-    }
-
-    pub digits_low : i < length line → get_or line i 0 < 48 → DigitsEnd line r
-    digits_low h p = digits-stop (rw (next line i h, digit_low (get_or line i 0) p)) (rw (next line i h, digit_low (get_or line i 0) p))
-
-    pub digits-high : i < length line → 57 < get_or line i 0 → DigitsEnd line r
-    digits-high h p = digits-stop (rw (next line i h, digit-high (get_or line i 0) p)) (rw (next line i h, digit-high (get_or line i 0) p))
-
-  pub digits-all : {r : Number} → r.value ≡ v → r.rest.now ≡ [] → length line ≤ i → DigitsEnd line r
-  digits-all e d h = let z = no_bytes line i h in digits-stop e (d ∙ sym z) (rw z) (rw z)
 
 -- NUMERALS
 no_number : (s : List ℕ) → is_numeral (digits s) ≡ false → number s ≡ none
@@ -121,7 +107,7 @@ digits-one s h = go (digits s) h
 
 digits-first : (s : List ℕ) → 0 < length (digits s) → get_or (digits s) 0 0 ≡ get_or s 0 0
 digits-first [] h = absurd (omega arith)
-digits-first (b ∷ s) h = ⊎_elim (λ (q : digit b ≡ true). rw q) (λ (q : digit b ≡ false). absurd (let k = rw q at h in omega arith)) (either (digit b))
+digits-first (b ∷ s) h = ⊎_elim (λ (q : digit b ≡ true). rw q) (λ (q : digit b ≡ false). absurd (let k = rw q at h in omega arith)) (cases_Bool (digit b))
 
 digits-many : (w : List ℕ) → 1 < length w → is_numeral w ≡ not (eqb (get_or w 0 0) 48)
 unfolding is_numeral
@@ -169,7 +155,7 @@ module _ {line : List ℕ} (n : ℕ) {r : Number} (end : NumberAt line r) where
 
 -- OBJECTS
 module _ (line : List ℕ) where
-  pub object-found : (r : std.Option Number) → after (bytes " ") line ≡ some (drop 1 line) → BelowEnd 255 (below 255 (drop 1 line)) r → BelowEnd 255 (object line) r
+  pub object-found : (r : std.Option Number) → {t : List ℕ} → after (bytes " ") line ≡ some t → BelowEnd 255 (below 255 t) r → BelowEnd 255 (object line) r
   object-found None e b = rw e b
   object-found (Some r) e b = record { small = b.small; found = rw e b.found }
 
@@ -189,7 +175,7 @@ module _ {line : List ℕ} {n : Number} (end : NumberAt line n) where
 -- what stands after a space is no end
 pub space-open : (s : List ℕ) {t : List ℕ} → after (bytes " ") s ≡ some t → after (bytes ")") s ≡ none
 space-open [] e = absurd (none-ne-some _ e)
-space-open (b ∷ s) e = ⊎_elim (λ (q : eqb 32 b ≡ true). rw (← eqb-true 32 b q)) (λ (q : eqb 32 b ≡ false). absurd (none-ne-some _ (rw q at e))) (either (eqb 32 b))
+space-open (b ∷ s) e = ⊎_elim (λ (q : eqb 32 b ≡ true). rw (← eqb-true 32 b q)) (λ (q : eqb 32 b ≡ false). absurd (none-ne-some _ (rw q at e))) (cases_Bool (eqb 32 b))
 
 -- words are read and passed over
 abbrev pub silent : Read (List Word) → Option Said

@@ -9,12 +9,12 @@ use native.Mathlib.Omega.{arith}
 use lib.Dec.{ltb}
 use lib.ListN.{length}
 use borrow.Author.Tests.{ltb-true}
+use Rattle.std.proofs.lemmas.Bool.{cases_Bool}
 use Rattle.semantics.specs.Runs as runs
 use Rattle.semantics.specs.Runs.{step, meet}
 use Rattle.model.specs.Places.{Objects, Numerable}
 use Rattle.grammar.specs.Bytes.{bytes, Word}
 use Rattle.grammar.specs.Shapes.{Read, ◌>>=◌, after, whether, rest, whole}
-use Rattle.grammar.proofs.Tests.{either}
 use Rattle.handin_lines.specs.Lines.{number, below, letters, Said, nothing, place, states_rest, atomic_rest, step_rest, meet_rest, line, said_by}
 
 -- a number that is read is below n
@@ -28,7 +28,7 @@ below-small n s = go (number s)
   where
     go : (r : Read ℕ) → Small n (r >>= λ p. cond (ltb p.0 n) (some (p.0, p.1)) none)
     go none = tt
-    go (some (k, t)) = ⊎_elim (λ (q : ltb k n ≡ true). rw q (ltb-true k n q)) (λ (q : ltb k n ≡ false). rw q tt) (either (ltb k n))
+    go (some (k, t)) = ⊎_elim (λ (q : ltb k n ≡ true). rw q (ltb-true k n q)) (λ (q : ltb k n ≡ false). rw q tt) (cases_Bool (ltb k n))
 
 -- at most n objects are read, and each is below 255
 abbrev Few : ℕ → Read (List ℕ) → Type 0

@@ -10,11 +10,12 @@ use native.Mathlib.Omega.{arith}
 use lib.Dec.{eqb, ltb}
 use lib.ListN.{length, get_or}
 use borrow.Author.Tests.{lt-ltb, eqb-true, eq-eqb, ne_eqb}
+use Rattle.std.proofs.lemmas.Bool.{cases_Bool}
 use Rattle.semantics.specs.Runs.{step, meet}
 use Rattle.model.specs.Places.{Objects}
 use Rattle.grammar.specs.Bytes.{bytes, letter, digit, alphanumeric, allowed, every, ended, lines, Word, is_name}
 use Rattle.grammar.specs.Forms.{print_rest, print_word, all}
-use Rattle.grammar.proofs.Tests.{either, clash, and_left, and_right, and_both}
+use Rattle.grammar.proofs.Tests.{clash, and_left, and_right, and_both}
 use Rattle.grammar.proofs.Printing.{Stops, word_back, after_word-back, name-every, Back, rest_back, rest-long}
 use Rattle.listing_bytes.specs.Numerals.{decimal, Numeral}
 use Rattle.listing_bytes.specs.Forms.{items, form}
@@ -25,7 +26,7 @@ use Rattle.handin_lines.proofs.Laws.{digit-yes}
 -- NUMERALS
 digit-other : (b : ℕ) → alphanumeric b ≡ false → digit b ≡ false
 unfolding alphanumeric
-digit-other b h = ⊎_elim (λ (q : digit b ≡ true). clash (rw q (or-true (letter b))) h) (λ q. q) (either (digit b))
+digit-other b h = ⊎_elim (λ (q : digit b ≡ true). clash (rw q (or-true (letter b))) h) (λ q. q) (cases_Bool (digit b))
 
 alphanumeric-digit : (b : ℕ) → digit b ≡ true → alphanumeric b ≡ true
 unfolding alphanumeric
@@ -55,7 +56,7 @@ unfolding is_numeral
 is-numeral [] N = absurd (omega (arith, N.some))
 is-numeral (b ∷ w) N = ⊎_elim
     (λ (q : eqb b 48 ≡ true). rw (q, eq-eqb (length w) 0 (omega (arith, N.leading (eqb-true b 48 q)))))
-    (λ (q : eqb b 48 ≡ false). rw q) (either (eqb b 48))
+    (λ (q : eqb b 48 ≡ false). rw q) (cases_Bool (eqb b 48))
 
 number-back : (n : ℕ) (s : List ℕ) → Stops s → number (decimal n ++ s) ≡ some (n, s)
 unfolding number

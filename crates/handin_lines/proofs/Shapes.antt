@@ -7,15 +7,15 @@ use mathlib.Core.Option.{Option, none, some, none-ne-some, get_or}
 use Prim.Native.Nat.{ℕ, suc}
 use native.Mathlib.Omega.{arith}
 use lib.Dec.{eqb}
-use lib.ListN.{length, drop}
+use lib.ListN.{length}
 use borrow.Author.Tests.{eqb-true}
+use Rattle.std.proofs.lemmas.Bool.{cases_Bool}
 use Rattle.semantics.specs.Runs as runs
 use Rattle.semantics.specs.Runs.{step, meet}
 use Rattle.model.specs.Places.{number_of, numeral}
 use Rattle.model.specs.declared.Place.TheVariants.{Step, Meeting}
 use Rattle.grammar.specs.Bytes.{bytes, Word, same}
 use Rattle.grammar.specs.Shapes.{Read, ◌>>=◌, after, whether, rest, whole}
-use Rattle.grammar.proofs.Tests.{either}
 use Rattle.grammar.proofs.Reading.{onto, onto-nothing, onto-more, rest-closes, rest-ends, rest-fails, rest-item}
 use Rattle.handin_lines.specs.Lines.{verdict, number, below, letters, Said, nothing, place, states_rest, atomic_rest, step_rest, meet_rest, line, said_by}
 use Rattle.handin_lines.specs.Found.{BelowAt, object, last, met, is_silent, number_said, clear}
@@ -184,7 +184,7 @@ front [] s {t} e = ap (λ (o : Option (List ℕ)). get_or o s) e
 front (b ∷ w) [] e = absurd (none-ne-some _ e)
 front (b ∷ w) (c ∷ s) {t} e = ⊎_elim
     (λ (q : eqb b c ≡ true). let z = eqb-true b c q in let y = front w s (rw q at e) in cc)
-    (λ (q : eqb b c ≡ false). absurd (none-ne-some _ (rw q at e))) (either (eqb b c))
+    (λ (q : eqb b c ≡ false). absurd (none-ne-some _ (rw q at e))) (cases_Bool (eqb b c))
 
 -- a line that says nothing
 pub silent-same : {r : Bool} {o : Option Said} → o ≡ cond r (some nothing) none → r ≡ is_silent o
@@ -192,12 +192,12 @@ silent-same {r = true} e = rw e
 silent-same {r = false} e = rw e
 
 module _ (text : List ℕ) where
-  pub line-states : after (bytes "(states ") text ≡ some (drop 8 text) → said_by text ≡ whole (states_rest (drop 8 text))
+  pub line-states : {t : List ℕ} → after (bytes "(states ") text ≡ some t → said_by text ≡ whole (states_rest t)
   unfolding said_by line
   line-states e = rw e
 
   module _ (n : after (bytes "(states ") text ≡ none) where
-    pub line-atomic : after (bytes "(atomic") text ≡ some (drop 7 text) → said_by text ≡ whole (atomic_rest (drop 7 text))
+    pub line-atomic : {t : List ℕ} → after (bytes "(atomic") text ≡ some t → said_by text ≡ whole (atomic_rest t)
     unfolding said_by line
     line-atomic e = rw (n, e)
 

@@ -1,5 +1,5 @@
 -- What the readers of a line find in what is left of it.
-use Rattle.std.specs.Prelude.{◌≡◌, Bool, true, false, cond, Some, None, List, [], ◌∷◌, ℕ, ◌+◌, min, ◌≤◌, ◌<◌, length, drop}
+use Rattle.std.specs.Prelude.{◌≡◌, Bool, true, false, if◌then◌else◌, Some, None, List, [], ◌∷◌, ℕ, ◌+◌, min, ◌≤◌, ◌<◌, length, drop}
 use Rattle.std.specs.Prelude as std
 use Rattle.std.proofs.Math.Option.{Option, none, some}
 use Rattle.limits.specs.Limits as limit
@@ -52,7 +52,7 @@ last (some (b ∷ s)) = false
 
 -- the place with number n, if the line ends with the bracket that is next
 abbrev pub met : List ℕ → ℕ → std.Option ℕ
-met line n = cond (last (after (bytes ")") line)) (Some n) None
+met line n = if last (after (bytes ")") line) then Some n else None
 
 -- whether a line says nothing
 abbrev pub is_silent : Option Said → Bool

@@ -1,5 +1,5 @@
 -- ONE LINE OF A HAND-IN, without its byte 10. Readers are those of the bracket text: each takes what it reads from the front of a list of bytes, and gives that and the bytes left.
-use Rattle.std.specs.Prelude.{Bool, true, false, cond, not, ◌||◌, List, [], ◌∷◌, ℕ, eqb, ltb, length}
+use Rattle.std.specs.Prelude.{Bool, true, false, if◌then◌else◌, not, ◌||◌, List, [], ◌∷◌, ℕ, ◌==◌, nat_lt, length}
 use Rattle.std.proofs.Math.Option.{Option, none, some}
 use Rattle.limits.specs.Limits as limit
 use Rattle.semantics.specs.Runs.{Place, step, meet}
@@ -10,35 +10,35 @@ use Rattle.listing_bytes.specs.Numerals.{value_after}
 -- THE FIRST LINE: "`yes`, `no`, `(verdict reached)` or `(verdict unreached)`"; whether it says yes
 unfoldable pub verdict : List ℕ → Option Bool
 verdict s =
-    cond (same s (bytes "yes") || same s (bytes "(verdict reached)")) (some true)
-    (cond (same s (bytes "no") || same s (bytes "(verdict unreached)")) (some false) none)
+    if same s (bytes "yes") || same s (bytes "(verdict reached)") then some true
+    else (if same s (bytes "no") || same s (bytes "(verdict unreached)") then some false else none)
 
 -- NUMERALS in base ten: the digits at the front, and what follows them
 abbrev pub digits : List ℕ → List ℕ
 digits [] = []
-digits (b ∷ s) = cond (digit b) (b ∷ digits s) []
+digits (b ∷ s) = if digit b then b ∷ digits s else []
 
 abbrev pub after_digits : List ℕ → List ℕ
 after_digits [] = []
-after_digits (b ∷ s) = cond (digit b) (after_digits s) (b ∷ s)
+after_digits (b ∷ s) = if digit b then after_digits s else b ∷ s
 
 -- digits are a numeral if there are some, and none follows a first 0
 unfoldable pub is_numeral : List ℕ → Bool
 is_numeral [] = false
-is_numeral (b ∷ w) = not (eqb b 48) || eqb (length w) 0
+is_numeral (b ∷ w) = not (b == 48) || length w == 0
 
 unfoldable pub number : List ℕ → Read ℕ
-number s = cond (is_numeral (digits s)) (some (value_after 0 (digits s), after_digits s)) none
+number s = if is_numeral (digits s) then some (value_after 0 (digits s), after_digits s) else none
 
 -- a number below n
 unfoldable pub below : ℕ → List ℕ → Read ℕ
 below n s = do
   (k, t) ← number s
-  cond (ltb k n) (some (k, t)) none
+  if nat_lt k n then some (k, t) else none
 
 -- WORDS of letters and digits
 unfoldable pub letters : List ℕ → Read Word
-letters s = cond (eqb (length (word s)) 0) none (some (word s, after_word s))
+letters s = if length (word s) == 0 then none else some (word s, after_word s)
 
 -- WHAT A LINE SAYS after the first: nothing, or a place
 pub data Said : Type 0 where

@@ -1,7 +1,7 @@
 // One line of a hand-in, without its byte 10. Each reader takes what is left of the line.
 #![tactic(auto)]
 
-ghost use Rattle.std.specs.Prelude.{◌≡◌, cond, ◌+◌, ◌-◌, ◌*◌, ◌≤◌, ◌<◌, length, drop};
+ghost use Rattle.std.specs.Prelude.{◌≡◌, MatchOption, if◌then◌else◌, ◌+◌, ◌-◌, ◌*◌, ◌≤◌, ◌<◌, length, drop};
 ghost use Rattle.std.proofs.Math.Option.{none, some};
 ghost use Rattle.limits.specs.Limits as limit;
 ghost use Rattle.model.specs.declared.Place.TheVariants.{Meeting};
@@ -13,7 +13,7 @@ ghost use Rattle.handin_lines.specs.Found.{cut, DigitsEnd, NumberEnd, BelowEnd, 
 
 use limits::NONE;
 use model::{Place, number_of};
-use text_scan::{at_byte, at_bytes, same_words, word_end};
+use text_scan::{at_byte, same_words, word_end};
 
 // A number, and what is left of the line behind it.
 #[derive(Clone, Copy)]
@@ -25,6 +25,13 @@ struct Number<'a> {
 // From this number on all are alike.
 const LARGE: u32 = 8_388_608;
 
+// What is left of the line behind these bytes, if they are next.
+fn behind<'a>(line: &'a [u8], bytes: &[u8]) -> Option<&'a [u8]>
+    ensures { MatchOption result (after bytes.now line.now ≡ none) (λ rest. after bytes.now line.now ≡ some rest.now) }
+{
+    line.strip_prefix(bytes)
+}
+
 // Whether the line ends with the bracket that is next.
 fn ends(line: &[u8]) -> bool
     ensures { result ≡ last (after (bytes ")") line.now) }
@@ -35,7 +42,7 @@ fn ends(line: &[u8]) -> bool
 // Whether words are next, up to the end of the line.
 // The walk stays a `while`: each word begins where the one before it ends.
 fn is_words(line: &[u8]) -> bool
-    ensures { whole (atomic_rest line.now) ≡ cond result (some nothing) none }
+    ensures { whole (atomic_rest line.now) ≡ (if result then some nothing else none) }
 {
     let mut left = line;
     while at_byte(left, 0, b' ') {
@@ -61,8 +68,8 @@ fn read_digits(line: &[u8]) -> Number<'_>
     ensures { DigitsEnd line.now result }
 {
     let mut value = 0;
-    for i in 0..line.len() {
-        match line[i] {
+    for (i, b) in line.iter().enumerate() {
+        match *b {
             b @ b'0'..=b'9' => value = add_digit(value, b),
             _ => {
                 return Number {
@@ -103,16 +110,13 @@ fn read_below(line: &[u8], n: u32) -> Option<Number<'_>>
 fn read_object(line: &[u8]) -> Option<Number<'_>>
     ensures { BelowEnd limit.objects (object line.now) result }
 {
-    if at_byte(line, 0, b' ') {
-        read_below(&line[1..], NONE)
-    } else {
-        None
-    }
+    let rest = behind(line, b" ")?;
+    read_below(rest, NONE)
 }
 
 // What is left of a `states` line after its first word.
 fn is_number(line: &[u8]) -> bool
-    ensures { whole (states_rest line.now) ≡ cond result (some nothing) none }
+    ensures { whole (states_rest line.now) ≡ (if result then some nothing else none) }
 {
     match read_number(line) {
         Some(n) => ends(n.rest),
@@ -179,11 +183,11 @@ fn read_meeting(line: &[u8]) -> Option<u32>
 pub fn says_nothing(line: &[u8]) -> bool
     ensures { result ≡ is_silent (said_by line.now) }
 {
-    if at_bytes(line, 0, b"(states ") {
-        return is_number(&line[8..]);
+    if let Some(rest) = behind(line, b"(states ") {
+        return is_number(rest);
     }
-    if at_bytes(line, 0, b"(atomic") {
-        return is_words(&line[7..]);
+    if let Some(rest) = behind(line, b"(atomic") {
+        return is_words(rest);
     }
     false
 }
@@ -192,11 +196,11 @@ pub fn says_nothing(line: &[u8]) -> bool
 pub fn read_place(line: &[u8]) -> Option<u32>
     ensures { result ≡ number_said (said_by line.now) }
 {
-    if at_bytes(line, 0, b"(step ") {
-        return read_step(&line[6..]);
+    if let Some(rest) = behind(line, b"(step ") {
+        return read_step(rest);
     }
-    if at_bytes(line, 0, b"(meet ") {
-        return read_meeting(&line[6..]);
+    if let Some(rest) = behind(line, b"(meet ") {
+        return read_meeting(rest);
     }
     None
 }

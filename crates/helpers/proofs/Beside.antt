@@ -9,6 +9,7 @@ use borrow.Author.Tests.{eqb-true}
 use lib.Dec.{eqb}
 use lib.ListN.{length, set, length-append, get_or-append}
 use lib.Seq.{get_or-append_seam}
+use Rattle.std.proofs.lemmas.Bool.{or_cases}
 use Rattle.semantics.specs.Labels.{relabel}
 use Rattle.semantics.specs.Models.{elem, Body, Line, rule, new, next, other, Program, line, SafeLine, Safe, Distinct}
 use Rattle.semantics.specs.Facts.{Database, state, Meets}
@@ -16,7 +17,7 @@ use Rattle.semantics.specs.Steps.{Enabled, execute, Steps, Reachable}
 use Rattle.semantics.specs.Tables.{Within, seat}
 use Rattle.semantics.specs.Building.{with}
 use Rattle.semantics.specs.Walkers.{Whole, Takes, Way, Copy}
-use Rattle.semantics.proofs.Tools.{same?, or-true-cases, or_right, elem-here, seat-ok}
+use Rattle.semantics.proofs.Tools.{same?, or_right, elem-here, seat-ok}
 use Rattle.semantics.proofs.Similar.{Covered, live_below}
 use Rattle.semantics.proofs.WalkersMoves.{elem-state, enabled-takes, takes-enabled, walk}
 use Rattle.semantics.proofs.WalkersSlots.{takes-within}
@@ -31,7 +32,7 @@ some-helpers P S true one full known = (
     one = (full, one);
     each = λ t. (
       λ r. ⊎_elim (λ (q : (t ≡ 0) × (true ≡ true)). rw q.0 (elem-here 0 S)) (λ (q : elem t S ≡ true). or_right (eqb t 0) (elem t S) q) ((known t).0 r),
-      λ e. (known t).1 (⊎_elim (λ q. inl (eqb-true t 0 q, refl)) (λ q. inr q) (or-true-cases (eqb t 0) (elem t S) e)),
+      λ e. (known t).1 (⊎_elim (λ q. inl (eqb-true t 0 q, refl)) (λ q. inr q) (or_cases (eqb t 0) (elem t S) e)),
     );
   },
 )

@@ -8,8 +8,9 @@ use native.Mathlib.Omega.{arith}
 use lib.Dec.{ltb}
 use lib.Pow.{shl_exact}
 use borrow.Author.Tests.{eq-eqb, ne_eqb, lt-ltb, le-ltb, ltb-true, ltb-false}
+use Rattle.std.proofs.lemmas.Bool.{cases_Bool}
 use Rattle.semantics.specs.Labels.{has, union, relabel}
-use Rattle.semantics.proofs.Tools.{either, same?}
+use Rattle.semantics.proofs.Tools.{same?}
 use Rattle.semantics.proofs.Sets.{has-union, has-relabel, has-beyond, has-ext, has_one}
 use Rattle.semantics.proofs.FourCases.{relabel-twice}
 
@@ -29,7 +30,7 @@ module _ (t n u : ℕ) (d : Done t n u) where
   other b e = ⊎_elim
       (λ (q : ltb b n ≡ true). lt-ltb b (n + 1) (let l = ltb-true b n q in omega arith) ∙ sym q)
       (λ (q : ltb b n ≡ false). le-ltb b (n + 1) (let l = ltb-false b n q in omega arith) ∙ sym q)
-      (either (ltb b n))
+      (cases_Bool (ltb b n))
 
   pub done-set : has t n ≡ true → Done t (n + 1) (union u (2 ^ n))
   done-set h b = has-union u (2 ^ n) b ∙ ⊎_elim
@@ -47,10 +48,6 @@ module _ (t n u : ℕ) (d : Done t n u) where
       (λ (e : b ≢ n). rw (other b e))
       (same? b n)
 
--- the bit of a relation, by a shift
-pub shl_one : (r : ℕ) → r < 32 → (1 * 2 ^ r) % 4294967296 ≡ 2 ^ r
-shl_one r h = shl_exact 1 r 32 (omega arith) (omega arith) ∙ one-mul (2 ^ r)
-
 -- where the test of the code says so, neither of two numbers has one
 pub none_left : (s t m : ℕ) → (ltb s m && ltb t m) ≡ true → (s < m) × (t < m)
 none_left s t m e = let (p, q) = both (ltb s m) (ltb t m) e in (ltb-true s m p, ltb-true t m q)
@@ -64,7 +61,7 @@ pub done_all : (s plus minus n u : ℕ) → s < 2 ^ n → plus < 2 ^ n → Done 
 done_all s plus minus n u hs hp d = has-ext u (relabel s plus minus) (λ b. d b ∙ ⊎_elim
     (λ (q : ltb b n ≡ true). rw q)
     (λ (q : ltb b n ≡ false). rw (q, beyond b (ltb-false b n q)))
-    (either (ltb b n)))
+    (cases_Bool (ltb b n)))
   where
     beyond : (b : ℕ) → n ≤ b → has (relabel s plus minus) b ≡ false
     beyond b h = has-relabel s plus minus b ∙ rw (has-beyond s b n hs h, has-beyond plus b n hp h)

@@ -1,7 +1,7 @@
 // One atomic state: whether it has a relation, and what a `next` line makes of it.
 #![tactic(auto)]
 
-ghost use Rattle.std.specs.Prelude.{◌≡◌, ◌&&◌, ◌<◌, ◌^◌, ltb};
+ghost use Rattle.std.specs.Prelude.{◌≡◌, ◌&&◌, ◌<◌, ◌^◌, nat_lt};
 ghost use Rattle.semantics.specs.Labels.{has as member, relabel as relabeled};
 ghost use Rattle.semantics.specs.FourCases.{case_of, worked};
 ghost use Rattle.labels.specs.Cases.{said};
@@ -60,7 +60,7 @@ fn keeps(state: u32, plus: u32, minus: u32, relation: u32) -> bool
 // Whether neither a state nor a list has a relation from this one on.
 fn ended(state: u32, plus: u32, relation: u32) -> bool
     requires { relation < 32 }
-    ensures { result ≡ (ltb state (2 ^ relation) && ltb plus (2 ^ relation)) }
+    ensures { result ≡ (nat_lt state (2 ^ relation) && nat_lt plus (2 ^ relation)) }
 {
     state >> relation == 0 && plus >> relation == 0
 }

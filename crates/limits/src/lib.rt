@@ -57,9 +57,6 @@ pub const LISTED: usize = ATOMIC + 1;
 // The objects that may exist where a question is put anew.
 pub const EARLIER: usize = OBJECTS - ATOMIC - CARRIED;
 
-// The numbers of atomic states.
-pub const SETS: u32 = 1 << STATES;
-
 // The declared relations.
 pub const DECLARED: usize = STATES + RELS;
 

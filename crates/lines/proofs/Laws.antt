@@ -1,10 +1,15 @@
 -- Clause i of a record is clause i of the program that it holds.
 use mathlib.Core.Path.{◌≡◌, refl, sym}
+use mathlib.Core.Logic.{⊎_elim}
+use mathlib.Core.Bool.{true, false, cond}
 use mathlib.Core.List.{List, [], ◌∷◌, map}
 use Prim.Native.Nat.{ℕ, zero, suc, ◌≤◌, ◌<◌}
 use native.Mathlib.Omega.{arith}
+use lib.Dec.{ltb}
 use lib.ListN.{length, take, get_or}
-use borrow.Author.Tests.{lt-ltb, le-ltb}
+use lib.Seq.{get_or-take, length-take-le}
+use borrow.Author.Tests.{ltb-true, ltb-false, lt-ltb, le-ltb}
+use Rattle.std.proofs.lemmas.Bool.{cases_Bool}
 use Rattle.semantics.specs.Models.{Body, other}
 use Rattle.model.specs.declared.Action.{Action}
 use Rattle.model.specs.declared.Action.TheVariants.{Rule, New, Next}
@@ -38,13 +43,22 @@ module _ (text : List ℕ) (m : Model) (a : Accepts (outcome text) text m) (i : 
   pub few-clauses : m.clausecount ≤ 64
   few-clauses = (read-well-formed text m a).clauses
 
-  pub clause-line : i < m.clausecount → recorded (get_or m.clauses i nothing) ≡ line_at (outcome text) i
+  clause-line : i < m.clausecount → recorded (get_or m.clauses i nothing) ≡ line_at (outcome text) i
   unfolding line_at
   clause-line l =
       let r = a.represents in
       let w = few-clauses in
       rw (a.says, lt-ltb i (length (program_of m)) (let c = r.clauses in omega arith)) (clause-recorded m i l (let c = r.row in omega arith))
 
-  pub no_line : m.clausecount ≤ i → 0 ≡ line_at (outcome text) i
+  no_line : m.clausecount ≤ i → 0 ≡ line_at (outcome text) i
   unfolding line_at
   no_line l = let r = a.represents in rw (a.says, le-ltb i (length (program_of m)) (let c = r.clauses in omega arith))
+
+  -- of the row that is lent on
+  pub lent-line : cond (ltb i (length (take m.clausecount m.clauses))) (recorded (get_or (take m.clausecount m.clauses) i nothing)) 0 ≡ line_at (outcome text) i
+  lent-line =
+      let r = a.represents in
+      let k : length (take m.clausecount m.clauses) ≡ m.clausecount = length-take-le m.clausecount m.clauses (let c = r.row in omega (arith, few-clauses)) in
+      rw k (⊎_elim
+      (λ (q : ltb i m.clausecount ≡ true). let l = ltb-true i m.clausecount q in rw (q, get_or-take m.clausecount m.clauses i nothing l) (clause-line l))
+      (λ (q : ltb i m.clausecount ≡ false). rw q (no_line (ltb-false i m.clausecount q))) (cases_Bool (ltb i m.clausecount)))

@@ -1,5 +1,5 @@
 -- THE ACCEPTED LINES: on which line of the text a clause stands, and what it is.
-use Rattle.std.specs.Prelude.{cond, ℕ, ◌+◌, ◌*◌, ltb, length, get_or}
+use Rattle.std.specs.Prelude.{if◌then◌else◌, ℕ, ◌+◌, ◌*◌, nat_lt, length, slice_index_or}
 use Rattle.semantics.specs.Models.{Line, rule, new, next, other}
 use Rattle.model.specs.declared.Action.{Action}
 use Rattle.model.specs.declared.Action.TheVariants.{Rule, New, Next}
@@ -19,7 +19,7 @@ described c = c.0 * 4 + kind c.1
 -- clause i of an accepted text, from 0: line × 4 + kind; 0 where there is none
 unfoldable pub line_at : Outcome → ℕ → ℕ
 line_at (refused n l) i = 0
-line_at (accepted D P Q) i = cond (ltb i (length P)) (described (get_or P i (0, other))) 0
+line_at (accepted D P Q) i = if nat_lt i (length P) then described (slice_index_or P i (0, other)) else 0
 
 -- the same of a record
 abbrev pub kind_of : Action → ℕ

@@ -1,12 +1,11 @@
 // The accepted lines, lent on as a row of clause records and read one at a time.
 #![tactic(auto)]
 
-ghost use Rattle.std.specs.Prelude.{◌≡◌, ◌<◌, ◌≤◌, length, get_or};
-ghost use Rattle.limits.specs.Limits as limit;
+ghost use Rattle.std.specs.Prelude.{◌≡◌, if◌then◌else◌, nat_lt, length, slice_index_or};
 ghost use Rattle.grammar.specs.Texts.{outcome};
 ghost use Rattle.lines.specs.Lines.{nothing, recorded, line_at};
 
-use model::{Action, Clause, Model};
+use model::{Action, Clause};
 
 // The line of a clause and what stands on it: line × 4, and 1 for a rule, 2 for a `new` line, 3 for a `next` line.
 // The kinds stay numbers: they are a part of the word that C is told.
@@ -21,20 +20,15 @@ fn describe(c: Clause) -> u64
     }
 }
 
-// One record is copied out of the row.
+// Clause i of the row, from 0; 0 where there is none.
+// 0 stays for no clause, as at `line`.
 fn describe_at(row: &[Clause], i: usize) -> u64
-    requires { i < length row.now }
-    ensures { result ≡ recorded (get_or row.now i nothing) }
+    ensures { result ≡ (if nat_lt i (length row.now) then recorded (slice_index_or row.now i nothing) else 0) }
 {
-    describe(row[i])
-}
-
-// Clause i of a model, whose accepted clauses are lent on as a row.
-fn clause(m: &Model, i: usize) -> u64
-    requires { (i < m.now.clausecount) × (m.now.clausecount ≤ limit.clauses) }
-    ensures { result ≡ recorded (get_or m.now.clauses i nothing) }
-{
-    describe_at(&m.clauses[..m.clausecount], i)
+    match row.get(i) {
+        Some(c) => describe(*c),
+        None => 0,
+    }
 }
 
 // Clause i of an accepted text, from 0: its line and what stands on it; 0 where there is none.
@@ -43,7 +37,7 @@ pub fn line(text: &[u8], i: usize) -> u64
     ensures { result ≡ line_at (outcome text.now) i }
 {
     match text::read(text) {
-        Ok(m) => { if i < m.clausecount { clause(&m, i) } else { 0 } }
+        Ok(m) => describe_at(&m.clauses[..m.clausecount], i),
         Err(_) => 0,
     }
 }

@@ -10,8 +10,8 @@ use lib.ListN.{length, length-append}
 use borrow.Author.Tests.{ltb-true}
 use mir.Syntax.{w32}
 use mir.Val.{Fits}
+use Rattle.std.proofs.lemmas.Bool.{cases_Bool}
 use Rattle.semantics.specs.Runs.{step, meet}
-use Rattle.semantics.proofs.Tools.{either}
 use Rattle.model.specs.Places.{objects, gap_at, placed, place_of}
 use Rattle.listing_bytes.specs.Numerals.{decimal}
 use Rattle.listing_bytes.specs.Forms.{items}
@@ -36,7 +36,7 @@ Small (o ∷ os) = (o < 256) × Small os
 objects-short : (os : List ℕ) → Small os → length (items (map decimal (objects os))) ≤ 4 * length os
 objects-short [] h = omega arith
 objects-short (o ∷ os) h = ⊎_elim (λ (q : eqb o 255 ≡ true). rw q (omega arith))
-    (λ (q : eqb o 255 ≡ false). rw (q, length-append (decimal o) (items (map decimal (objects os)))) (omega (arith, decimal-short 2 o (omega (arith, h.0)), objects-short os h.1))) (either (eqb o 255))
+    (λ (q : eqb o 255 ≡ false). rw (q, length-append (decimal o) (items (map decimal (objects os)))) (omega (arith, decimal-short 2 o (omega (arith, h.0)), objects-short os h.1))) (cases_Bool (eqb o 255))
 
 -- PLACES
 step-short : (ℓ o : ℕ) → ℓ < 8388608 → o < 256 → length (place_line (step ℓ o)) ≤ 24
@@ -56,8 +56,8 @@ pub place_short : (n : ℕ) → Fits w32 n → length (line_for (place_of n)) �
 unfolding place_of placed
 place_short n h = ⊎_elim
     (λ (q : ltb n 2147483648 ≡ true). rw q
-    (⊎_elim (λ (r : eqb (n % 256) 255 ≡ true). rw r (omega arith)) (λ (r : eqb (n % 256) 255 ≡ false). rw r (step-short (n / 256) (n % 256) (omega (arith, ltb-true n 2147483648 q)) (omega arith))) (either (eqb (n % 256) 255))))
+    (⊎_elim (λ (r : eqb (n % 256) 255 ≡ true). rw r (omega arith)) (λ (r : eqb (n % 256) 255 ≡ false). rw r (step-short (n / 256) (n % 256) (omega (arith, ltb-true n 2147483648 q)) (omega arith))) (cases_Bool (eqb (n % 256) 255))))
     (λ (q : ltb n 2147483648 ≡ false). rw q
     (⊎_elim (λ (r : gaps n ≡ true). rw r (omega arith))
-    (λ (r : gaps n ≡ false). rw r (meet-short (n / 16777216 % 128) (n / 65536 % 256) (n / 256 % 256) (n % 256) (omega arith) (omega arith) (omega arith) (omega arith))) (either (gaps n))))
-    (either (ltb n 2147483648))
+    (λ (r : gaps n ≡ false). rw r (meet-short (n / 16777216 % 128) (n / 65536 % 256) (n / 256 % 256) (n % 256) (omega arith) (omega arith) (omega arith) (omega arith))) (cases_Bool (gaps n))))
+    (cases_Bool (ltb n 2147483648))

@@ -1,12 +1,11 @@
 -- Writing part after part is writing the parts joined.
-use mathlib.Core.Path.{◌≡◌, refl, sym, ap, ◌∙◌}
+use mathlib.Core.Path.{◌≡◌, sym, ap, ◌∙◌}
 use mathlib.Core.List.{List, [], ◌∷◌, ◌++◌, append_assoc, append-nil}
-use Prim.Native.Nat.{ℕ, zero, suc, ◌+◌, ◌-◌, ◌≤◌, ◌<◌}
+use Prim.Native.Nat.{ℕ, zero, suc, ◌+◌, ◌-◌, ◌≤◌}
 use native.Mathlib.Nat.{add-zero, zero-add, add_assoc, sub-zero, suc-sub-suc, le_of_suc-le-suc}
-use native.Mathlib.Numerals.{add-one}
 use native.Mathlib.Omega.{arith}
-use lib.ListN.{length, take, drop, set, take-append-drop, length-append, length-drop}
-use lib.Seq.{set_split, append_snoc, take_at, drop_at, length-take-le, take-nil, drop-drop, slice}
+use lib.ListN.{length, take, drop, take-append-drop, length-append, length-drop}
+use lib.Seq.{take_at, drop_at, length-take-le, take-nil, drop-drop, slice}
 use Rattle.listing_bytes.specs.Forms.{items}
 use Rattle.listing_bytes.specs.Writing.{written, Writes, WritesLine}
 
@@ -20,13 +19,6 @@ length-written d p s room = length-append (take p d ++ s) (drop (p + length s) d
 -- no byte, and one byte
 pub writes-none : (d : List ℕ) (p : ℕ) → p ≤ length d → Writes d p [] p d
 writes-none d p h = record { room = omega arith; next = omega arith; bytes = sym (rw (add-zero, append-nil) (take-append-drop p d)) }
-
-pub writes_byte : (d : List ℕ) (p b : ℕ) → p < length d → Writes d p (b ∷ []) (p + 1) (set d p b)
-writes_byte d p b h = record {
-  room = omega arith;
-  next = refl;
-  bytes = set_split d p b h ∙ sym (append_snoc (take p d) b (drop (suc p) d)) ∙ rw add-one;
-}
 
 module _ {d : List ℕ} {p : ℕ} {s : List ℕ} {q : ℕ} {e : List ℕ} (first : Writes d p s q e) where
   -- a writer keeps the length

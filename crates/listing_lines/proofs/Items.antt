@@ -11,10 +11,11 @@ use lib.Seq.{take-suc, take-take, length-slice}
 use borrow.Author.Tests.{eq-eqb}
 use mir.Syntax.{w32}
 use mir.Val.{Fits}
+use Rattle.std.proofs.lemmas.Bool.{cases_Bool}
 use Rattle.limits.specs.Limits as limit
 use Rattle.semantics.specs.Labels.{has}
-use Rattle.semantics.proofs.Tools.{either}
 use Rattle.model.specs.declared.Model.{Model}
+use Rattle.model.specs.Records.{name_of}
 use Rattle.model.specs.Places.{objects}
 use Rattle.model.specs.WellFormed.{class_of, in_class, declared_in, GoodRelations}
 use Rattle.model.proofs.Declarations.{in_class-snoc, set_below}
@@ -32,13 +33,13 @@ Words (o ∷ os) = Fits w32 o × Words os
 pub objects-short : (os : List ℕ) → Words os → length (items (map decimal (objects os))) ≤ 11 * length os
 objects-short [] h = omega arith
 objects-short (o ∷ os) h = ⊎_elim (λ (q : eqb o 255 ≡ true). rw q (omega arith))
-    (λ (q : eqb o 255 ≡ false). rw (q, length-append (decimal o) (items (map decimal (objects os)))) (omega (arith, word-short o h.0, objects-short os h.1))) (either (eqb o 255))
+    (λ (q : eqb o 255 ≡ false). rw (q, length-append (decimal o) (items (map decimal (objects os)))) (omega (arith, word-short o h.0, objects-short os h.1))) (cases_Bool (eqb o 255))
 
 -- NAMES have at most 16 bytes, and at most 24 are of state relations
 fewer : (k i : ℕ) (rs : List ℕ) → in_class k (take i rs) ≤ in_class k rs
 fewer k zero rs = omega arith
 fewer k (suc i) [] = omega arith
-fewer k (suc i) (r ∷ rs) = ⊎_elim (λ (q : eqb (class_of r) k ≡ true). rw q (omega (arith, fewer k i rs))) (λ (q : eqb (class_of r) k ≡ false). rw q (fewer k i rs)) (either (eqb (class_of r) k))
+fewer k (suc i) (r ∷ rs) = ⊎_elim (λ (q : eqb (class_of r) k ≡ true). rw q (omega (arith, fewer k i rs))) (λ (q : eqb (class_of r) k ≡ false). rw q (fewer k i rs)) (cases_Bool (eqb (class_of r) k))
 
 module _ (text : List ℕ) (m : Model) (s : ℕ) (small : Fits w32 s) (good : GoodRelations m) (named : Named text m) (whole : length m.relations.codes ≡ limit.declared) where
   abbrev code : ℕ → ℕ
@@ -59,7 +60,7 @@ module _ (text : List ℕ) (m : Model) (s : ℕ) (small : Fits w32 s) (good : Go
   state-more i h e = rw (eq-eqb (class_of (code i)) 0 (omega (arith, set_below s (code i) 32 small.fits e))) at (states-more i h)
 
   name-short : (i : ℕ) → i < m.relations.count → length (name_at text m i) ≤ limit.name
-  name-short i h = omega (arith, length-slice (get_or m.names i 0) (get_or m.names i 0 + get_or m.lengths i 0) text (named.within i h), named.short i h)
+  name-short i h = omega (arith, length-slice (name_of m i).start ((name_of m i).start + (name_of m i).len) text (named.within i h), named.short i h)
 
   names-short : (i : ℕ) → i ≤ m.relations.count → length (items (names_in text m s i)) ≤ (1 + limit.name) * states i
   names-short zero h = omega arith
@@ -67,7 +68,7 @@ module _ (text : List ℕ) (m : Model) (s : ℕ) (small : Fits w32 s) (good : Go
       (λ (q : has s (code i) ≡ true).
       rw (q, items_more (names_in text m s i) (name_at text m i), length-append (items (names_in text m s i)) (32 ∷ name_at text m i)) (omega (arith, names-short i (omega arith), name-short i h, state-more i h q)))
       (λ (q : has s (code i) ≡ false). rw (q, append-nil (names_in text m s i)) (omega (arith, names-short i (omega arith), states-more i h)))
-      (either (has s (code i)))
+      (cases_Bool (has s (code i)))
 
   -- there is room for the next name
   pub name-room : (i : ℕ) → i < m.relations.count → has s (code i) ≡ true → length (items (names_in text m s i)) + (1 + limit.name) ≤ limit.states * (1 + limit.name)

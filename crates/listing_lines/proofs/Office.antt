@@ -9,6 +9,7 @@ use Rattle.semantics.specs.Labels.{has}
 use Rattle.semantics.specs.Runs.{step, meet}
 use Rattle.semantics.proofs.Tools.{has-empty}
 use Rattle.model.specs.declared.Model.{Model}
+use Rattle.model.specs.Records.{name_of}
 use Rattle.model.specs.Places.{placed, place_of}
 use Rattle.model.proofs.Office.{office}
 use Rattle.listing_bytes.specs.Numerals.{decimal}
@@ -22,7 +23,7 @@ text = bytes "(state Admin)\n(state User)\n(rel Control 1)\n(new (Admin))\n(new 
 pub office-named : Named text office
 office-named = record { within = λ i h. (go i h).0; short = λ i h. (go i h).1 }
   where
-    go : (i : ℕ) → i < 3 → (get_or office.names i 0 + get_or office.lengths i 0 ≤ length text) × (get_or office.lengths i 0 ≤ 16)
+    go : (i : ℕ) → i < 3 → ((name_of office i).start + (name_of office i).len ≤ length text) × ((name_of office i).len ≤ 16)
     go zero h = omega arith
     go (suc zero) h = omega arith
     go (suc (suc zero)) h = omega arith

@@ -1,11 +1,12 @@
 -- THE LISTING: "one form a line", ended by byte 10.
-use Rattle.std.specs.Prelude.{Bool, true, false, cond, List, [], ◌∷◌, ◌++◌, map, ℕ, zero, suc, ◌+◌, ◌≤◌, ◌<◌, ◌*◌, length, get_or}
+use Rattle.std.specs.Prelude.{Bool, true, false, if◌then◌else◌, List, [], ◌∷◌, ◌++◌, map, ℕ, zero, suc, ◌+◌, ◌≤◌, ◌<◌, ◌*◌, length, slice_index}
 use Rattle.std.proofs.Math.Option.{Option, none, some}
 use Rattle.std.proofs.Math.Seq.{slice}
 use Rattle.limits.specs.Limits as limit
 use Rattle.semantics.specs.Labels.{has}
 use Rattle.semantics.specs.Runs.{Place, step, meet}
 use Rattle.model.specs.declared.Model.{Model}
+use Rattle.model.specs.Records.{name_of}
 use Rattle.listing_bytes.specs.Numerals.{decimal}
 use Rattle.listing_bytes.specs.Forms.{bytes, form}
 
@@ -20,17 +21,17 @@ states_line n = form "states" (decimal n ∷ [])
 
 -- the name of declared relation i, as it stands in the text
 abbrev pub name_at : List ℕ → Model → ℕ → List ℕ
-name_at text m i = slice (get_or m.names i 0) (get_or m.names i 0 + get_or m.lengths i 0) text
+name_at text m i = slice (name_of m i).start ((name_of m i).start + (name_of m i).len) text
 
 -- the names of those of the first i declared relations that are in the set s, "in order of declaration"
 abbrev pub names_in : List ℕ → Model → ℕ → ℕ → List (List ℕ)
 names_in text m s zero = []
-names_in text m s (suc i) = names_in text m s i ++ cond (has s (get_or m.relations.codes i 0)) (name_at text m i ∷ []) []
+names_in text m s (suc i) = names_in text m s i ++ (if has s (slice_index m.relations.codes i) then name_at text m i ∷ [] else [])
 
 -- what acceptance guarantees of the names: each stands in the text, and "is 1 to 16 letters or digits"
 pub record Named (text : List ℕ) (m : Model) : Type 0 where
-  pub within : (i : ℕ) → i < m.relations.count → get_or m.names i 0 + get_or m.lengths i 0 ≤ length text
-  pub short : (i : ℕ) → i < m.relations.count → get_or m.lengths i 0 ≤ limit.name
+  pub within : (i : ℕ) → i < m.relations.count → (name_of m i).start + (name_of m i).len ≤ length text
+  pub short : (i : ℕ) → i < m.relations.count → (name_of m i).len ≤ limit.name
 
 -- an atomic state: `(atomic A B)`, and `(atomic)` for the empty one
 unfoldable pub atomic_line : List ℕ → Model → ℕ → List ℕ

@@ -27,9 +27,10 @@ fn put_names(out: &mut [u8], at: usize, text: &[u8], m: &Model, set: u32) -> usi
     let mut next = at;
     for i in 0..m.relations.count {
         if has(set, m.relations.codes[i]) {
-            let a = m.names[i] as usize;
-            let e = a + m.lengths[i] as usize;
-            next = put_name(out, next, &text[a..e]);
+            let name = m.names[i];
+            let start = name.start as usize;
+            let end = start + name.len as usize;
+            next = put_name(out, next, &text[start..end]);
         }
     }
     next

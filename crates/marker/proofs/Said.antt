@@ -9,9 +9,9 @@ use native.Mathlib.Omega.{arith}
 use lib.Dec.{eqb, ltb}
 use lib.ListN.{length}
 use borrow.Author.Tests.{ltb-false}
+use Rattle.std.proofs.lemmas.Bool.{cases_Bool}
 use Rattle.limits.specs.Limits as limit
 use Rattle.semantics.specs.Runs.{Place}
-use Rattle.semantics.proofs.Tools.{either}
 use Rattle.grammar.specs.Bytes.{Line, ended, unended, in_front, lines}
 use Rattle.model.specs.Places.{number_of}
 use Rattle.model.proofs.Places.{place-of-number}
@@ -54,7 +54,7 @@ in-front-count b (unended s ∷ ls) = omega arith
 
 few-lines : (s : List ℕ) → length (lines s) ≤ length s
 few-lines [] = omega arith
-few-lines (b ∷ s) = ⊎_elim (λ (q : eqb b 10 ≡ true). rw q (omega (arith, few-lines s))) (λ (q : eqb b 10 ≡ false). rw q (omega (arith, few-lines s, in-front-count b (lines s)))) (either (eqb b 10))
+few-lines (b ∷ s) = ⊎_elim (λ (q : eqb b 10 ≡ true). rw q (omega (arith, few-lines s))) (λ (q : eqb b 10 ≡ false). rw q (omega (arith, few-lines s, in-front-count b (lines s)))) (cases_Bool (eqb b 10))
 
 -- A YES: its run begins on line n + k at the latest
 module _ (first : ℕ) (ps : List Place) where
@@ -70,7 +70,7 @@ module _ (first : ℕ) (ps : List Place) where
   one_place n qs ls (some nothing) go e = no-yes (n + length qs) first ps e
   one_place n qs ls (some (place p)) go e =
       ⊎_elim (λ (t : ltb (length qs) limit.run ≡ true). go p (rw t at e))
-      (λ (t : ltb (length qs) limit.run ≡ false). no-yes (n + length qs) first ps (rw t at e)) (either (ltb (length qs) limit.run))
+      (λ (t : ltb (length qs) limit.run ≡ false). no-yes (n + length qs) first ps (rw t at e)) (cases_Bool (ltb (length qs) limit.run))
 
   run-first : (n : ℕ) (qs : List Place) (ls : List Line) → onwards n qs ls ≡ says-yes first ps → first ≡ n
   unfolding onwards
@@ -108,7 +108,7 @@ module _ (first : ℕ) (ps : List Place) where
   first_small handin e =
       ⊎_elim (λ (q : ltb limit.handin (length handin) ≡ true). no-yes 0 first ps (rw q at e))
       (λ (q : ltb limit.handin (length handin) ≡ false). omega (arith, lines-first (lines handin) (rw q at e), few-lines handin, ltb-false limit.handin (length handin) q))
-      (either (ltb limit.handin (length handin)))
+      (cases_Bool (ltb limit.handin (length handin)))
 
 -- THE NUMBERS of places that have one stand for them
 pub decodes : (ps : List Place) → Numerables ps → Decodes (map number_of ps) ps

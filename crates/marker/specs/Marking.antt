@@ -1,5 +1,5 @@
 -- THE MARK OF A HAND-IN TO A TEXT: what the call answers, and what the work area and the two tables then have, for all inputs.
-use Rattle.std.specs.Prelude.{◌≡◌, Bool, false, ◌||◌, List, [], ◌++◌, map, ℕ, ltb, length, drop, Result}
+use Rattle.std.specs.Prelude.{◌≡◌, Bool, false, ◌||◌, List, [], ◌++◌, map, ℕ, nat_lt, length, drop, Result}
 use Rattle.rows.specs.Rows.{Refuses}
 use Rattle.rows.specs.declared.Refusal.{Refusal}
 use Rattle.limits.specs.Limits as limit
@@ -16,7 +16,7 @@ use Rattle.marker_worth.specs.Worth.{Worth}
 
 -- row 12, of the work area and of both tables: the one for the run, and the one for those who stood by
 abbrev pub narrow : ℕ → ℕ → ℕ → Bool
-narrow bytes places standing = short bytes places || ltb standing limit.run
+narrow bytes places standing = short bytes places || nat_lt standing limit.run
 
 -- WHAT AN ACCEPTED TEXT LEAVES in the buffers, by what the hand-in says: an unreadable one leaves them; the run of a yes is written by its numbers, and who stood by at its kept steps is noted.
 -- It is so whatever the mark, 15 too, after which document 02 has "the first 65,536 work bytes zero": the table has the run of the hand-in itself, not one that is shown.

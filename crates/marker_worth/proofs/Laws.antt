@@ -1,26 +1,19 @@
 -- FROM THE REPLAY TO THE RUN: what is answered to the numbers of places is said of the places. FROM THE VERDICT TO THE MARK.
-use mathlib.Core.Path.{◌≡◌, refl, sym, subst}
+use mathlib.Core.Path.{◌≡◌, refl, subst}
 use mathlib.Core.Logic.{inl, inr}
-use mathlib.Core.Bool.{true, false}
 use mathlib.Core.List.{List, [], ◌∷◌}
 use Prim.Native.Nat.{ℕ, suc, ◌+◌, ◌≤◌}
 use native.Mathlib.Omega.{arith}
 use lib.ListN.{length, replicate, length-replicate}
-use Rattle.std.specs.Prelude.{Result, Ok, Err}
-use Rattle.rows.specs.declared.Refusal.{Refusal}
 use Rattle.limits.specs.Limits as limit
 use Rattle.semantics.specs.Models.{Program, Question}
-use Rattle.semantics.specs.Runs.{Place, Session, start, after, Plays}
+use Rattle.semantics.specs.Runs.{Place, Session, after, Plays}
 use Rattle.calls.specs.Wiping.{wiped}
 use Rattle.calls.proofs.Wiped.{wiped-over}
 use Rattle.replay_session.specs.declared.Answer.TheVariants.{Kept, Broken}
 use Rattle.replay_session.specs.Replays.{Replays, Decodes}
 use Rattle.replay_session.proofs.Answers.{broken}
-use Rattle.handin.specs.Handins.{says-no, says-yes}
-use Rattle.marker_worth.specs.declared.Mark.{Mark}
-use Rattle.marker_worth.specs.declared.Mark.TheVariants.{Right, Other, Breaks}
-use Rattle.marker_worth.specs.Worth.{BreaksAt, Worth}
-use Rattle.marker_worth.specs.Judging.{Judged}
+use Rattle.marker_worth.specs.Worth.{BreaksAt}
 
 module _ (P : Program) (Q : Question) where
   -- KEPT
@@ -48,20 +41,8 @@ module _ (P : Program) (Q : Question) where
   -- at a place of the run, or at its end
   pub within : (s : Session) (ns : List ℕ) (j : ℕ) → Replays P Q s ns 0 (Broken j) → j ≤ length ns
   within s ns j h = ((broken P Q s ns 0 j).0 (subst (λ (k : ℕ). Replays P Q s ns 0 (Broken k)) (omega arith) h)).0
-
   -- A NO
-  pub no-worth : (r : Result Mark Refusal) → Judged P Q (Other true) Right r → Worth P Q says-no r
-  no-worth (Ok a) (inl (many, e)) = absurd e
-  no-worth (Err x) (inl (many, e)) = (many, e.0, e.1)
-  no-worth r (inr (few, inl (reached, e))) = subst (Worth P Q says-no) (sym e) (refl, reached, few)
-  no-worth r (inr (few, inr (unreached, e))) = subst (Worth P Q says-no) (sym e) (unreached, few)
-
   -- A YES whose run breaks
-  pub broken-worth : (first place : ℕ) (ps : List Place) (r : Result Mark Refusal) → BreaksAt P Q (start []) ps place → Judged P Q (Breaks place (first + place)) (Other false) r → Worth P Q (says-yes first ps) r
-  broken-worth first place ps (Ok a) b (inl (many, e)) = absurd e
-  broken-worth first place ps (Err x) b (inl (many, e)) = ((place, b), many, e.0, e.1)
-  broken-worth first place ps r b (inr (few, inl (reached, e))) = subst (Worth P Q (says-yes first ps)) (sym e) (reached, b, refl, few)
-  broken-worth first place ps r b (inr (few, inr (unreached, e))) = subst (Worth P Q (says-yes first ps)) (sym e) (refl, unreached, few)
 
 -- the work area wiped twice
 pub wiped-twice : (w : List ℕ) → wiped (wiped w) ≡ wiped w

@@ -8,24 +8,19 @@ use native.Mathlib.Omega.{arith}
 use native.Mathlib.Decide.{dec_lt}
 use lib.Dec.{eqb}
 use borrow.Author.Tests.{eqb-true}
-use lib.ListN.{length, get_or}
+use lib.ListN.{length, get_or, get_or-eq_default}
+use Rattle.std.proofs.lemmas.Bool.{or_cases}
 use Rattle.limits.specs.Limits as limit
 use Rattle.semantics.specs.Models.{elem, Body, vars, shared, names, carriers, Distinct}
 use Rattle.semantics.specs.Runs.{nobody}
 use Rattle.semantics.specs.Walkers.{chosen}
-use Rattle.semantics.proofs.Tools.{clash, or_right, or-true-cases, elem-here, names-elem}
+use Rattle.semantics.proofs.Tools.{clash, or_right, elem-here, names-elem}
 use Rattle.semantics.proofs.Carriers.{carriers-elem, carriers-shared, carriers-distinct, shared-somewhere, chosen-stands, chosen-first}
 use Rattle.model.specs.declared.Model.{Model}
 use Rattle.model.specs.Records.{up_from, number_in, question_of, stage_at, padded, carried_at}
 use Rattle.model.specs.WellFormed.{WellFormed}
 use Rattle.model.proofs.Numbering.{elem-up_from}
 use Rattle.model.proofs.Accepted.{stages, stage-here, stage-names}
-
--- nothing stands behind a list
-beyond : {A : Type 0} (xs : List A) (i : ℕ) (d : A) → length xs ≤ i → get_or xs i d ≡ d
-beyond [] i d l = refl
-beyond (x ∷ xs) zero d l = absurd (omega arith)
-beyond (x ∷ xs) (suc i) d l = beyond xs i d (omega arith)
 
 padded-length : (n : ℕ) (xs : List ℕ) → length (padded n xs) ≡ n
 padded-length zero xs = refl
@@ -44,7 +39,7 @@ padded-at (suc n) (x ∷ xs) (suc v) = ⊎_elim (λ q. inl q) (λ q. inr (or_rig
 padded-elem : (n : ℕ) (xs : List ℕ) (x : ℕ) → length xs ≤ n → elem x xs ≡ true → (v : ℕ) × (v < n) × (get_or (padded n xs) v limit.none ≡ x)
 padded-elem n [] x l e = absurd (false≢true e)
 padded-elem zero (y ∷ ys) x l e = absurd (omega arith)
-padded-elem (suc n) (y ∷ ys) x l e = ⊎_elim (λ q. (0, omega arith, sym (eqb-true x y q))) (λ q. let r = padded-elem n ys x (omega arith) q in (suc r.0, omega (arith, r.1), r.2)) (or-true-cases (eqb x y) (elem x ys) e)
+padded-elem (suc n) (y ∷ ys) x l e = ⊎_elim (λ q. (0, omega arith, sym (eqb-true x y q))) (λ q. let r = padded-elem n ys x (omega arith) q in (suc r.0, omega (arith, r.1), r.2)) (or_cases (eqb x y) (elem x ys) e)
 
 -- in two cells there are different ones, or none
 padded-differ : (n : ℕ) (xs : List ℕ) → Distinct xs → ((x : ℕ) → elem x xs ≡ true → x ≢ limit.none) → (v w : ℕ) → v < n → get_or (padded n xs) v limit.none ≡ get_or (padded n xs) w limit.none → (get_or (padded n xs) v limit.none ≡ limit.none) ⊎ (v ≡ w)
@@ -66,14 +61,14 @@ module _ (m : Model) (wf : WellFormed m) where
     where
       mapped : (f : ℕ → ℕ) (ys : List ℕ) → elem x (map f ys) ≡ true → (y : ℕ) × (elem y ys ≡ true) × (x ≡ f y)
       mapped f [] t = absurd (false≢true t)
-      mapped f (y ∷ ys) t = ⊎_elim (λ q. (y, elem-here y ys, eqb-true x (f y) q)) (λ q. let r = mapped f ys q in (r.0, or_right (eqb r.0 y) (elem r.0 ys) r.1, r.2)) (or-true-cases (eqb x (f y)) (elem x (map f ys)) t)
+      mapped f (y ∷ ys) t = ⊎_elim (λ q. (y, elem-here y ys, eqb-true x (f y) q)) (λ q. let r = mapped f ys q in (r.0, or_right (eqb r.0 y) (elem r.0 ys) r.1, r.2)) (or_cases (eqb x (f y)) (elem x (map f ys)) t)
 
       named : (h : i < m.stagecount) → elem x (map (number_in (stage_at m i)) (up_from 0 (stage_at m i).variables)) ≡ true
       named h = subst (λ (l : List ℕ). elem x l ≡ true) (ap names (stage-here m wf i h) ∙ stage-names m wf i h) (names-elem x (get_or (question_of m) i []) e)
 
       go : Dec (i < m.stagecount) → x < limit.asked
       go (yes h) = let r = mapped (number_in (stage_at m i)) (up_from 0 (stage_at m i).variables) (named h) in rw r.2 ((wf.stage i h).small r.0 (omega (arith, (elem-up_from r.0 0 (stage_at m i).variables r.1).1)))
-      go (no h) = absurd (false≢true (subst (λ (b : Body). elem x (vars b) ≡ true) (beyond (question_of m) i [] (rw (stages m wf) (omega arith))) e))
+      go (no h) = absurd (false≢true (subst (λ (b : Body). elem x (vars b) ≡ true) (get_or-eq_default (question_of m) [] (rw (stages m wf) (omega arith))) e))
 
   -- the number 255 stands in no stage
   none-stands : (i : ℕ) → elem limit.none (vars (get_or (question_of m) i [])) ≡ true → ⊥

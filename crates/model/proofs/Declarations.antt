@@ -7,8 +7,9 @@ use Prim.Native.Nat.{ℕ, suc, ◌+◌, ◌^◌, ◌<◌}
 use native.Mathlib.Omega.{arith}
 use native.Mathlib.Decide.{dec_le}
 use lib.Dec.{eqb}
+use Rattle.std.proofs.lemmas.Bool.{cases_Bool}
 use Rattle.semantics.specs.Labels.{has}
-use Rattle.semantics.proofs.Tools.{either, clash}
+use Rattle.semantics.proofs.Tools.{clash}
 use Rattle.semantics.proofs.Sets.{has-beyond}
 use Rattle.model.specs.WellFormed.{class_of, in_class}
 
@@ -19,7 +20,7 @@ in_class-snoc k r (s ∷ rs) =
     ⊎_elim
     (λ (q : eqb (class_of s) k ≡ true). rw (q, in_class-snoc k r rs) (omega arith))
     (λ (q : eqb (class_of s) k ≡ false). rw (q, in_class-snoc k r rs))
-    (either (eqb (class_of s) k))
+    (cases_Bool (eqb (class_of s) k))
 
 -- a relation of a set below 2^k is below k
 pub set_below : (s a k : ℕ) → s < 2 ^ k → has s a ≡ true → a < k

@@ -36,8 +36,7 @@ abbrev pub office : Model
 office =
     record {
       relations = record { codes = 0 ∷ 1 ∷ 64 ∷ replicate 37 0; count = 3 };
-      names = 7 ∷ 21 ∷ 32 ∷ replicate 37 0;
-      lengths = 5 ∷ 4 ∷ 7 ∷ replicate 37 0;
+      names = record { start = 7; len = 5 } ∷ record { start = 21; len = 4 } ∷ record { start = 32; len = 7 } ∷ replicate 37 (record { start = 0; len = 0 });
       clauses = clauses;
       clausecount = 4;
       literals = 65536 ∷ 256 ∷ 0 ∷ 65536 ∷ 16777216 ∷ 4194304 ∷ replicate 538 0;

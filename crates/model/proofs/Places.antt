@@ -9,9 +9,10 @@ use native.Mathlib.Omega.{arith}
 use native.Mathlib.Decide.{dec_le}
 use borrow.Author.Tests.{lt-ltb, le-ltb, eq-eqb, ne_eqb}
 use lib.ListN.{length, get_or}
+use Rattle.std.proofs.lemmas.Bool.{cases_Bool}
 use Rattle.semantics.specs.Runs as runs
 use Rattle.semantics.specs.Runs.{step, meet}
-use Rattle.semantics.proofs.Tools.{either, same?, clash, or_right}
+use Rattle.semantics.proofs.Tools.{same?, clash, or_right}
 use Rattle.model.specs.declared.Place.{Place}
 use Rattle.model.specs.declared.Place.TheVariants.{Step, Meeting, Malformed}
 use Rattle.model.specs.Places.{number_of, gap_at, placed, numeral, objects, stands_for, place_of, Objects, Numerable, Proper}
@@ -93,7 +94,7 @@ bytes n =
 
 -- a number is malformed, or its parts are a place's and have it as their number
 pub numeral-placed : (n : ℕ) → n < 4294967296 → (placed n ≡ Malformed) ⊎ (Proper (placed n) × (numeral (placed n) ≡ n))
-numeral-placed n h = go (dec_le 2147483648 n) (same? (n % 256) 255) (either (gap_at a b)) (either (gap_at b c))
+numeral-placed n h = go (dec_le 2147483648 n) (same? (n % 256) 255) (cases_Bool (gap_at a b)) (cases_Bool (gap_at b c))
   where
     a : ℕ
     a = n / 65536 % 256

@@ -1,5 +1,5 @@
 -- PLACES OF A RUN as numbers.
-use Rattle.std.specs.Prelude.{◌≡◌, Bool, false, cond, not, ◌&&◌, ◌||◌, List, [], ◌∷◌, ℕ, ◌+◌, ◌*◌, ◌/◌, ◌%◌, ◌≤◌, ◌<◌, eqb, ltb, length, get_or}
+use Rattle.std.specs.Prelude.{◌≡◌, Bool, false, if◌then◌else◌, not, ◌&&◌, ◌||◌, List, [], ◌∷◌, ℕ, ◌+◌, ◌*◌, ◌/◌, ◌%◌, ◌≤◌, ◌<◌, ◌==◌, nat_lt, length, slice_index_or}
 use Rattle.std.proofs.Math.Option.{Option, none, some}
 use Rattle.limits.specs.Limits as limit
 use Rattle.semantics.specs.Runs as runs
@@ -10,20 +10,20 @@ use Rattle.model.specs.declared.Place.TheVariants.{Step, Meeting, Malformed}
 -- "A step is line × 256 + object." "A meeting is 2,147,483,648 + stage × 16,777,216 + o1 × 65,536 + o2 × 256 + o3, .. 255 where there is none."
 abbrev pub number_of : runs.Place → ℕ
 number_of (step ℓ o) = ℓ * 256 + o
-number_of (meet i os) = 2147483648 + i * 16777216 + get_or os 0 limit.none * 65536 + get_or os 1 limit.none * 256 + get_or os 2 limit.none
+number_of (meet i os) = 2147483648 + i * 16777216 + slice_index_or os 0 limit.none * 65536 + slice_index_or os 1 limit.none * 256 + slice_index_or os 2 limit.none
 
 -- an object is named after none
 abbrev pub gap_at : ℕ → ℕ → Bool
-gap_at a b = eqb a limit.none && not (eqb b limit.none)
+gap_at a b = a == limit.none && not (b == limit.none)
 
 -- the place of a number, in its parts
 unfoldable pub placed : ℕ → Place
 placed n =
-    cond (ltb n 2147483648)
-    (cond (eqb (n % 256) limit.none) Malformed (Step (n / 256) (n % 256)))
-    (cond (gap_at (n / 65536 % 256) (n / 256 % 256) || gap_at (n / 256 % 256) (n % 256))
-    Malformed
-    (Meeting (n / 16777216 % 128) (n / 65536 % 256) (n / 256 % 256) (n % 256)))
+    if nat_lt n 2147483648
+    then (if n % 256 == limit.none then Malformed else Step (n / 256) (n % 256))
+    else (if gap_at (n / 65536 % 256) (n / 256 % 256) || gap_at (n / 256 % 256) (n % 256)
+    then Malformed
+    else Meeting (n / 16777216 % 128) (n / 65536 % 256) (n / 256 % 256) (n % 256))
 
 -- the number of a place that is given in its parts
 abbrev pub numeral : Place → ℕ
@@ -34,7 +34,7 @@ numeral Malformed = limit.none
 -- the objects before the first 255
 abbrev pub objects : List ℕ → List ℕ
 objects [] = []
-objects (o ∷ os) = cond (eqb o limit.none) [] (o ∷ objects os)
+objects (o ∷ os) = if o == limit.none then [] else o ∷ objects os
 
 -- the place of the semantics that the parts stand for
 abbrev pub stands_for : Place → Option runs.Place

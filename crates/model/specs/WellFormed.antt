@@ -1,5 +1,5 @@
 -- WELL-FORMED MODELS: what acceptance guarantees of a model record, so that no later call checks it again.
-use Rattle.std.specs.Prelude.{◌≡◌, cond, List, [], ◌∷◌, ◌++◌, ℕ, suc, ◌+◌, ◌/◌, ◌%◌, ◌^◌, ◌≤◌, ◌<◌, eqb, length, take, get_or}
+use Rattle.std.specs.Prelude.{◌≡◌, if◌then◌else◌, List, [], ◌∷◌, ◌++◌, ℕ, suc, ◌+◌, ◌/◌, ◌%◌, ◌^◌, ◌≤◌, ◌<◌, ◌==◌, length, take, slice_index}
 use Rattle.limits.specs.Limits as limit
 use Rattle.semantics.specs.Models.{vars, firsts, carriers, Safe, SafeQuestion}
 use Rattle.model.specs.declared.Action.{Action}
@@ -20,7 +20,7 @@ index_of r = r % 32
 -- how many of the codes are of class k
 abbrev pub in_class : ℕ → List ℕ → ℕ
 in_class k [] = 0
-in_class k (r ∷ rs) = cond (eqb (class_of r) k) (suc (in_class k rs)) (in_class k rs)
+in_class k (r ∷ rs) = if class_of r == k then suc (in_class k rs) else in_class k rs
 
 -- how many relations of class k are declared
 unfoldable pub declared_in : Model → ℕ → ℕ
@@ -37,8 +37,8 @@ pub record GoodRelations (m : Model) : Type 0 where
   pub derived : declared_in m 1 + declared_in m 2 + declared_in m 3 ≤ limit.rels
   pub pairs : declared_in m 3 ≤ limit.pairs
   pub order : (i : ℕ) → i < m.relations.count
-      → (class_of (get_or m.relations.codes i 0) < 4)
-      × (index_of (get_or m.relations.codes i 0) ≡ in_class (class_of (get_or m.relations.codes i 0)) (take i m.relations.codes))
+      → (class_of (slice_index m.relations.codes i) < 4)
+      × (index_of (slice_index m.relations.codes i) ≡ in_class (class_of (slice_index m.relations.codes i)) (take i m.relations.codes))
 
 -- VARIABLES are numbered from 0 by first appearance, and there are n of them
 abbrev pub Numbered : List ℕ → ℕ → Type 0
@@ -49,7 +49,7 @@ pub record GoodPart (m : Model) (first count n : ℕ) : Type 0 where
   pub within : first + count ≤ m.literalcount
   pub short : count ≤ limit.body
   pub few : n ≤ limit.variables
-  pub relations : (k : ℕ) → k < count → Declared m (relation_of (get_or m.literals (first + k) 0))
+  pub relations : (k : ℕ) → k < count → Declared m (relation_of (slice_index m.literals (first + k)))
 
 -- CLAUSES: a rule's head has as many variables as its relation takes, and a set has declared state relations only
 abbrev pub GoodAction : Model → Action → Type 0

@@ -7,6 +7,7 @@ ghost use Rattle.reason_codes.specs.Codes.{reasoned as reason_code, explained as
 use explain::Explanation;
 use reasons::Reason;
 use rows::Refusal;
+use words::Kind;
 
 // The number of a reason, and the place of the literal that is to blame.
 fn reasoned(reason: Reason) -> u64
@@ -30,9 +31,12 @@ pub fn explained(x: Result<Explanation, Refusal>) -> u64
     ensures { result ≡ explanation_code x }
 {
     match x {
-        Ok(Explanation::Kept) => 3 * 4_294_967_296,
+        Ok(Explanation::Kept) => words::word(Kind::Kept, 0),
         Ok(Explanation::Broken { place, reason }) => {
-            4 * 4_294_967_296 + (place as u64 % 65_536 * 65_536 + reasoned(reason))
+            words::word(
+                Kind::Broken,
+                place as u64 % 65_536 * 65_536 + reasoned(reason),
+            )
         }
         Err(r) => words::refused(r),
     }

@@ -8,11 +8,12 @@ use native.Mathlib.Omega.{arith}
 use borrow.Author.Tests.{eqb-true, eq-eqb, ne_eqb}
 use lib.Dec.{eqb}
 use lib.ListN.{length}
+use Rattle.std.proofs.lemmas.Bool.{cases_Bool, or_cases}
 use Rattle.semantics.specs.Models.{elem, Line, rule, new, next, other, Program, line, Question, vars, firsts, names, Distinct}
 use Rattle.semantics.specs.Facts.{Database}
 use Rattle.semantics.specs.Steps.{Enabled}
 use Rattle.semantics.specs.Runs.{Place, step, meet, pick, named, Session, stage, Allowed}
-use Rattle.semantics.proofs.Tools.{either, clash, or-true-cases, or_right, elem-here, firsts-among}
+use Rattle.semantics.proofs.Tools.{clash, or_right, elem-here, firsts-among}
 use Rattle.reasons_bodies.proofs.Orders.{blame-refutes}
 use Rattle.reasons.specs.declared.Reason.{Reason}
 use Rattle.reasons.specs.declared.Reason.TheVariants.{Ends, Done, NoLine, NotNext, NoObject, OtherStage, Variables, Carried, Literal}
@@ -62,7 +63,7 @@ firsts-not x seen (y ∷ ys) e = ⊎_elim
     (λ (q : elem y seen ≡ true). rw q (firsts-not x seen ys e))
     (λ (q : elem y seen ≡ false).
     rw (q, ne_eqb x y (λ z. clash e (subst (λ (n : ℕ). elem n seen ≡ false) (sym z) q))) (firsts-not x (y ∷ seen) ys (or_right (eqb x y) (elem x seen) e)))
-    (either (elem y seen))
+    (cases_Bool (elem y seen))
 
 firsts-distinct : (seen xs : List ℕ) → Distinct (firsts seen xs)
 unfolding firsts
@@ -70,7 +71,7 @@ firsts-distinct seen [] = tt
 firsts-distinct seen (y ∷ ys) = ⊎_elim
     (λ (q : elem y seen ≡ true). rw q (firsts-distinct seen ys))
     (λ (q : elem y seen ≡ false). rw q (firsts-not y (y ∷ seen) ys (elem-here y seen), firsts-distinct (y ∷ seen) ys))
-    (either (elem y seen))
+    (cases_Bool (elem y seen))
 
 -- A MEETING: each object is named for some variable
 named-for : (xs os : List ℕ) → length os ≡ length xs → Distinct xs → (o : ℕ) → elem o os ≡ true → (x : ℕ) × (elem x xs ≡ true) × (pick xs os 0 x ≡ o)
@@ -82,7 +83,7 @@ named-for (y ∷ ys) (p ∷ os) l d o e = ⊎_elim
     let w = named-for ys os (omega arith) d.1 o q in
     let apart : w.0 ≢ y = λ z. clash w.1 (rw z d.0) in
     (w.0, or_right (eqb w.0 y) (elem w.0 ys) w.1, rw (ne_eqb w.0 y apart) w.2))
-    (or-true-cases (eqb o p) (elem o os) e)
+    (or_cases (eqb o p) (elem o os) e)
 
 module _ (P : Program) (Q : Question) (s : Session) where
   meeting-not : (i : ℕ) (os : List ℕ) (r : Reason) → MeetingFails P Q s i os r → Allowed P Q s (meet i os) → ⊥

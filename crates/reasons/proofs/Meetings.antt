@@ -22,7 +22,8 @@ use Rattle.model.specs.WellFormed.{WellFormed}
 use Rattle.model.proofs.Renaming.{elem-map, elem-of-map, vars-renamed, meets-renamed, named-renamed}
 use Rattle.model.proofs.Accepted.{stages, stage-here, stage-vars, stage-different, stage-count}
 use Rattle.facts_candidates.specs.declared.Choice.{Choice}
-use Rattle.facts_candidates.specs.Choices.{chosen}
+use Rattle.facts_candidates.specs.Choices.{element_of, chosen}
+use Rattle.facts_candidates.proofs.Choosing.{some-there}
 use Rattle.facts_find.specs.Bodies.{Fixed}
 use Rattle.replay_session.specs.declared.Session.{Session}
 use Rattle.replay_session.specs.Sessions.{carried_in}
@@ -31,7 +32,9 @@ use Rattle.replay_session.proofs.Carrying.{stands-cell, cell-stands}
 use Rattle.replay_session.proofs.Effects.{size}
 use Rattle.replay_view.specs.declared.View.{View}
 use Rattle.replay_steps.specs.Tries.{Ready, Holding}
-use Rattle.replay_meetings.proofs.Objects.{pick-place, choice, objects-chosen}
+use Rattle.std.specs.Prelude.{Option, Some, unwrap_or}
+use Rattle.replay_meetings.specs.Carried.{choice_of}
+use Rattle.replay_meetings.proofs.Objects.{pick-place, objects-chosen}
 use Rattle.replay_meetings.proofs.Meetings.{carried-in}
 use Rattle.reasons_bodies.specs.Blames.{Blames}
 use Rattle.reasons_bodies.proofs.Orders.{blames-renamed}
@@ -91,13 +94,14 @@ module _ (m : Model) (s : Session) (v : View) (w : List ℕ) (ready : Ready m s 
     meets = (next, subst (λ (body : Body). length os ≡ length (names body)) (sym here) (count ∙ sym (stage-count m ready.accepted s.met left)))
 
     -- an object that is not there
-    pub no-object : (x : ℕ) → x < g.variables → s.objects ≤ chosen (choice a b c) x → Explains m s (meet i os) NoObject
+    pub no-object : (x : ℕ) → x < g.variables → ((e : ℕ) → element_of (choice_of a b c) x ≡ Some e → s.objects ≤ e) → Explains m s (meet i os) NoObject
     no-object x l far h =
         let o = (objects-chosen a b c x (omega arith)).0 in
+        let p = far (chosen (choice_of a b c) x) (some-there (element_of (choice_of a b c) x) (objects-chosen a b c x (omega arith)).1) in
         (stage-left, (meets, (get_or os x 0, at-elem os x (omega arith), let z = sized in omega arith)))
 
     -- the object of the stage's variable x
-    object : (x : ℕ) → x < g.variables → named stage os (number_in g x) ≡ chosen (choice a b c) x
+    object : (x : ℕ) → x < g.variables → named stage os (number_in g x) ≡ chosen (choice_of a b c) x
     object x l =
         named-renamed (number_in g) local (stage-different m ready.accepted s.met left) os x ((stage-vars m ready.accepted s.met left x).1 l)
         ∙ ap (λ (ns : List ℕ). pick ns os 0 x) (ready.accepted.stage s.met left).numbered
@@ -109,7 +113,7 @@ module _ (m : Model) (s : Session) (v : View) (w : List ℕ) (ready : Ready m s 
 
     -- A CARRIED VARIABLE with another object
     abbrev Other : Type 0
-    Other = (u : ℕ) × (u < limit.carried) × Swapped g (carried_at m u) (carried_in s u) (choice a b c)
+    Other = (u : ℕ) × (u < limit.carried) × Swapped g (carried_at m u) (carried_in s u) (choice_of a b c)
 
     pub swapped : Other → Explains m s (meet i os) Carried
     swapped (u, h, (held, (x, l, e, n))) _ = (
@@ -121,7 +125,7 @@ module _ (m : Model) (s : Session) (v : View) (w : List ℕ) (ready : Ready m s 
           carried_in s u,
           cell-stands m ready.accepted s ready.cells u s.met h (subst (λ (body : Body). elem (carried_at m u) (vars body) ≡ true) (sym here) stands) held,
           stands,
-          λ q. n (sym (object x l) ∙ ap (named stage os) e ∙ q),
+          λ q. n (some-there (element_of (choice_of a b c) x) (objects-chosen a b c x (omega arith)).1 ∙ ap (λ (y : ℕ). Some y) (sym (object x l) ∙ ap (named stage os) e ∙ q)),
         ),
       ),
     )
@@ -131,10 +135,10 @@ module _ (m : Model) (s : Session) (v : View) (w : List ℕ) (ready : Ready m s 
 
     -- THE BODY with the objects named
     abbrev Held : (ℕ → ℕ) → Type 0
-    Held = Holding m s local g.variables (choice a b c)
+    Held = Holding m s local g.variables (choice_of a b c)
 
-    fixed_named : (σ : ℕ → ℕ) → Fixed g.variables (choice a b c) σ → (x : ℕ) → elem x (vars local) ≡ true → σ x ≡ named stage os (number_in g x)
-    fixed_named σ h x e = let l = (stage-vars m ready.accepted s.met left x).0 e in h x l (objects-chosen a b c x (omega arith)).1 ∙ sym (object x l)
+    fixed_named : (σ : ℕ → ℕ) → Fixed g.variables (choice_of a b c) σ → (x : ℕ) → elem x (vars local) ≡ true → σ x ≡ named stage os (number_in g x)
+    fixed_named σ h x e = let l = (stage-vars m ready.accepted s.met left x).0 e in h x l (chosen (choice_of a b c) x) (some-there (element_of (choice_of a b c) x) (objects-chosen a b c x (omega arith)).1) ∙ sym (object x l)
 
     -- each carried object is the one that the meeting names
     one-object : (Other → ⊥) → (x d : ℕ) → (session_of m s).carried x ≡ some d → elem x (vars stage) ≡ true → named stage os x ≡ d
@@ -143,9 +147,9 @@ module _ (m : Model) (s : Session) (v : View) (w : List ℕ) (ready : Ready m s 
         let y = elem-of-map (number_in g) x (vars local) (subst (λ (l : List ℕ). elem x l ≡ true) (vars-renamed (number_in g) local) h) in
         let l = (stage-vars m ready.accepted s.met left y.0).0 y.1 in
         ap (named stage os) y.2 ∙ object y.0 l ∙ ⊎_elim
-        (λ (z : chosen (choice a b c) y.0 ≡ carried_in s r.0). z)
-        (λ (z : chosen (choice a b c) y.0 ≢ carried_in s r.0). absurd (none (r.0, r.1, ((λ q. r.4 (sym r.3 ∙ q)), (y.0, l, sym y.2 ∙ sym r.2, z)))))
-        (same? (chosen (choice a b c) y.0) (carried_in s r.0))
+        (λ (z : chosen (choice_of a b c) y.0 ≡ carried_in s r.0). z)
+        (λ (z : chosen (choice_of a b c) y.0 ≢ carried_in s r.0). absurd (none (r.0, r.1, ((λ q. r.4 (sym r.3 ∙ q)), (y.0, l, sym y.2 ∙ sym r.2, λ w. z (ap (λ (o : Option ℕ). unwrap_or o 255) w))))))
+        (same? (chosen (choice_of a b c) y.0) (carried_in s r.0))
         ∙ r.3
 
     allowed : (Other → ⊥) → (σ : ℕ → ℕ) → Held σ → Allowed P (question_of m) (session_of m s) (meet i os)
@@ -158,16 +162,16 @@ module _ (m : Model) (s : Session) (v : View) (w : List ℕ) (ready : Ready m s 
           one-object none,
         )
 
-    pub stage-literal : (Other → ⊥) → (k : ℕ) → (((σ : ℕ → ℕ) → Held σ → ⊥) → Blames P db local (Fixed g.variables (choice a b c)) k) → Explains m s (meet i os) (Literal k)
+    pub stage-literal : (Other → ⊥) → (k : ℕ) → (((σ : ℕ → ℕ) → Held σ → ⊥) → Blames P db local (Fixed g.variables (choice_of a b c)) k) → Explains m s (meet i os) (Literal k)
     stage-literal none k blames h = (
       stage-left,
       (
         meets,
         subst (λ (body : Body). Blames P db body (λ (σ : ℕ → ℕ). (x : ℕ) → elem x (vars body) ≡ true → σ x ≡ named body os x) k) (sym here)
-            (blames-renamed P db (number_in g) local (Fixed g.variables (choice a b c)) (λ (σ : ℕ → ℕ). (x : ℕ) → elem x (vars stage) ≡ true → σ x ≡ named stage os x) k (named stage os)
+            (blames-renamed P db (number_in g) local (Fixed g.variables (choice_of a b c)) (λ (σ : ℕ → ℕ). (x : ℕ) → elem x (vars stage) ≡ true → σ x ≡ named stage os x) k (named stage os)
             (λ x e. refl)
             fixed_named
-            (λ σ fit x l q. fit (number_in g x) (in-stage x l) ∙ object x l)
+            (λ σ fit x l e q. fit (number_in g x) (in-stage x l) ∙ object x l ∙ ap (λ (o : Option ℕ). unwrap_or o 255) q)
             (blames (λ σ q. h (allowed none σ q)))),
       ),
     )

@@ -1,5 +1,5 @@
 -- WHY A PLACE IS NOT ALLOWED.
-use Rattle.std.specs.Prelude.{◌≡◌, ◌≢◌, true, List, ℕ, suc, ◌≤◌, ◌<◌, length, get_or}
+use Rattle.std.specs.Prelude.{Option, Some, ◌≡◌, ◌≢◌, true, List, ℕ, suc, ◌≤◌, ◌<◌, length, slice_index}
 use Rattle.std.proofs.Math.Option.{some}
 use Rattle.limits.specs.Limits as limit
 use Rattle.semantics.specs.Models.{elem, Line, rule, new, next, other, Program, line, Question, vars, names}
@@ -9,7 +9,7 @@ use Rattle.model.specs.declared.Model.{Model}
 use Rattle.model.specs.declared.Stage.{Stage}
 use Rattle.model.specs.Records.{number_in, program_of, question_of}
 use Rattle.facts_candidates.specs.declared.Choice.{Choice}
-use Rattle.facts_candidates.specs.Choices.{chosen}
+use Rattle.facts_candidates.specs.Choices.{element_of}
 use Rattle.replay_session.specs.declared.Session as state
 use Rattle.replay_session.specs.Records.{session_of}
 use Rattle.reasons_bodies.specs.Blames.{Blames}
@@ -97,12 +97,16 @@ Explains m s p r = (Allowed (program_of m) (question_of m) (session_of m s) p �
 
 -- an object is carried, and the choice has another for the stage's variable of that number
 abbrev pub Swapped : Stage → ℕ → ℕ → Choice → Type 0
-Swapped g number carried c = (carried ≢ limit.none) × ((x : ℕ) × (x < g.variables) × (number_in g x ≡ number) × (chosen c x ≢ carried))
+Swapped g number carried c = (carried ≢ limit.none) × ((x : ℕ) × (x < g.variables) × (number_in g x ≡ number) × (element_of c x ≢ Some carried))
 
 -- the choice has another object than the carried one for some carried variable, whose numbers are ns
 abbrev pub AnySwapped : List ℕ → Stage → List ℕ → Choice → Type 0
-AnySwapped ns g carried c = (v : ℕ) × (v < limit.carried) × Swapped g (get_or ns v 0) (get_or carried v 0) c
+AnySwapped ns g carried c = (v : ℕ) × (v < limit.carried) × Swapped g (slice_index ns v) (slice_index carried v) c
 
--- one of the n objects that a choice has is beyond the objects of a database
+-- there is no object, or it lies beyond the objects of a database
+abbrev pub Absent : Option ℕ → ℕ → Type 0
+Absent object objects = (e : ℕ) → object ≡ Some e → objects ≤ e
+
+-- one of the n objects of a choice is absent
 abbrev pub Beyond : Choice → ℕ → ℕ → Type 0
-Beyond c n objects = (x : ℕ) × (x < n) × (objects ≤ chosen c x)
+Beyond c n objects = (x : ℕ) × (x < n) × Absent (element_of c x) objects

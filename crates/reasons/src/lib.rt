@@ -6,17 +6,15 @@ ghost use Rattle.std.proofs.Math.Option.{some};
 ghost use Rattle.limits.specs.Limits as limit;
 ghost use Rattle.semantics.specs.Runs as runs;
 ghost use Rattle.semantics.specs.Runs.{step, meet};
-ghost use Rattle.model.specs.declared.Action.TheVariants.{New, Next};
 ghost use Rattle.model.specs.Places.{objects, place_of};
 ghost use Rattle.replay_session.specs.Sessions.{Says, session_in};
 ghost use Rattle.replay_view.specs.declared.View.{View};
-ghost use Rattle.replay_steps.specs.Tries.{Lent, Open, Stepping};
-ghost use Rattle.reasons.specs.Reasons.{Explains, Swapped, AnySwapped, Beyond};
+ghost use Rattle.replay_steps.specs.Tries.{Lent, Open};
+ghost use Rattle.reasons.specs.Reasons.{Explains, Swapped, AnySwapped, Absent, Beyond};
 
 use facts_candidates::Choice;
-use facts_find::FREE;
 use limits::{CARRIED, NONE};
-use model::{Action, Clause, Model, Place, Stage};
+use model::{Action, Model, Place, Stage};
 use replay_session::Position;
 
 // Why a place of a run is not allowed: the run ended with a stage left; all stages are met; the line is no `new` or `next` line; the object is not the next one; it is not there; another stage is next; the stage has another number of variables; a carried variable stands for another object; or the literal at a place of the body is to blame.
@@ -34,75 +32,43 @@ pub enum Reason {
     Literal { index: usize },
 }
 
-// Why a step of a clause, a `new` line, is not allowed.
-// The view and the states stay in the clauses alone: the code reads some parts of them. What is lent stays apart: it is handed on to `blame`, which takes it apart, and a struct would be made for one place and be taken apart again.
-fn why_new(m: &Model, slots: &[u8], work: &[u8], at: Position, c: Clause, object: u32) -> Reason
-    requires { (v : View) × (states : List ℕ) × Stepping m.now v (session_in states at) slots.now work.now c }
-    ensures { (v : View) (states : List ℕ) (set : ℕ) → Stepping m.now v (session_in states at) slots.now work.now c → c.action ≡ New set → Explains m.now (session_in states at) (step c.line object) result }
-{
-    let n = at.objects;
-    if object as usize != n {
-        return Reason::NotNext;
-    }
-    let fixed = Choice {
-        first: FREE,
-        second: FREE,
-        third: FREE,
-    };
-    let index = reasons_bodies::blame(
-        &m.literals,
-        slots,
-        work,
-        n,
-        c.first,
-        c.count,
-        c.variables,
-        fixed,
-    );
-    Reason::Literal { index }
-}
-
-// Why a step of a clause, a `next` line, is not allowed.
-fn why_next(m: &Model, slots: &[u8], work: &[u8], at: Position, c: Clause, object: u32) -> Reason
-    requires { ((v : View) × (states : List ℕ) × Stepping m.now v (session_in states at) slots.now work.now c) × (object < limit.objects) }
-    ensures { (v : View) (states : List ℕ) (plus minus : ℕ) → Stepping m.now v (session_in states at) slots.now work.now c → c.action ≡ Next plus minus → Explains m.now (session_in states at) (step c.line object) result }
-{
-    let o = object as usize;
-    let n = at.objects;
-    if o >= n {
-        return Reason::NoObject;
-    }
-    let fixed = Choice {
-        first: o,
-        second: FREE,
-        third: FREE,
-    };
-    let index = reasons_bodies::blame(
-        &m.literals,
-        slots,
-        work,
-        n,
-        c.first,
-        c.count,
-        c.variables,
-        fixed,
-    );
-    Reason::Literal { index }
-}
-
 // Why a step of a line and an object is not allowed.
-// What is lent stays apart: the slots are a part of the view, the table is one of the stock of facts, and a struct would be made for one place.
+// The view and the states stay in the clauses alone: the code reads some parts of them. What is lent stays apart: the slots are a part of the view, the table is one of the stock of facts, and a struct would be made for one place and be taken apart by `blame` again.
 fn why_step(m: &Model, slots: &[u8], work: &[u8], at: Position, line: u32, object: u32) -> Reason
     requires { ((v : View) × (states : List ℕ) × Open m.now v (session_in states at) slots.now work.now (step line object)) × (object < limit.objects) }
     ensures { (v : View) (states : List ℕ) → Open m.now v (session_in states at) slots.now work.now (step line object) → Explains m.now (session_in states at) (step line object) result }
 {
+    let n = at.objects;
     let Some(c) = replay_steps::clause_on(m, line) else {
         return Reason::NoLine;
     };
-    match c.action {
-        Action::Rule { .. } => Reason::NoLine,
-        Action::New { .. } => why_new(m, slots, work, at, c, object),
-        Action::Next { .. } => why_next(m, slots, work, at, c, object),
+    let Some(fixed) = replay_steps::fixed(c.action, n, object) else {
+        return match c.action {
+            Action::Rule { .. } => Reason::NoLine,
+            Action::New { .. } => Reason::NotNext,
+            Action::Next { .. } => Reason::NoObject,
+        };
+    };
+    let index = reasons_bodies::blame(
+        &m.literals,
+        slots,
+        work,
+        n,
+        c.first,
+        c.count,
+        c.variables,
+        fixed,
+    );
+    Reason::Literal { index }
+}
+
+// Is an object not there, in a database of so many, or is there none?
+fn absent(object: Option<usize>, objects: usize) -> bool
+    ensures { Says (Absent object objects) result }
+{
+    match object {
+        Some(e) => e >= objects,
+        None => true,
     }
 }
 
@@ -110,12 +76,7 @@ fn why_step(m: &Model, slots: &[u8], work: &[u8], at: Position, line: u32, objec
 fn beyond(c: Choice, n: usize, objects: usize) -> bool
     ensures { Says (Beyond c n objects) result }
 {
-    for x in 0..n {
-        if facts_candidates::element(c, x) >= objects {
-            return true;
-        }
-    }
-    false
+    (0..n).any(|x| absent(facts_candidates::element(c, x), objects))
 }
 
 // Does a choice have another object than the carried one for the stage's variable of a number?
@@ -127,12 +88,9 @@ fn swapped(g: Stage, number: u32, carried: u32, c: Choice) -> bool
     if carried == NONE {
         return false;
     }
-    for x in 0..g.variables as usize {
-        if g.numbers[x] == number && facts_candidates::element(c, x) != carried as usize {
-            return true;
-        }
-    }
-    false
+    let n = g.variables as usize;
+    (0..n).any(|x| g.numbers[x] == number
+        && facts_candidates::element(c, x) != Some(carried as usize))
 }
 
 // Does a choice have another object than the carried one for some of the carried variables of these numbers?
@@ -140,15 +98,14 @@ fn any_swapped(numbers: [u32; CARRIED], g: Stage, carried: [u32; CARRIED], c: Ch
     requires { g.variables ≤ limit.variables }
     ensures { Says (AnySwapped numbers g carried c) result }
 {
-    for v in 0..CARRIED {
-        if swapped(g, numbers[v], carried[v], c) {
-            return true;
-        }
-    }
-    false
+    numbers
+        .iter()
+        .zip(&carried)
+        .any(|(number, held)| swapped(g, *number, *held, c))
 }
 
 // Why the meeting of a stage with objects, the named ones first, is not allowed.
+// The tests of the stage and of the number of objects stay beside those of `replay_meetings::meet_place`: each has a reason of its own here and none there, so that one function for both would answer an enum of cases for two tests.
 fn why_meeting(
     m: &Model,
     slots: &[u8],
@@ -170,11 +127,7 @@ fn why_meeting(
     if replay_meetings::count(first, second, third) != g.variables {
         return Reason::Variables;
     }
-    let fixed = Choice {
-        first: first as usize,
-        second: second as usize,
-        third: third as usize,
-    };
+    let fixed = replay_meetings::choice(first, second, third);
     let n = at.objects;
     if beyond(fixed, g.variables as usize, n) {
         return Reason::NoObject;

@@ -1,5 +1,5 @@
 -- WHAT THE REPLAY ANSWERS to a text: "after every answer that is no refusal, a single place's included, the first" 65,536 "work bytes are zero and the rest untouched".
-use Rattle.std.specs.Prelude.{◌≡◌, Bool, List, [], ℕ, eqb, ltb, length, Result}
+use Rattle.std.specs.Prelude.{◌≡◌, Bool, List, [], ℕ, ◌==◌, nat_lt, length, Result}
 use Rattle.limits.specs.Limits as limit
 use Rattle.semantics.specs.Runs.{start}
 use Rattle.grammar.specs.Declarations.{count}
@@ -17,11 +17,11 @@ use Rattle.replay_runs.specs.Replies.{PlaceReply}
 
 -- row 12, "work area under" 65,536 "bytes"
 abbrev pub narrow : List ℕ → Bool
-narrow work = ltb (length work) limit.work
+narrow work = nat_lt (length work) limit.work
 
 -- A WHOLE RUN: row 12 of the work area and of the table that is lent for writing; row 14, "a replay of a run over" 9,344 "places"
 abbrev pub run_outcome : List ℕ → List ℕ → List ℕ → List ℕ → Outcome
-run_outcome text run work table = called text (short (length work) (length table)) (ltb limit.run (length run))
+run_outcome text run work table = called text (short (length work) (length table)) (nat_lt limit.run (length run))
 
 -- the answer, and the work area and the table after it
 abbrev pub Replayed : Outcome → List ℕ → List ℕ → List ℕ → Result Answer Refusal → List ℕ → List ℕ → Type 0
@@ -30,7 +30,7 @@ Replayed (accepted D P Q) run work table a work' table' = Gives (Replays P Q (st
 
 -- ONE PLACE: row 14, "a place put to a lent state that has kept" 9,344
 abbrev pub place_outcome : List ℕ → Session → List ℕ → Outcome
-place_outcome text s work = called text (narrow work) (eqb s.kept limit.run)
+place_outcome text s work = called text (narrow work) (s.kept == limit.run)
 
 -- the answer, the state after the place, and the work area after it; "refusals leave it"
 abbrev pub Put : Outcome → Session → ℕ → List ℕ → Result PlaceAnswer Refusal → Session → List ℕ → Type 0

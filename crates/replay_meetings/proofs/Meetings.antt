@@ -9,12 +9,13 @@ use native.Mathlib.Omega.{arith}
 use borrow.Author.Tests.{eq-eqb, ne_eqb}
 use lib.ListN.{length, take, get_or}
 use lib.Seq.{drop-cons}
+use Rattle.std.proofs.lemmas.Bool.{cases_Bool}
 use Rattle.limits.specs.Limits as limit
 use Rattle.semantics.specs.Models.{elem, Body, vars, supported, names, carriers, Supported}
 use Rattle.semantics.specs.Facts.{Derived, Meets}
 use Rattle.semantics.specs.Runs as runs
 use Rattle.semantics.specs.Runs.{meet, pick, named, Allowed}
-use Rattle.semantics.proofs.Tools.{either, clash}
+use Rattle.semantics.proofs.Tools.{clash}
 use Rattle.semantics.proofs.Bodies.{holds_agree, supported-vars}
 use Rattle.model.specs.declared.Model.{Model}
 use Rattle.model.specs.declared.Stage.{Stage}
@@ -25,19 +26,17 @@ use Rattle.model.proofs.Carried.{carried-cells}
 use Rattle.model.proofs.Renaming.{elem-map, elem-of-map, vars-renamed, supported-renamed, meets-renamed, named-renamed}
 use Rattle.model.proofs.Accepted.{stages, stage-here, stage-vars, stage-different, stage-count}
 use Rattle.facts_candidates.specs.declared.Choice.{Choice}
-use Rattle.facts_candidates.specs.Choices.{chosen}
+use Rattle.facts_candidates.specs.Choices.{element_of, chosen}
+use Rattle.facts_candidates.proofs.Choosing.{some-there}
+use Rattle.std.specs.Prelude.{Option, unwrap_or}
 use Rattle.replay_session.specs.declared.Session.{Session}
 use Rattle.replay_session.specs.Sessions.{carried_in, carried_by, met}
 use Rattle.replay_session.specs.Records.{session_of}
 use Rattle.replay_session.proofs.Carrying.{stands-cell, cell-stands, carried-left}
 use Rattle.replay_view.specs.declared.View.{View}
 use Rattle.replay_steps.specs.Tries.{Ready, Open, Holding, Taken, Barred}
-use Rattle.replay_meetings.specs.Carried.{Named, carried_on, AllNamed, AllAgree, AllCarried}
-use Rattle.replay_meetings.proofs.Objects.{pick-place, choice, objects-chosen}
-
--- the objects named for the carried variables
-pub named_small : (g : Stage) (v : ℕ) (c : Choice) (r : ℕ) → ((x : ℕ) → chosen c x < 256) → Named g v c r → r < 256
-named_small g v c r h = ⊎_elim (λ f. rw f.3 (h f.0)) (λ f. rw f.1 (omega arith))
+use Rattle.replay_meetings.specs.Carried.{choice_of, Named, carried_on, AllNamed, AllAgree, AllCarried}
+use Rattle.replay_meetings.proofs.Objects.{pick-place, objects-chosen}
 
 -- the carried variable of a cell
 pub carried-in : (m : Model) → WellFormed m → (v : ℕ) → v < limit.carried → get_or m.carried v 0 ≡ carried_at m v
@@ -106,22 +105,22 @@ module _ (m : Model) (s : Session) (v : View) (w : List ℕ) (ready : Ready m s 
 
   module _ (i : ℕ) (next : i ≡ suc s.met) (count : length os ≡ g.variables) where
     -- the object of the stage's variable x
-    object : (x : ℕ) → x < g.variables → named stage os (number_in g x) ≡ chosen (choice a b c) x
+    object : (x : ℕ) → x < g.variables → named stage os (number_in g x) ≡ chosen (choice_of a b c) x
     object x l =
         named-renamed (number_in g) local (stage-different m ready.accepted s.met left) os x ((stage-vars m ready.accepted s.met left x).1 l)
         ∙ ap (λ (ns : List ℕ). pick ns os 0 x) (ready.accepted.stage s.met left).numbered
         ∙ pick-place 0 g.variables os x x (omega arith) l count
         ∙ (objects-chosen a b c x (omega arith)).0
 
-    object-named : (x : ℕ) → x < g.variables → chosen (choice a b c) x ≢ 255
+    object-named : (x : ℕ) → x < g.variables → chosen (choice_of a b c) x ≢ 255
     object-named x l = (objects-chosen a b c x (omega arith)).1
 
     -- THE STAGE HOLDS for the objects named exactly if its body in the literal row does
     abbrev Held : (ℕ → ℕ) → Type 0
-    Held = Holding m s local g.variables (choice a b c)
+    Held = Holding m s local g.variables (choice_of a b c)
 
     to_held : Meets (program_of m) (take s.objects s.states) (named stage os) stage → Held (λ x. named stage os (number_in g x))
-    to_held h = ((meets-renamed (number_in g) (program_of m) (take s.objects s.states) (named stage os) local).0 h, λ x l n. object x l)
+    to_held h = ((meets-renamed (number_in g) (program_of m) (take s.objects s.states) (named stage os) local).0 h, λ x l e q. object x l ∙ ap (λ (o : Option ℕ). unwrap_or o 255) q)
 
     from-held : (σ : ℕ → ℕ) → Held σ → Meets (program_of m) (take s.objects s.states) (named stage os) stage
     from-held σ h =
@@ -129,20 +128,20 @@ module _ (m : Model) (s : Session) (v : View) (w : List ℕ) (ready : Ready m s 
         (holds_agree (take s.objects s.states) (Derived (program_of m) (take s.objects s.states)) σ (λ x. named stage os (number_in g x)) local agree h.0)
       where
         agree : (x : ℕ) → elem x (vars local) ≡ true → σ x ≡ named stage os (number_in g x)
-        agree x e = let l = (stage-vars m ready.accepted s.met left x).0 e in h.1 x l (object-named x l) ∙ sym (object x l)
+        agree x e = let l = (stage-vars m ready.accepted s.met left x).0 e in h.1 x l (chosen (choice_of a b c) x) (some-there (element_of (choice_of a b c) x) (object-named x l)) ∙ sym (object x l)
 
     pub not-held : ((σ : ℕ → ℕ) → Held σ → ⊥) → Barred m s (meet i os)
     not-held n = λ h. n (λ x. named stage os (number_in g x)) (to_held (to-meeting i h).3)
 
     -- THE CARRIED VARIABLES
-    module _ (held : List ℕ) (found : (v : ℕ) → v < limit.carried → Named g (carried_at m v) (choice a b c) (get_or held v 0)) where
+    module _ (held : List ℕ) (found : (v : ℕ) → v < limit.carried → Named g (carried_at m v) (choice_of a b c) (get_or held v 0)) where
       -- the stage has the variable of a cell, whose object is held; or it has not, and 255 is
       abbrev Has : ℕ → Type 0
       Has v = ((elem (carried_at m v) (vars stage) ≡ true) × (named stage os (carried_at m v) ≡ get_or held v 0) × (get_or held v 0 ≢ 255)) ⊎ ((elem (carried_at m v) (vars stage) ≡ false) × (get_or held v 0 ≡ 255))
 
       has : (v : ℕ) → v < limit.carried → Has v
       has v h = ⊎_elim
-          (λ (f : (x : ℕ) × (x < g.variables) × (number_in g x ≡ carried_at m v) × (get_or held v 0 ≡ chosen (choice a b c) x)).
+          (λ (f : (x : ℕ) × (x < g.variables) × (number_in g x ≡ carried_at m v) × (get_or held v 0 ≡ chosen (choice_of a b c) x)).
           inl (
             subst (λ (y : ℕ). elem y (vars stage) ≡ true) f.2 (rw (vars-renamed (number_in g) local) (elem-map (number_in g) f.0 (vars local) ((stage-vars m ready.accepted s.met left f.0).1 f.1))),
             ap (named stage os) (sym f.2) ∙ object f.0 f.1 ∙ sym f.3,
@@ -153,7 +152,7 @@ module _ (m : Model) (s : Session) (v : View) (w : List ℕ) (ready : Ready m s 
                 (λ e. let y = elem-of-map (number_in g) (carried_at m v) (vars local) (rw (vars-renamed (number_in g) local) at e) in
                 absurd (f.0 y.0 ((stage-vars m ready.accepted s.met left y.0).0 y.1) (sym y.2)))
                 (λ e. e)
-                (either (elem (carried_at m v) (vars stage))),
+                (cases_Bool (elem (carried_at m v) (vars stage))),
             f.1,
           ))
           (found v h)

@@ -1,10 +1,17 @@
 -- THE CARRIED VARIABLES at a meeting, each by itself: "a carried object .. is the one that a meeting must name, and where it has none the next meeting with the carried variable sets it".
-use Rattle.std.specs.Prelude.{◌≡◌, ◌⊎◌, ◌≢◌, cond, List, ℕ, ◌<◌, eqb, length, get_or}
+use Rattle.std.specs.Prelude.{Option, Some, None, ◌≡◌, ◌⊎◌, ◌≢◌, if◌then◌else◌, List, ℕ, ◌<◌, ◌==◌, length, slice_index}
 use Rattle.limits.specs.Limits as limit
 use Rattle.model.specs.declared.Stage.{Stage}
 use Rattle.model.specs.Records.{number_in}
 use Rattle.facts_candidates.specs.declared.Choice.{Choice}
 use Rattle.facts_candidates.specs.Choices.{chosen}
+
+-- the object of a number, where 255 stands for none; and the choice of those of a meeting
+abbrev pub object_of : ℕ → Option ℕ
+object_of n = if n == limit.none then None else Some n
+
+abbrev pub choice_of : ℕ → ℕ → ℕ → Choice
+choice_of a b c = record { first = object_of a; second = object_of b; third = object_of c }
 
 -- r is the object that the choice has for the stage's variable of number v, or 255 where the stage has no such variable
 abbrev pub Named : Stage → ℕ → Choice → ℕ → Type 0
@@ -16,16 +23,16 @@ Agrees c o = (c ≢ limit.none) → (o ≢ limit.none) → o ≡ c
 
 -- the carried object afterwards
 abbrev pub carried_on : ℕ → ℕ → ℕ
-carried_on c o = cond (eqb o limit.none) c o
+carried_on c o = if o == limit.none then c else o
 
 -- os are the objects that the choice has for the carried variables, whose numbers are ns
 abbrev pub AllNamed : List ℕ → Stage → Choice → List ℕ → Type 0
-AllNamed ns g c os = (v : ℕ) → v < limit.carried → Named g (get_or ns v 0) c (get_or os v 0)
+AllNamed ns g c os = (v : ℕ) → v < limit.carried → Named g (slice_index ns v) c (slice_index os v)
 
 -- each of the objects os may be met where those of cs are carried
 abbrev pub AllAgree : List ℕ → List ℕ → Type 0
-AllAgree cs os = (v : ℕ) → v < limit.carried → Agrees (get_or cs v 0) (get_or os v 0)
+AllAgree cs os = (v : ℕ) → v < limit.carried → Agrees (slice_index cs v) (slice_index os v)
 
 -- left are the carried objects afterwards
 abbrev pub AllCarried : List ℕ → List ℕ → List ℕ → Type 0
-AllCarried cs os left = (length left ≡ limit.carried) × ((v : ℕ) → v < limit.carried → get_or left v 0 ≡ carried_on (get_or cs v 0) (get_or os v 0))
+AllCarried cs os left = (length left ≡ limit.carried) × ((v : ℕ) → v < limit.carried → slice_index left v ≡ carried_on (slice_index cs v) (slice_index os v))

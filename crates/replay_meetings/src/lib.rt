@@ -10,7 +10,7 @@ ghost use Rattle.facts_candidates.specs.Choices.{chosen};
 ghost use Rattle.replay_session.specs.Sessions.{Says, session_in};
 ghost use Rattle.replay_view.specs.declared.View.{View};
 ghost use Rattle.replay_steps.specs.Tries.{Rests, Open, Gives, TriedBy};
-ghost use Rattle.replay_meetings.specs.Carried.{Named, Agrees, carried_on, AllNamed, AllAgree, AllCarried};
+ghost use Rattle.replay_meetings.specs.Carried.{object_of, choice_of, Named, Agrees, carried_on, AllNamed, AllAgree, AllCarried};
 
 use facts_bits::BYTES;
 use facts_candidates::Choice;
@@ -20,6 +20,7 @@ use replay_session::Position;
 use replay_steps::Outcome;
 
 // How many objects a meeting names.
+// The three numbers stay apart, here and below: they are parts of a place's number, which the place's case has taken apart.
 pub fn count(first: u32, second: u32, third: u32) -> u32
     ensures { result ≡ length (objects (first ∷ second ∷ third ∷ [])) }
 {
@@ -31,19 +32,40 @@ pub fn count(first: u32, second: u32, third: u32) -> u32
     }
 }
 
+// The object of a number, which is NONE for none.
+// NONE stays for none in numbers: they are words of the run table that C lends.
+fn as_object(number: u32) -> Option<usize>
+    ensures { result ≡ object_of number }
+{
+    if number == NONE {
+        None
+    } else {
+        Some(number as usize)
+    }
+}
+
+// The choice of a meeting's objects.
+pub fn choice(first: u32, second: u32, third: u32) -> Choice
+    ensures { result ≡ choice_of first second third }
+{
+    Choice {
+        first: as_object(first),
+        second: as_object(second),
+        third: as_object(third),
+    }
+}
+
 // The object that a choice has for the stage's variable of a number, or NONE.
 // NONE stays for none: the carried objects are words of the state that C lends, with which the answer is compared.
-fn named(g: Stage, number: u32, c: Choice) -> usize
-    requires { g.variables ≤ limit.variables }
+fn named(g: Stage, number: u32, c: Choice) -> u32
+    requires { (g.variables ≤ limit.variables) × ((x : ℕ) → chosen c x < 256) }
     ensures { Named g number c result }
 {
     let n = g.variables as usize;
-    for x in 0..n {
-        if g.numbers[x] == number {
-            return facts_candidates::element(c, x);
-        }
-    }
-    NONE as usize
+    let Some(x) = g.numbers[..n].iter().position(|own| *own == number) else {
+        return NONE;
+    };
+    facts_candidates::object(n, x, c)
 }
 
 // Whether an object may be met where another, or none, is carried.
@@ -69,7 +91,7 @@ fn all_named(numbers: [u32; CARRIED], g: Stage, c: Choice) -> [u32; CARRIED]
 {
     let first = named(g, numbers[0], c);
     let second = named(g, numbers[1], c);
-    [first as u32, second as u32]
+    [first, second]
 }
 
 // Whether the objects may be met where these, or none, are carried.
@@ -124,11 +146,7 @@ pub fn meet_place(
     if count(first, second, third) != g.variables {
         return None;
     }
-    let fixed = Choice {
-        first: first as usize,
-        second: second as usize,
-        third: third as usize,
-    };
+    let fixed = choice(first, second, third);
     let carried = at.carried;
     let objects = all_named(m.carried, g, fixed);
     if !all_agree(carried, objects) {

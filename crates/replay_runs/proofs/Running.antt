@@ -37,7 +37,7 @@ use Rattle.replay_session.proofs.Effects.{taken-after, taken-fits}
 use Rattle.replay_view.specs.declared.View.{View}
 use Rattle.replay_view.specs.Views.{row_of, Views, Arranged, Known}
 use Rattle.replay_steps.specs.Tries.{Rests, Sees, Lent, TakenAt, BarredAt}
-use Rattle.replay_places.proofs.Looking.{fits-small}
+use Rattle.replay_places.proofs.Looking.{taken-small}
 use Rattle.replay_runs.specs.Replies.{fresh}
 use Rattle.replay_runs.specs.Endings.{Leads, Stopped}
 
@@ -193,5 +193,5 @@ running-lent m wf run i s r l slots w v need n sees rests q =
 pub few-objects : (m : Model) (run : List ℕ) (i : ℕ) (s : Session) → Running m run i s → s.objects ≤ length s.states
 few-objects m run i s r = let a = r.fits.objects in let b = r.long in omega arith
 
-pub small-states : (m : Model) → WellFormed m → (run : List ℕ) (i : ℕ) (s : Session) → Running m run i s → (o : ℕ) → o < s.objects → get_or s.states o 0 < limit.sets
-small-states m w run i s r = fits-small m s w r.fits
+pub small-states : (m : Model) → WellFormed m → (run : List ℕ) (i : ℕ) (s : Session) → Running m run i s → (o : ℕ) → o < length (take s.objects s.states) → get_or (take s.objects s.states) o 0 < limit.sets
+small-states m w run i s r = taken-small m s w r.fits (few-objects m run i s r)

@@ -10,10 +10,11 @@ use native.Mathlib.Nat.{suc_inj}
 use borrow.Author.Tests.{eqb-true, eq-eqb, ne_eqb}
 use lib.Dec.{eqb}
 use lib.ListN.{length, get_or, replicate}
+use Rattle.std.proofs.lemmas.Bool.{cases_Bool}
 use Rattle.limits.specs.Limits as limit
 use Rattle.semantics.specs.Models.{elem, Body, Question, vars, shared, carriers}
 use Rattle.semantics.specs.Runs.{named}
-use Rattle.semantics.proofs.Tools.{either, same?, no_none}
+use Rattle.semantics.proofs.Tools.{same?, no_none}
 use Rattle.semantics.proofs.Carriers.{carriers-elem, carriers-shared}
 use Rattle.model.specs.declared.Model.{Model}
 use Rattle.model.specs.Records.{question_of, padded, carried_at}
@@ -43,7 +44,7 @@ empty-cell (suc n) (suc v) = empty-cell n v
 pub nobody-carried : (cs : List ℕ) (n x : ℕ) → carried_for cs (replicate n limit.none) x ≡ none
 nobody-carried [] n x = refl
 nobody-carried (c ∷ cs) zero x = refl
-nobody-carried (c ∷ cs) (suc n) x = ⊎_elim (λ (q : eqb x c ≡ true). rw q) (λ (q : eqb x c ≡ false). rw q (nobody-carried cs n x)) (either (eqb x c))
+nobody-carried (c ∷ cs) (suc n) x = ⊎_elim (λ (q : eqb x c ≡ true). rw q) (λ (q : eqb x c ≡ false). rw q (nobody-carried cs n x)) (cases_Bool (eqb x c))
 
 -- WHO STANDS FOR A VARIABLE is in its cell
 for-cell : (n : ℕ) (cs held : List ℕ) (x d : ℕ) → length cs ≤ n → carried_for cs held x ≡ some d → (v : ℕ) × (v < n) × (get_or (padded n cs) v limit.none ≡ x) × (get_or held v 0 ≡ d) × (d ≢ limit.none)
@@ -53,7 +54,7 @@ for-cell zero (c ∷ cs) (h ∷ hs) x d l e = absurd (omega arith)
 for-cell (suc n) (c ∷ cs) (h ∷ hs) x d l e = ⊎_elim
     (λ (q : eqb x c ≡ true). let r = optional-some h d (rw q at e) in (0, omega arith, sym (eqb-true x c q), r.0, r.1))
     (λ (q : eqb x c ≡ false). let r = for-cell n cs hs x d (omega arith) (rw q at e) in (suc r.0, omega (arith, r.1), r.2, r.3, r.4))
-    (either (eqb x c))
+    (cases_Bool (eqb x c))
 
 -- and what is in the only cell of a variable stands for it
 cell-for : (n : ℕ) (cs held : List ℕ) (x v : ℕ) → length cs ≤ length held → get_or (padded n cs) v limit.none ≡ x → x ≢ limit.none → ((w : ℕ) → get_or (padded n cs) w limit.none ≡ x → w ≡ v) → get_or held v 0 ≢ limit.none
@@ -75,7 +76,7 @@ cells_stay (c ∷ cs) b os (h ∷ hs) = ap suc (cells_stay cs b os hs)
 pub cell-after : (cs : List ℕ) (b : Body) (os held : List ℕ) (v : ℕ) → (get_or (carried_by cs b os held) v 0 ≡ get_or held v 0) ⊎ ((c : ℕ) × (elem c (vars b) ≡ true) × (get_or (carried_by cs b os held) v 0 ≡ named b os c))
 cell-after [] b os held v = inl refl
 cell-after (c ∷ cs) b os [] v = inl refl
-cell-after (c ∷ cs) b os (h ∷ hs) zero = ⊎_elim (λ (q : elem c (vars b) ≡ true). inr (c, q, rw q)) (λ (q : elem c (vars b) ≡ false). inl (rw q)) (either (elem c (vars b)))
+cell-after (c ∷ cs) b os (h ∷ hs) zero = ⊎_elim (λ (q : elem c (vars b) ≡ true). inr (c, q, rw q)) (λ (q : elem c (vars b) ≡ false). inl (rw q)) (cases_Bool (elem c (vars b)))
 cell-after (c ∷ cs) b os (h ∷ hs) (suc v) = cell-after cs b os hs v
 
 -- and so stands for each variable who stood for it or is named for it
@@ -83,13 +84,13 @@ for_after : (cs : List ℕ) (b : Body) (os held : List ℕ) (x : ℕ) → length
     → carried_for cs (carried_by cs b os held) x ≡ cond (elem x cs && elem x (vars b)) (some (named b os x)) (carried_for cs held x)
 for_after [] b os held x l there = refl
 for_after (c ∷ cs) b os [] x l there = absurd (omega arith)
-for_after (c ∷ cs) b os (h ∷ hs) x l there = ⊎_elim own (λ (q : eqb x c ≡ false). rw q (for_after cs b os hs x (omega arith) there)) (either (eqb x c))
+for_after (c ∷ cs) b os (h ∷ hs) x l there = ⊎_elim own (λ (q : eqb x c ≡ false). rw q (for_after cs b os hs x (omega arith) there)) (cases_Bool (eqb x c))
   where
     Same : ℕ → Type 0
     Same y = optional (cond (elem c (vars b)) (named b os c) h) ≡ cond (elem y (vars b)) (some (named b os y)) (optional h)
 
     at : Same c
-    at = ⊎_elim (λ (q : elem c (vars b) ≡ true). rw q (some-optional (named b os c) (there c q))) (λ (q : elem c (vars b) ≡ false). rw q) (either (elem c (vars b)))
+    at = ⊎_elim (λ (q : elem c (vars b) ≡ true). rw q (some-optional (named b os c) (there c q))) (λ (q : elem c (vars b) ≡ false). rw q) (cases_Bool (elem c (vars b)))
 
     own : eqb x c ≡ true → carried_for (c ∷ cs) (carried_by (c ∷ cs) b os (h ∷ hs)) x ≡ cond (elem x (c ∷ cs) && elem x (vars b)) (some (named b os x)) (carried_for (c ∷ cs) (h ∷ hs) x)
     own q = rw q (subst Same (sym (eqb-true x c q)) at)
@@ -112,8 +113,8 @@ by-cells (suc n) (c ∷ cs) b os (h ∷ hs) (k ∷ ks) l e f absent each =
 carrier : (Q : Question) (x : ℕ) → elem x (carriers Q) ≡ shared Q x
 carrier Q x = ⊎_elim
     (λ (q : shared Q x ≡ true). carriers-elem Q x q ∙ sym q)
-    (λ (q : shared Q x ≡ false). ⊎_elim (λ r. r ∙ sym (carriers-shared Q x r)) (λ r. r ∙ sym q) (either (elem x (carriers Q))))
-    (either (shared Q x))
+    (λ (q : shared Q x ≡ false). ⊎_elim (λ r. r ∙ sym (carriers-shared Q x r)) (λ r. r ∙ sym q) (cases_Bool (elem x (carriers Q))))
+    (cases_Bool (shared Q x))
 
 -- OVER THE RECORD of a text
 module _ (m : Model) (w : WellFormed m) where
@@ -122,7 +123,7 @@ module _ (m : Model) (w : WellFormed m) where
 
   -- 255 is no variable of a stage
   none-absent : (i : ℕ) → elem limit.none (vars (get_or (question_of m) i [])) ≡ false
-  none-absent i = ⊎_elim (λ q. absurd (let l = stands-below m w i limit.none q in omega arith)) (λ q. q) (either (elem limit.none (vars (get_or (question_of m) i []))))
+  none-absent i = ⊎_elim (λ q. absurd (let l = stands-below m w i limit.none q in omega arith)) (λ q. q) (cases_Bool (elem limit.none (vars (get_or (question_of m) i []))))
 
   module _ (s : Session) (cells : length s.carried ≡ limit.carried) where
     pub stands-cell : (x d : ℕ) → (session_of m s).carried x ≡ some d → (v : ℕ) × (v < limit.carried) × (carried_at m v ≡ x) × (carried_in s v ≡ d) × (d ≢ limit.none)

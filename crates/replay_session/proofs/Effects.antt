@@ -8,6 +8,7 @@ use native.Mathlib.Omega.{arith}
 use native.Mathlib.Numerals.{add-one}
 use lib.ListN.{length, take, set, get_or}
 use lib.Seq.{length-take-le, take-suc-set, take-set-lt, get_or-take, get_or-set_same, get_or-set_other}
+use Rattle.std.proofs.lemmas.Bool.{or_cases}
 use Rattle.limits.specs.Limits as limit
 use Rattle.semantics.specs.Labels.{has, relabel}
 use Rattle.semantics.specs.Models.{elem, Body, Line, rule, new, next, other, line, vars, carriers}
@@ -15,7 +16,7 @@ use Rattle.semantics.specs.Facts.{Database, state}
 use Rattle.semantics.specs.Steps.{Enabled, execute}
 use Rattle.semantics.specs.Runs as runs
 use Rattle.semantics.specs.Runs.{step, meet, named, Allowed, after}
-use Rattle.semantics.proofs.Tools.{same?, or-true-cases}
+use Rattle.semantics.proofs.Tools.{same?}
 use Rattle.semantics.proofs.Sets.{has-relabel}
 use Rattle.model.specs.declared.Action.{Action}
 use Rattle.model.specs.declared.Action.TheVariants.{Rule, New, Next}
@@ -49,7 +50,7 @@ sets m w ℓ = every-line m (Sets (declared_in m 0)) tt (λ i h. go (clause_at m
 among-relabel : (n s plus minus : ℕ) → Among n s → Among n plus → Among n (relabel s plus minus)
 among-relabel n s plus minus f g a e =
     let h = (and-eq-true_iff (has s a || has plus a) (not (has minus a))).0 (sym (has-relabel s plus minus a) ∙ e) in
-    ⊎_elim (f a) (g a) (or-true-cases (has s a) (has plus a) h.0)
+    ⊎_elim (f a) (g a) (or_cases (has s a) (has plus a) h.0)
 
 module _ (m : Model) (w : WellFormed m) (s : Session) (long : length s.states ≡ 255) (f : Fits m s) where
   abbrev db : Database

@@ -10,13 +10,14 @@ use native.Mathlib.Nat.{not-suc-le-zero}
 use lib.Dec.{eqb}
 use lib.ListN.{length, take, drop, get_or}
 use borrow.Author.Tests.{eqb-true}
+use Rattle.std.proofs.lemmas.Bool.{or_cases}
 use Rattle.limits.specs.Limits as limit
 use Rattle.semantics.specs.Models.{elem, Line, rule, new, next, other, Program, line, Question, vars}
 use Rattle.semantics.specs.Facts.{Database}
 use Rattle.semantics.specs.Runs.{Place, step, meet, Session, Allowed, after}
 use Rattle.semantics.specs.Building.{Leads}
 use Rattle.semantics.specs.StandingBy.{line_names, EnabledBy}
-use Rattle.semantics.proofs.Tools.{or-true-cases, or_right, elem-here, firsts-among}
+use Rattle.semantics.proofs.Tools.{or_right, elem-here, firsts-among}
 use Rattle.semantics.proofs.StandingBy.{one-stood-by}
 use Rattle.model.specs.Places.{place_of}
 use Rattle.replay_session.specs.Replays.{Decodes}
@@ -39,7 +40,7 @@ objects-there P db o (new t b) σ g x e = g.1.0 x (firsts-among x [] (vars b) e)
 objects-there P db o (next y plus minus b) σ g x e = ⊎_elim
     (λ q. rw (eqb-true x y q) (omega (arith, g.0, g.1)))
     (λ q. g.2.0 x q)
-    (or-true-cases (eqb x y) (elem x (vars b)) (firsts-among x [] (y ∷ vars b) e))
+    (or_cases (eqb x y) (elem x (vars b)) (firsts-among x [] (y ∷ vars b) e))
 objects-there P db o other σ g x e = absurd g
 
 pub standing-small : (P : Program) (s : Session) (p : Place) (k : ℕ) → length s.db ≤ limit.objects → Stands P s p k → k < 16777216

@@ -10,13 +10,14 @@ use native.Mathlib.Nat.{div-div-eq-div-mul, div-lt_iff_lt-mul}
 use lib.Pow.{pow_pos, pow-add}
 use lib.Dec.{eqb}
 use lib.ListN.{length, get_or}
+use Rattle.std.proofs.lemmas.Bool.{cases_Bool}
 use Rattle.std.proofs.Common.{count_by, nat_lt, rules}
 use Rattle.std.proofs.lemmas.List.Recursion.{is_count_by}
 use Rattle.std.proofs.lemmas.Bool.Decides.{nat_tests}
 use Rattle.std.specs.Bool.{MatchBool}
 use Rattle.std.specs.List.{HoldsAt, AllWithin}
 use Rattle.semantics.specs.Labels.{has}
-use Rattle.semantics.proofs.Tools.{either, clash, has-empty}
+use Rattle.semantics.proofs.Tools.{clash, has-empty}
 use Rattle.semantics.proofs.Sets.{has-beyond, has-ext}
 use Rattle.model.specs.WellFormed.{class_of, in_class}
 use Rattle.replay_session.specs.Sessions.{Says}
@@ -39,7 +40,7 @@ unfolding has
 has-shift s n a = rw (div-div-eq-div-mul, ← pow-add)
 
 pub among-shifted : (n s : ℕ) → Among n s → s / 2 ^ n ≡ 0
-among-shifted n s h = has-ext (s / 2 ^ n) 0 (λ a. has-shift s n a ∙ ⊎_elim (λ e. absurd (let l = h (n + a) e in omega arith)) (λ e. e) (either (has s (n + a))) ∙ sym (has-empty a))
+among-shifted n s h = has-ext (s / 2 ^ n) 0 (λ a. has-shift s n a ∙ ⊎_elim (λ e. absurd (let l = h (n + a) e in omega arith)) (λ e. e) (cases_Bool (has s (n + a))) ∙ sym (has-empty a))
 
 pub among-small : (n s : ℕ) → Among n s → s < 2 ^ n
 among-small n s h = shifted-below n s (among-shifted n s h)

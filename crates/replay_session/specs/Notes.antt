@@ -1,5 +1,5 @@
 -- THE REPLAY'S SECOND TABLE (document 02, R-1): who stood by at each kept step.
-use Rattle.std.specs.Prelude.{◌≡◌, ◌⊎◌, List, [], ◌∷◌, ℕ, ◌+◌, ◌*◌, get_or, drop}
+use Rattle.std.specs.Prelude.{◌≡◌, ◌⊎◌, List, [], ◌∷◌, ℕ, ◌+◌, ◌*◌, slice_index_or, drop}
 use Rattle.std.proofs.Math.Option.{some}
 use Rattle.limits.specs.Limits as limit
 use Rattle.semantics.specs.Models.{Program, line, Question}
@@ -10,7 +10,7 @@ use Rattle.replay_session.specs.Replays.{Allows}
 
 -- the number of objects: "o1 × 65,536 + o2 × 256 + o3 over the line's variables, 255 where there is none"
 abbrev pub standing : List ℕ → ℕ
-standing os = get_or os 0 limit.none * 65536 + get_or os 1 limit.none * 256 + get_or os 2 limit.none
+standing os = slice_index_or os 0 limit.none * 65536 + slice_index_or os 1 limit.none * 256 + slice_index_or os 2 limit.none
 
 -- k is the number of a kept place: that of those who stood by at a step; "a kept meeting gets 0"
 abbrev pub Stands : Program → Session → Place → ℕ → Type 0

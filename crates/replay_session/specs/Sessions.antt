@@ -1,5 +1,5 @@
 -- THE REPLAY'S STATE: "a database, the stages met, the carried object and the count of places kept"; document 02, R-5: "A lent state has a carried object for each, in order of first appearance."
-use Rattle.std.specs.Prelude.{◌≡◌, ◌⊎◌, Bool, true, false, cond, List, [], ◌∷◌, ℕ, ◌+◌, ◌≤◌, ◌<◌, eqb, length, take, set, get_or}
+use Rattle.std.specs.Prelude.{◌≡◌, ◌⊎◌, Bool, true, false, if◌then◌else◌, List, [], ◌∷◌, ℕ, ◌+◌, ◌≤◌, ◌<◌, ◌==◌, length, take, set, slice_index, slice_index_or}
 use Rattle.std.proofs.Math.Option.{Option, none, some}
 use Rattle.limits.specs.Limits as limit
 use Rattle.semantics.specs.Labels.{has, relabel}
@@ -16,13 +16,13 @@ Says A false = A → ⊥
 
 -- the object, where 255 stands for none
 abbrev pub optional : ℕ → Option ℕ
-optional o = cond (eqb o limit.none) none (some o)
+optional o = if o == limit.none then none else some o
 
 -- the object that stands for x, where os are the objects of the carried variables cs, in their order
 abbrev pub carried_for : List ℕ → List ℕ → ℕ → Option ℕ
 carried_for [] os x = none
 carried_for (c ∷ cs) [] x = none
-carried_for (c ∷ cs) (o ∷ os) x = cond (eqb x c) (optional o) (carried_for cs os x)
+carried_for (c ∷ cs) (o ∷ os) x = if x == c then optional o else carried_for cs os x
 
 -- WHERE A RUN STANDS, as the semantics have it, in a text that asks Q
 abbrev pub session_of : Question → Session → runs.Session
@@ -30,11 +30,11 @@ session_of Q s = record { db = take s.objects s.states; met = s.met; carried = c
 
 -- the state of an object
 abbrev pub state_in : Session → ℕ → ℕ
-state_in s o = get_or s.states o 0
+state_in s o = slice_index s.states o
 
 -- the carried object of a cell
 abbrev pub carried_in : Session → ℕ → ℕ
-carried_in s v = get_or s.carried v 0
+carried_in s v = slice_index s.carried v
 
 -- the state with these states of the objects, in the position
 abbrev pub session_in : List ℕ → Position → Session
@@ -83,8 +83,8 @@ stepped s o other = s
 abbrev pub carried_by : List ℕ → Body → List ℕ → List ℕ → List ℕ
 carried_by [] b os held = held
 carried_by (c ∷ cs) b os [] = []
-carried_by (c ∷ cs) b os (h ∷ hs) = cond (elem c (vars b)) (named b os c) h ∷ carried_by cs b os hs
+carried_by (c ∷ cs) b os (h ∷ hs) = (if elem c (vars b) then named b os c else h) ∷ carried_by cs b os hs
 
 abbrev pub taken : Program → Question → Session → runs.Place → Session
 taken P Q s (step ℓ o) = stepped s o (line P ℓ)
-taken P Q s (meet i os) = met s (carried_by (carriers Q) (get_or Q s.met []) os s.carried)
+taken P Q s (meet i os) = met s (carried_by (carriers Q) (slice_index_or Q s.met []) os s.carried)

@@ -1,7 +1,7 @@
 // The replay's state by value, and whether it fits a text.
 #![tactic(auto)]
 
-ghost use Rattle.std.specs.Prelude.{◌≡◌, ◌⊎◌, true, ℕ, ◌≤◌, ◌<◌, length, take, get_or};
+ghost use Rattle.std.specs.Prelude.{◌≡◌, ◌⊎◌, true, ℕ, ◌≤◌, ◌<◌, length, take, slice_index};
 ghost use Rattle.limits.specs.Limits as limit;
 ghost use Rattle.semantics.specs.Labels.{has};
 ghost use Rattle.model.specs.WellFormed.{in_class, WellFormed};
@@ -93,14 +93,14 @@ fn declared_states(relations: Relations) -> u32
 // Whether the states have no relations but the first n.
 fn relations_declared(states: &[u32], n: u32) -> bool
     requires { n < 32 }
-    ensures { Says ((o a : ℕ) → o < length states.now → has (get_or states.now o 0) a ≡ true → a < n) result }
+    ensures { Says ((o a : ℕ) → o < length states.now → has (slice_index states.now o) a ≡ true → a < n) result }
 {
     states.iter().all(|state| *state >> n == 0)
 }
 
 // Whether each carried object is one of the n that were created, or none.
 fn carried_created(carried: [u32; CARRIED], n: usize) -> bool
-    ensures { Says ((v : ℕ) → v < limit.carried → (get_or carried v 0 ≡ limit.none) ⊎ (get_or carried v 0 < n)) result }
+    ensures { Says ((v : ℕ) → v < limit.carried → (slice_index carried v ≡ limit.none) ⊎ (slice_index carried v < n)) result }
 {
     carried.iter().all(|o| *o == NONE || (*o as usize) < n)
 }

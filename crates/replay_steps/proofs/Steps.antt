@@ -13,7 +13,8 @@ use Rattle.semantics.specs.Models.{elem, Body, Line, rule, new, next, other, lin
 use Rattle.semantics.specs.Steps.{Enabled}
 use Rattle.semantics.specs.Runs.{step}
 use Rattle.semantics.specs.StandingBy.{First, line_names, EnabledBy, StoodBy}
-use Rattle.semantics.proofs.Tools.{same?}
+use Rattle.std.specs.Prelude.{Option, Some, None, is_some, unwrap_or}
+use Rattle.semantics.proofs.Tools.{same?, clash}
 use Rattle.semantics.proofs.Bodies.{supported-vars}
 use Rattle.semantics.proofs.StandingBy.{first-same, stood-by-enabled}
 use Rattle.model.specs.declared.Action.{Action}
@@ -25,7 +26,7 @@ use Rattle.model.specs.Records.{up_from, head_of, line_of, clause_body, clause_l
 use Rattle.model.specs.WellFormed.{WellFormed}
 use Rattle.model.proofs.Accepted.{on_line, clause-safe, clause-vars, clause-body, stages}
 use Rattle.facts_candidates.specs.declared.Choice.{Choice}
-use Rattle.facts_candidates.specs.Choices.{chosen}
+use Rattle.facts_candidates.specs.Choices.{element_of, chosen}
 use Rattle.facts_find.specs.Bodies.{Fixed}
 use Rattle.facts_rests.specs.Rests.{Within}
 use Rattle.replay_session.specs.declared.Session.{Session}
@@ -33,7 +34,7 @@ use Rattle.replay_session.specs.Sessions.{created, relabeled, stepped}
 use Rattle.replay_session.specs.Notes.{standing}
 use Rattle.replay_session.proofs.Effects.{size}
 use Rattle.replay_view.specs.declared.View.{View}
-use Rattle.replay_steps.specs.Tries.{OnLine, line_body, Ready, Open, Stepping, Holding, Taken, Barred}
+use Rattle.replay_steps.specs.Tries.{OnLine, line_body, Ready, Open, Stepping, Holding, only, Fixes, Taken, Barred}
 
 -- WHAT STANDS on the line of clause k
 body-supported : (a : Action) (b : Body) → SafeLine (line_of a b) → Supported (vars b) b
@@ -117,18 +118,18 @@ stepping m v s slots w ℓ o l c (k, here, e, on) =
       seats = l.seats;
     }
 
--- a choice that fixes variable 0 alone
-abbrev pub only : ℕ → Choice
-only o = record { first = o; second = 255; third = 255 }
-
-only-rest : (o x : ℕ) → x ≢ 0 → chosen (only o) x ≡ 255
+only-rest : (o x : ℕ) → x ≢ 0 → element_of (only o) x ≡ None
 only-rest o x n = rw (ne_eqb x 0 n) (⊎_elim (λ (e : x ≡ 1). rw (eq-eqb x 1 e)) (λ (e : x ≢ 1). rw (ne_eqb x 1 e)) (same? x 1))
 
-fixed-only : (n o : ℕ) (σ : ℕ → ℕ) → σ 0 ≡ o → Fixed n (only o) σ
-fixed-only n o σ e x l h = ⊎_elim (λ (q : x ≡ 0). rw q e) (λ (q : x ≢ 0). absurd (h (only-rest o x q))) (same? x 0)
+pub fixed-only : (n o : ℕ) (σ : ℕ → ℕ) → σ 0 ≡ o → Fixed n (only o) σ
+fixed-only n o σ e x l i h = ⊎_elim
+    (λ (q : x ≡ 0). ap σ q ∙ e ∙ ap (λ (p : Option ℕ). unwrap_or p 0) (sym (ap (element_of (only o)) q) ∙ h))
+    (λ (q : x ≢ 0). clash (ap is_some h) (ap is_some (only-rest o x q)))
+    (same? x 0)
 
-fixed-free : (n : ℕ) (σ : ℕ → ℕ) → Fixed n (only 255) σ
-fixed-free n σ x l h = absurd (h (⊎_elim (λ (q : x ≡ 0). rw q) (λ (q : x ≢ 0). only-rest 255 x q) (same? x 0)))
+-- a choice that fixes no variable
+pub fixed-free : (n : ℕ) (c : Choice) → ((x : ℕ) → element_of c x ≡ None) → (σ : ℕ → ℕ) → Fixed n c σ
+fixed-free n c free σ x l i h = clash (ap is_some h) (ap is_some (free x))
 
 module _ (m : Model) (s : Session) (v : View) (w : List ℕ) (ready : Ready m s v w) (left : s.met < m.stagecount) (ℓ o : ℕ) where
   abbrev db : List ℕ
@@ -165,30 +166,45 @@ module _ (m : Model) (s : Session) (v : View) (w : List ℕ) (ready : Ready m s 
   pub no-clause : line (program_of m) ℓ ≡ other → Barred m s (step ℓ o)
   no-clause on = fails other on (λ e. e)
 
-  pub no_step : (r : ℕ) (xs : List ℕ) (b : Body) → line (program_of m) ℓ ≡ rule r xs b → Barred m s (step ℓ o)
+  no_step : (r : ℕ) (xs : List ℕ) (b : Body) → line (program_of m) ℓ ≡ rule r xs b → Barred m s (step ℓ o)
   no_step r xs b on = fails (rule r xs b) on (λ e. e)
 
   -- a `new` line
   module _ (t : ℕ) (b : Body) (n : ℕ) (on : line (program_of m) ℓ ≡ new t b) where
-    pub new-kept : line_names (new t b) ≡ up_from 0 n → o ≡ s.objects → (c : Choice) (k : ℕ) → First (up_from 0 n) (Holding m s b n (only 255)) (chosen c) → k ≡ standing (map (chosen c) (up_from 0 n))
+    pub new-kept : (none : Choice) → ((x : ℕ) → element_of none x ≡ None) → line_names (new t b) ≡ up_from 0 n → o ≡ s.objects → (c : Choice) (k : ℕ) → First (up_from 0 n) (Holding m s b n none) (chosen c) → k ≡ standing (map (chosen c) (up_from 0 n))
         → Taken m s (step ℓ o) (created s t) k
-    new-kept names e c k = stands (new t b) on n (Holding m s b n (only 255)) c k names (λ σ. ((λ h. (e ∙ sym sized, h.0)), λ h. (h.1, fixed-free n σ)))
+    new-kept none free names e c k = stands (new t b) on n (Holding m s b n none) c k names (λ σ. ((λ h. (e ∙ sym sized, h.0)), λ h. (h.1, fixed-free n none free σ)))
 
-    pub new-other : o ≢ s.objects → Barred m s (step ℓ o)
+    new-other : o ≢ s.objects → Barred m s (step ℓ o)
     new-other e = fails (new t b) on (λ q. e (q.0 ∙ sized))
 
-    pub new-fails : ((σ : ℕ → ℕ) → Holding m s b n (only 255) σ → ⊥) → Barred m s (step ℓ o)
-    new-fails h = fails (new t b) on (λ q. h q.1.0 (q.1.1, fixed-free n q.1.0))
+    new-fails : (none : Choice) → ((x : ℕ) → element_of none x ≡ None) → ((σ : ℕ → ℕ) → Holding m s b n none σ → ⊥) → Barred m s (step ℓ o)
+    new-fails none free h = fails (new t b) on (λ q. h q.1.0 (q.1.1, fixed-free n none free q.1.0))
 
   -- a `next` line
   module _ (plus minus : ℕ) (b : Body) (n : ℕ) (on : line (program_of m) ℓ ≡ next 0 plus minus b) where
-    pub next-kept : line_names (next 0 plus minus b) ≡ up_from 0 n → 0 < n → o < 255 → o < s.objects → (c : Choice) (k : ℕ) → First (up_from 0 n) (Holding m s b n (only o)) (chosen c)
+    pub next-kept : line_names (next 0 plus minus b) ≡ up_from 0 n → 0 < n → o < s.objects → (c : Choice) (k : ℕ) → First (up_from 0 n) (Holding m s b n (only o)) (chosen c)
         → k ≡ standing (map (chosen c) (up_from 0 n)) → Taken m s (step ℓ o) (relabeled s o plus minus) k
-    next-kept names z h l c k = stands (next 0 plus minus b) on n (Holding m s b n (only o)) c k names
-        (λ σ. ((λ g. (let q = sized in omega arith, g.1 0 z (λ e. omega arith), g.0)), λ g. (g.2, fixed-only n o σ g.1)))
+    next-kept names z l c k = stands (next 0 plus minus b) on n (Holding m s b n (only o)) c k names
+        (λ σ. ((λ g. (let q = sized in omega arith, g.1 0 z o refl, g.0)), λ g. (g.2, fixed-only n o σ g.1)))
 
-    pub next-other : s.objects ≤ o → Barred m s (step ℓ o)
+    next-other : s.objects ≤ o → Barred m s (step ℓ o)
     next-other l = fails (next 0 plus minus b) on (λ q. let i = q.0 in let z = sized in omega arith)
 
-    pub next-fails : ((σ : ℕ → ℕ) → Holding m s b n (only o) σ → ⊥) → Barred m s (step ℓ o)
+    next-fails : ((σ : ℕ → ℕ) → Holding m s b n (only o) σ → ⊥) → Barred m s (step ℓ o)
     next-fails h = fails (next 0 plus minus b) on (λ q. h q.1.0 (q.1.2, fixed-only n o q.1.0 q.1.1))
+
+-- A STEP OF A CLAUSE that is not allowed
+module _ (m : Model) (v : View) (s : Session) (slots w : List ℕ) (c : Clause) (t : Stepping m v s slots w c) (o : ℕ) where
+  -- the object is none for the line
+  pub unfit : (a : Action) → c.action ≡ a → Fixes a s.objects o None → Barred m s (step c.line o)
+  unfit (Rule r n) e f = no_step m s v w t.ready t.left c.line o r (up_from 0 n) (body m v s slots w c t) (on-action m v s slots w c t (Rule r n) e)
+  unfit (New set) e f = new-other m s v w t.ready t.left c.line o set (body m v s slots w c t) c.variables (on-action m v s slots w c t (New set) e) f
+  unfit (Next plus minus) e f = next-other m s v w t.ready t.left c.line o plus minus (body m v s slots w c t) c.variables (on-action m v s slots w c t (Next plus minus) e) f
+
+  -- the body holds for no choice with the objects fixed
+  pub unheld : (a : Action) → c.action ≡ a → (k : Choice) → Fixes a s.objects o (Some k) → ((σ : ℕ → ℕ) → Holding m s (body m v s slots w c t) c.variables k σ → ⊥) → Barred m s (step c.line o)
+  unheld (Rule r n) e k f h = absurd f
+  unheld (New set) e k f h = new-fails m s v w t.ready t.left c.line o set (body m v s slots w c t) c.variables (on-action m v s slots w c t (New set) e) k f.1 h
+  unheld (Next plus minus) e k f h = next-fails m s v w t.ready t.left c.line o plus minus (body m v s slots w c t) c.variables (on-action m v s slots w c t (Next plus minus) e)
+      (subst (λ (d : Choice). (σ : ℕ → ℕ) → Holding m s (body m v s slots w c t) c.variables d σ → ⊥) f.1 h)

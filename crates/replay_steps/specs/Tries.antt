@@ -6,12 +6,15 @@ use Rattle.semantics.specs.Models.{Body, Line, rule, new, next, other, line}
 use Rattle.semantics.specs.Facts.{Database, Meets}
 use Rattle.semantics.specs.Runs as runs
 use Rattle.semantics.specs.Runs.{step, meet, Allowed}
+use Rattle.model.specs.declared.Action.{Action}
+use Rattle.model.specs.declared.Action.TheVariants.{Rule, New, Next}
 use Rattle.model.specs.declared.Clause.{Clause}
 use Rattle.model.specs.declared.Model.{Model}
 use Rattle.model.specs.Records.{clause_body, program_of, question_of, stage_body, clause_at, stage_at}
 use Rattle.model.specs.Places.{place_of}
 use Rattle.model.specs.WellFormed.{WellFormed}
 use Rattle.facts_candidates.specs.declared.Choice.{Choice}
+use Rattle.facts_candidates.specs.Choices.{element_of}
 use Rattle.facts_find.specs.Bodies.{Fixed}
 use Rattle.facts_rests.specs.Rests.{Within}
 use Rattle.replay_session.specs.declared.Position.{Position}
@@ -83,6 +86,19 @@ pub record Stepping (m : Model) (v : View) (s : Session) (slots w : List ℕ) (c
 -- the body holds in the state's database for the choice σ, which has the fixed elements
 abbrev pub Holding : Model → Session → Body → ℕ → Choice → (ℕ → ℕ) → Type 0
 Holding m s b n fixed σ = Meets (program_of m) (take s.objects s.states) σ b × Fixed n fixed σ
+
+-- a choice that fixes variable 0 alone
+abbrev pub only : ℕ → Choice
+only o = record { first = Some o; second = None; third = None }
+
+-- the choice has the objects that a step of a line with object o fixes, where n are there; or there is none, since o is no object for the line
+abbrev pub Fixes : Action → ℕ → ℕ → Option Choice → Type 0
+Fixes (Rule r k) n o (Some c) = ⊥
+Fixes (Rule r k) n o None = Unit {0}
+Fixes (New t) n o (Some c) = (o ≡ n) × ((x : ℕ) → element_of c x ≡ None)
+Fixes (New t) n o None = o ≢ n
+Fixes (Next plus minus) n o (Some c) = (o < n) × (c ≡ only o)
+Fixes (Next plus minus) n o None = n ≤ o
 
 -- the place is allowed and taken, and k is its number
 abbrev pub Taken : Model → Session → runs.Place → Session → ℕ → Type 0

@@ -5,7 +5,6 @@ ghost use Rattle.std.specs.Prelude.{◌≡◌, IfSome, List, map, ℕ, ◌+◌, 
 ghost use Rattle.limits.specs.Limits as limit;
 ghost use Rattle.semantics.specs.Models.{vars, Supported};
 ghost use Rattle.semantics.specs.Runs.{step};
-ghost use Rattle.model.specs.declared.Action.TheVariants.{New, Next};
 ghost use Rattle.model.specs.declared.Model.{Model};
 ghost use Rattle.model.specs.Literals.{GoodBody};
 ghost use Rattle.model.specs.Records.{up_from, body_at};
@@ -18,11 +17,10 @@ ghost use Rattle.replay_session.specs.declared.Session.{Session};
 ghost use Rattle.replay_session.specs.Sessions.{session_in};
 ghost use Rattle.replay_session.specs.Notes.{standing};
 ghost use Rattle.replay_view.specs.declared.View.{View};
-ghost use Rattle.replay_steps.specs.Tries.{OnLine, Rests, Ready, Open, Stepping, Holding, afterwards, Gives, TriedBy};
+ghost use Rattle.replay_steps.specs.Tries.{OnLine, Rests, Ready, Open, Holding, Fixes, afterwards, Gives, TriedBy};
 
 use facts_bits::BYTES;
 use facts_candidates::Choice;
-use facts_find::FREE;
 use limits::OBJECTS;
 use model::{Action, Clause, Model};
 use replay_session::{Position, Session};
@@ -79,6 +77,7 @@ pub fn needs(m: &Model, line: u32) -> [u8; BYTES]
 
 // The first choice that has the fixed objects and for which a body holds in a database of n objects, or that there is none.
 // The literals, the slots and the table stay apart: the slots and the table are written between two places of a run, so that a struct of the three would be made anew for each place.
+// The call stays beside that of `facts_holds::seek`, which says what it answers over states that are their own slots: here the elements are objects, of which several may have one slot.
 pub fn decide(
     literals: &[u32],
     slots: &[u8],
@@ -126,97 +125,24 @@ fn onward(at: Position, objects: usize) -> Position
     }
 }
 
-// A step of a clause, a `new` line.
-// The bound of an object stays a clause: an object is a part of a place's number. What is lent stays apart for the same reason, and the position beside it, which is another one after each place.
-fn create(
-    m: &Model,
-    slots: &[u8],
-    work: &[u8],
-    at: Position,
-    c: Clause,
-    set: u32,
-    object: u32,
-) -> Option<Outcome>
-    requires { ((v : View) × (states : List ℕ) × Stepping m.now v (session_in states at) slots.now work.now c) × (object < limit.objects) × (c.action ≡ New set) }
-    ensures tried_by { (v : View) (states : List ℕ) → Stepping m.now v (session_in states at) slots.now work.now c → TriedBy m.now states at (step c.line object) result }
-    ensures gives { IfSome result (Gives at) }
-{
-    let n = at.objects;
-    if object as usize != n {
-        return None;
-    }
-    let fixed = Choice {
-        first: FREE,
-        second: FREE,
-        third: FREE,
-    };
-    let helpers = decide(
-        &m.literals,
-        slots,
-        work,
-        n,
-        c.first,
-        c.count,
-        c.variables,
-        fixed,
-    )?;
-    let stood = number(c.variables as usize, helpers);
-    Some(Outcome {
-        given: Some(NewState {
-            object: n,
-            state: set,
-        }),
-        at: onward(at, n + 1),
-        stood,
-    })
-}
-
-// A step of a clause, a `next` line.
-fn change(
-    m: &Model,
-    states: &[u32],
-    slots: &[u8],
-    work: &[u8],
-    at: Position,
-    c: Clause,
-    plus: u32,
-    minus: u32,
-    object: u32,
-) -> Option<Outcome>
-    requires { ((v : View) × Stepping m.now v (session_in states.now at) slots.now work.now c) × (object < limit.objects) × (c.action ≡ Next plus minus) }
-    ensures tried_by { TriedBy m.now states.now at (step c.line object) result }
-    ensures gives { IfSome result (Gives at) }
+// The choice of the objects that a step of a line fixes, where n objects are there, if the object is one for the line: a `new` line has the next object and fixes none, a `next` line fixes the object, which is there.
+pub fn fixed(action: Action, n: usize, object: u32) -> Option<Choice>
+    ensures { Fixes action n object result }
 {
     let o = object as usize;
-    let n = at.objects;
-    if o >= n {
-        return None;
+    match action {
+        Action::New { .. } if o == n => Some(facts_candidates::free()),
+        Action::Next { .. } if o < n => Some(Choice {
+            first: Some(o),
+            second: None,
+            third: None,
+        }),
+        _ => None,
     }
-    let fixed = Choice {
-        first: o,
-        second: FREE,
-        third: FREE,
-    };
-    let choice = decide(
-        &m.literals,
-        slots,
-        work,
-        n,
-        c.first,
-        c.count,
-        c.variables,
-        fixed,
-    )?;
-    let stood = number(c.variables as usize, choice);
-    let state = labels::relabel(states[o], plus, minus);
-    Some(Outcome {
-        given: Some(NewState { object: o, state }),
-        at: onward(at, n),
-        stood,
-    })
 }
 
 // A step of a line and an object.
+// The bound of an object stays a clause: an object is a part of a place's number. What is lent stays apart for the same reason, and the position beside it, which is another one after each place.
 pub fn step_place(
     m: &Model,
     states: &[u32],
@@ -230,12 +156,38 @@ pub fn step_place(
     ensures tried_by { TriedBy m.now states.now at (step line object) result }
     ensures gives { IfSome result (Gives at) }
 {
+    let n = at.objects;
     let c = clause_on(m, line)?;
+    let o = object as usize;
+    let objects = fixed(c.action, n, object)?;
+    let choice = decide(
+        &m.literals,
+        slots,
+        work,
+        n,
+        c.first,
+        c.count,
+        c.variables,
+        objects,
+    )?;
+    let stood = number(c.variables as usize, choice);
     match c.action {
         Action::Rule { .. } => None,
-        Action::New { set } => create(m, slots, work, at, c, set, object),
+        Action::New { set } => Some(Outcome {
+            given: Some(NewState {
+                object: n,
+                state: set,
+            }),
+            at: onward(at, n + 1),
+            stood,
+        }),
         Action::Next { plus, minus } => {
-            change(m, states, slots, work, at, c, plus, minus, object)
+            let state = labels::relabel(states[o], plus, minus);
+            Some(Outcome {
+                given: Some(NewState { object: o, state }),
+                at: onward(at, n),
+                stood,
+            })
         }
     }
 }

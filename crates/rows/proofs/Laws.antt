@@ -1,6 +1,6 @@
 -- Laws of row numbers: only none has the number 0, and no two rows have one number.
 use mathlib.Core.Path.{◌≡◌, refl, sym, ap, ◌∙◌}
-use mathlib.Core.Bool.{true, false, true≢false, false≢true}
+use mathlib.Core.Bool.{false, true≢false}
 use mathlib.Core.List.{[], ◌∷◌}
 use Prim.Native.Nat.{ℕ}
 use native.Mathlib.Omega.{arith}
@@ -35,17 +35,9 @@ some-number Moves e = omega arith
 some-number Question e = omega arith
 some-number Unreachable e = omega arith
 
-pub row-some : (o : Option Row) → is_some o ≡ true → row_number o ≡ 0 → ⊥
-row-some None e n = false≢true e
-row-some (Some r) e n = some-number r n
-
 pub row-none : (o : Option Row) → is_some o ≡ false → row_number o ≡ 0
 row-none None e = refl
 row-none (Some r) e = absurd (true≢false e)
-
-pub none-row : (o : Option Row) → row_number o ≡ 0 → o ≡ None
-none-row None e = refl
-none-row (Some r) e = absurd (some-number r e)
 
 -- the row of a number, and any for a number that no row has
 row_of : ℕ → Row

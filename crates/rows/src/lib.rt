@@ -50,7 +50,7 @@ impl Row {
 
 // A row that refuses a text or a call, and the line that it stands on; 0 where no line is to blame.
 // 0 stays for no line: the tables of refusals say "line 0", and C is told it and the listing prints it so.
-#[derive(Clone, Copy, PartialEq, Eq)]
+#[derive(Clone, Copy)]
 pub struct Refusal {
     pub row: Row,
     pub line: u32,

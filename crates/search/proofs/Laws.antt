@@ -1,10 +1,9 @@
 -- What is found when no clause adds a state is all, and the last level gives the verdict.
 use mathlib.Core.Path.{◌≡◌, refl, sym, ap, ◌∙◌, subst}
-use mathlib.Core.Logic.{inl, inr, ⊎_elim, ◌↔◌, ◌≢◌}
+use mathlib.Core.Logic.{inl, inr, ⊎_elim, ◌↔◌}
 use mathlib.Core.Bool.{Bool, true, false, false≢true}
 use mathlib.Core.List.{List}
-use Prim.Native.Nat.{ℕ, ◌+◌, ◌*◌, ◌≤◌, ◌<◌}
-use native.Mathlib.Omega.{arith}
+use Prim.Native.Nat.{ℕ, ◌<◌}
 use Rattle.limits.specs.Limits as limit
 use Rattle.semantics.specs.Labels.{relabel}
 use Rattle.semantics.specs.Models.{Body, Line, rule, new, next, other}
@@ -13,7 +12,6 @@ use Rattle.semantics.specs.Steps.{Reachable, MoreThan}
 use Rattle.semantics.specs.Questions.{Verdict}
 use Rattle.semantics.specs.Tables.{Shows, From, Empties}
 use Rattle.semantics.specs.Walkers.{Whole}
-use Rattle.semantics.proofs.Tools.{same?, clash}
 use Rattle.semantics.proofs.Bodies.{more-facts}
 use Rattle.semantics.proofs.WalkersMoves.{states}
 use Rattle.semantics.proofs.Crowded.{roomy}
@@ -21,7 +19,6 @@ use Rattle.model.specs.declared.Model.{Model}
 use Rattle.model.specs.Records.{clause_line, program_of, question_of, clause_at, stage_at}
 use Rattle.model.specs.WellFormed.{WellFormed}
 use Rattle.model.proofs.Lines.{every-line}
-use Rattle.facts_bits.specs.Bits.{bit_at, Copied, FirstFrom}
 use Rattle.facts_table.specs.Table.{table_of}
 use Rattle.search_states.specs.declared.States.{States}
 use Rattle.search_states.specs.States.{row, Known, by, from}
@@ -30,31 +27,19 @@ use Rattle.search_clauses.specs.Reach.{Lists}
 use Rattle.search_reachable.specs.Reachable.{Reaches}
 use Rattle.search_ways.specs.Moves.{Exactly}
 use Rattle.search_ways.proofs.Laws.{whole}
-use Rattle.std.specs.Prelude.{Option, Some, None}
-use Rattle.search_levels.specs.Levels.{pair_at, Aims, Filled}
+use Rattle.std.specs.Prelude.{Option, Some, None, MatchOption, is_some}
+use Rattle.search_levels.specs.declared.Pair.{Pair}
+use Rattle.search_levels.specs.Levels.{OnLevel, Aims, Filled}
 use Rattle.search_levels.proofs.Targets.{aims-points}
 use Rattle.search_levels.proofs.Laws as levels
 use Rattle.search.specs.declared.Explored.{Explored}
 use Rattle.search.specs.declared.Found.{Found}
 use Rattle.search.specs.Search.{Surveyed, Entered, Judged, Searched, SearchedFrom}
 
--- THE ROWS OF A LEVEL one after the other: those below f have no slot
-module _ (rows : List ℕ) (k : ℕ) where
-  abbrev pub NoneBelow : ℕ → Type 0
-  NoneBelow f = (e g : ℕ) → e < limit.listed → g < f → pair_at rows k e g ≡ false
-
-  module _ (f : ℕ) (row : List ℕ) (copied : Copied rows (limit.listed * k + f) row) where
-    pub pair-here : (first : ℕ) → FirstFrom row 0 first → f < limit.listed → first < limit.listed → Entered rows k
-    pair-here first n l q = (first, f, q, l, sym (copied.bits first (omega arith)) ∙ n.set)
-
-    pub none_more : ((e : ℕ) → e < limit.listed → bit_at row e ≡ false) → NoneBelow f → NoneBelow (f + 1)
-    none_more none h e g l i = ⊎_elim
-        (λ (z : g ≡ f). subst (λ (n : ℕ). pair_at rows k e n ≡ false) (sym z) (sym (copied.bits e (omega arith)) ∙ none e l))
-        (λ (z : g ≢ f). h e g l (omega (arith, i, z)))
-        (same? g f)
-
-  pub no-pair : (f : ℕ) → limit.listed ≤ f → NoneBelow f → Entered rows k → ⊥
-  no-pair f l h s = clash s.4 (h s.0 s.1 s.2 (omega (arith, l, s.3)))
+-- a level has a pair, where one is found
+pub entered-some : (rows : List ℕ) (k : ℕ) (r : Option Pair) (b : Bool) → MatchOption r ((e f : ℕ) → OnLevel rows k e f → ⊥) (λ p. OnLevel rows k p.first p.second) → b ≡ is_some r → (b ≡ true) ↔ Entered rows k
+entered-some rows k None b h q = ((λ z. absurd (false≢true (sym q ∙ z))), λ s. absurd (h s.0 s.1 (s.2, s.3, s.4)))
+entered-some rows k (Some p) b h q = ((λ z. (p.first, p.second, h.0, h.1, h.2)), λ s. q)
 
 module _ (m : Model) (wf : WellFormed m) (w : List ℕ) (s : States) (reaches : Reaches m w s) where
   pub exactly : Exactly m w s

@@ -1,7 +1,7 @@
 // The search: the reachable states of a model, their moves, the levels of its question, and the verdict; or that more states are reachable than it has room for.
 #![tactic(auto)]
 
-ghost use Rattle.std.specs.Prelude.{◌≡◌, ◌↔◌, true, ◌≤◌, ◌<◌, length, IfSome};
+ghost use Rattle.std.specs.Prelude.{◌≡◌, ◌≤◌, ◌<◌, length, IfSome};
 ghost use Rattle.limits.specs.Limits as limit;
 ghost use Rattle.semantics.specs.Walkers.{Whole};
 ghost use Rattle.model.specs.Records.{program_of, stage_at};
@@ -10,12 +10,11 @@ ghost use Rattle.facts_heads.specs.Heads.{room};
 ghost use Rattle.search_states.specs.States.{row};
 ghost use Rattle.search_ways.specs.Moves.{Exactly};
 ghost use Rattle.search_reachable.specs.Reachable.{Reaches};
-ghost use Rattle.search.specs.Search.{Moving, Surveyed, Explores, Entered, Judged, Finds, FindsFrom};
+ghost use Rattle.search.specs.Search.{Moving, Surveyed, Explores, Judged, Finds, FindsFrom};
 
 use facts_bits::BYTES;
-use limits::LISTED;
 use model::Model;
-use search_levels::{LEVELS, Levels};
+use search_levels::Levels;
 use search_states::{Listing, States};
 use search_ways::{MATRIX, TABLE};
 
@@ -84,23 +83,6 @@ pub fn explore(work: &mut [u8], m: Model) -> Option<Explored>
     Some(surveyed(work, m, states))
 }
 
-// Has level k a pair?
-fn entered(rows: &[u8; LEVELS], k: usize) -> bool
-    requires { k ≤ limit.stages }
-    ensures { (result ≡ true) ↔ Entered rows.now k }
-{
-    let at = LISTED * k;
-    for f in 0..LISTED {
-        let row = facts_bits::row(rows, at + f);
-        if let Some(e) = facts_bits::first(&row, 0) {
-            if e < LISTED {
-                return true;
-            }
-        }
-    }
-    false
-}
-
 // The levels over the reachable states, where p is a row in which stage 1 asks besides for the slot of its first variable, or nothing, and whether the last one has a pair.
 fn judged(work: &[u8], m: Model, explored: Explored, p: Option<[u8; BYTES]>) -> Found
     requires { WellFormed m × Surveyed m work.now explored × IfSome p (λ among. 0 < (stage_at m 0).variables) }
@@ -108,7 +90,7 @@ fn judged(work: &[u8], m: Model, explored: Explored, p: Option<[u8; BYTES]>) -> 
 {
     let moves = explored.moves;
     let levels = search_levels::fill(work, m, explored.states, &moves.ways, p);
-    let reached = entered(&levels.rows, m.stagecount);
+    let reached = search_levels::first_pair(&levels.rows, m.stagecount).is_some();
     Found {
         explored,
         levels,

@@ -16,14 +16,14 @@ use Rattle.facts_bits.specs.Bits.{bit_at, FirstFrom}
 use Rattle.facts_bits.proofs.Changing.{before?}
 use Rattle.facts_table.specs.Table.{table_of}
 use Rattle.facts_candidates.specs.declared.Choice.{Choice}
-use Rattle.facts_candidates.specs.Choices.{chosen}
+use Rattle.facts_candidates.specs.Choices.{element_of, chosen}
 use Rattle.facts_find.specs.Bodies.{Fixed}
 use Rattle.facts_holds.specs.declared.Part.{Part}
 use Rattle.facts_holds.specs.Shows.{Evaluable, Tells}
 use Rattle.facts_holds.proofs.Laws.{fixed_more}
-use Rattle.std.specs.Prelude.{Option, Some, None}
+use Rattle.std.specs.Prelude.{Option, Some, None, unwrap_or}
 use Rattle.search_levels.specs.declared.Walker.{Walker}
-use Rattle.search_levels.specs.Passing.{Aimed, Holding}
+use Rattle.search_levels.specs.Passing.{stands, place, Aimed, Holding}
 
 module _ (S w literals : List ℕ) (part : Part) (c : Choice) where
   -- the body holds over S for σ, which has the fixed slots
@@ -40,10 +40,10 @@ module _ (S w literals : List ℕ) (part : Part) (c : Choice) where
     none-begins σ h b = omega arith
 
     module _ (some : 0 < part.variables) (body : Evaluable literals part) where
-      module _ (free : chosen c 0 ≡ limit.none) (e : ℕ) (small : e < width.slots) (one : Choice) (law : (x : ℕ) → x < limit.variables → chosen one x ≡ cond (eqb x 0) e (chosen c x))
+      module _ (free : element_of c 0 ≡ None) (e : ℕ) (one : Choice) (law : (x : ℕ) → x < limit.variables → element_of one x ≡ cond (eqb x 0) (Some e) (element_of c x))
           (r : Bool) (tells : Tells S w (body_at literals part.first part.count) part.variables one r) where
         with-slot : (σ : ℕ → ℕ) → Fixed part.variables one σ ↔ (Fixed part.variables c σ × (σ 0 ≡ e))
-        with-slot = fixed_more c one part.variables 0 e body.body.few some small free law
+        with-slot = fixed_more c one part.variables 0 e body.body.few some free law
 
         -- slot e fits,
         pub fits-here : r ≡ true → bit_at row e ≡ true → Holding S w literals part c (λ σ. bit_at row (σ 0) ≡ true)
@@ -62,33 +62,21 @@ module _ (S w literals : List ℕ) (part : Part) (c : Choice) where
 
   -- WITH MORE ASKED OF VARIABLE 0
   module _ (p : Option (List ℕ)) (r : Bool) (tells : Tells S w (body_at literals part.first part.count) part.variables c r) where
-    -- nothing fits,
-    pub pointed-none : r ≡ false → Holding S w literals part c (Aimed p) → ⊥
-    pointed-none q h = clash (tells.1 (h.0, h.1, h.2)) q
-
     module _ (told : r ≡ true) where
-      -- or nothing more is asked,
-      pub pointed-free : p ≡ None → Holding S w literals part c (Aimed p)
-      pointed-free q = let z = tells.0 told in (z.0, z.1, z.2, rw q tt)
-
       -- or its slot is fixed,
-      pub pointed-fixed : (among : List ℕ) → p ≡ Some among → 0 < part.variables → c.first < width.slots → (bit_at among c.first ≡ true) ↔ Holding S w literals part c (Aimed p)
-      pointed-fixed among g some l = rw g (
+      pub pointed-fixed : (among : List ℕ) → p ≡ Some among → 0 < part.variables → (e : ℕ) → c.first ≡ Some e → (bit_at among e ≡ true) ↔ Holding S w literals part c (Aimed p)
+      pointed-fixed among g some e l = rw g (
         (λ b. let z = tells.0 told in (z.0, z.1, z.2, subst (λ (i : ℕ). bit_at among i ≡ true) (sym (at z.0 z.2)) b)),
         λ h. subst (λ (i : ℕ). bit_at among i ≡ true) (at h.0 h.2) h.3,
       )
         where
-          at : (σ : ℕ → ℕ) → Fixed part.variables c σ → σ 0 ≡ c.first
-          at σ f = f 0 some (λ q. absurd (omega (arith, q, l)))
-
-  -- or it is in the row
-  pub pointed-row : (p : Option (List ℕ)) (among : List ℕ) → p ≡ Some among → (b : Bool) → (b ≡ true) ↔ Holding S w literals part c (λ σ. bit_at among (σ 0) ≡ true) → (b ≡ true) ↔ Holding S w literals part c (Aimed p)
-  pointed-row p among g b h = rw g h
+          at : (σ : ℕ → ℕ) → Fixed part.variables c σ → σ 0 ≡ e
+          at σ f = f 0 some e l
 
 -- the pair's slots are small
-pub seated-small : (c r : Choice) (a : Walker) (e : ℕ) → e ≤ limit.none → ((x : ℕ) → x < limit.variables → chosen r x ≡ cond (a.stands && eqb x a.seat) e (chosen c x)) → chosen c 0 ≤ limit.none → chosen r 0 ≤ limit.none
-seated-small c r a e l law h = subst (λ (i : ℕ). i ≤ limit.none) (sym (law 0 (omega arith))) (go (a.stands && eqb 0 a.seat))
+pub seated-small : (c r : Choice) (a : Walker) (e : ℕ) → e ≤ limit.none → ((x : ℕ) → x < limit.variables → element_of r x ≡ cond (stands a && eqb x (place a)) (Some e) (element_of c x)) → chosen c 0 ≤ limit.none → chosen r 0 ≤ limit.none
+seated-small c r a e l law h = subst (λ (o : Option ℕ). unwrap_or o 255 ≤ limit.none) (sym (law 0 (omega arith))) (go (stands a && eqb 0 (place a)))
   where
-    go : (b : Bool) → cond b e (chosen c 0) ≤ limit.none
+    go : (b : Bool) → unwrap_or (cond b (Some e) (element_of c 0)) 255 ≤ limit.none
     go true = l
     go false = h

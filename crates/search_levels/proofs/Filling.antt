@@ -7,8 +7,9 @@ use Prim.Native.Nat.{ℕ, suc, ◌+◌, ◌*◌, ◌≤◌, ◌<◌}
 use native.Mathlib.Omega.{arith}
 use borrow.Author.Tests.{eq-eqb, ne_eqb}
 use lib.ListN.{length, replicate, length-replicate}
+use Rattle.std.proofs.lemmas.Bool.{cases_Bool}
 use Rattle.limits.specs.Limits as limit
-use Rattle.semantics.proofs.Tools.{either, same?, clash}
+use Rattle.semantics.proofs.Tools.{same?, clash}
 use Rattle.model.specs.declared.Model.{Model}
 use Rattle.facts_bits.specs.Bits.{bit_at, with_bit, in_row, Joined}
 use Rattle.search_ways.proofs.Marking.{marks-bit}
@@ -57,7 +58,7 @@ begun n some e f l h = let p = (marks-bit (replicate n 0) 0 0 (omega arith) (rw 
 
 pub begun-clear : (n : ℕ) → 0 < n → Clear (limit.listed * suc 0) (with_bit (replicate n 0) 0)
 begun-clear n some i e l h = let p = (marks-bit (replicate n 0) 0 0 (omega arith) (rw length-replicate (omega arith))).bits i e (omega arith) in
-    ⊎_elim (λ q. absurd (⊎_elim (λ x. clash x (no-bit n i e (omega arith))) (λ x. omega (arith, x.0)) (p.0 q))) (λ q. q) (either (in_row (with_bit (replicate n 0) 0) i e))
+    ⊎_elim (λ q. absurd (⊎_elim (λ x. clash x (no-bit n i e (omega arith))) (λ x. omega (arith, x.0)) (p.0 q))) (λ q. q) (cases_Bool (in_row (with_bit (replicate n 0) 0) i e))
 
 module _ (m : Model) (S w ways : List ℕ) (p : Option (List ℕ)) where
   -- the same pairs on both levels

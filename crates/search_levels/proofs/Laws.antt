@@ -9,6 +9,7 @@ use native.Mathlib.Omega.{arith}
 use lib.Dec.{eqb}
 use borrow.Author.Tests.{eqb-true, eq-eqb}
 use lib.ListN.{length, get_or}
+use Rattle.std.proofs.lemmas.Bool.{cases_Bool, or_cases}
 use Rattle.limits.specs.Limits as limit
 use Rattle.semantics.specs.Models.{elem, Body, Program, Question, vars, shared}
 use Rattle.semantics.specs.Facts.{Database, state, In, Derived, Meets}
@@ -19,7 +20,7 @@ use Rattle.semantics.specs.Building as building
 use Rattle.semantics.specs.Building.{follows}
 use Rattle.semantics.specs.Walkers as walkers
 use Rattle.semantics.specs.Walkers.{Whole, Comes, Stand, stood, Level, Passable, ReachedFrom, is_some}
-use Rattle.semantics.proofs.Tools.{either, clash, no_none, or_right, or-true-cases}
+use Rattle.semantics.proofs.Tools.{clash, no_none, or_right}
 use Rattle.semantics.proofs.Bodies.{more-facts}
 use Rattle.semantics.proofs.WalkersComplete.{some_same, level-chosen, level-named}
 use Rattle.semantics.proofs.WalkersPaper.{stands-alone}
@@ -147,13 +148,13 @@ module _ (m : Model) (wf : WellFormed m) (w : List ℕ) (s : States) (ex : Exact
         stood-in k a = or_right (chosen m v k) (holder m v k) ((and-eq-true_iff (shared Q (carried_at m v)) (holder m v k)).0 a).1
 
         go : (k : ℕ) → walkers.chosen Q from (suc k) (carried_at m v) ≡ true → chosen m v (suc k) ≡ true
-        go zero z = ⊎_elim (λ a. at-start (from (carried_at m v)) refl a) (stood-in 0) (or-true-cases (is_some (from (carried_at m v))) (shared Q (carried_at m v) && holder m v 0) z)
-        go (suc k) z = ⊎_elim (λ a. rw (go k a)) (stood-in (suc k)) (or-true-cases (walkers.chosen Q from (suc k) (carried_at m v)) (shared Q (carried_at m v) && holder m v (suc k)) z)
+        go zero z = ⊎_elim (λ a. at-start (from (carried_at m v)) refl a) (stood-in 0) (or_cases (is_some (from (carried_at m v))) (shared Q (carried_at m v) && holder m v 0) z)
+        go (suc k) z = ⊎_elim (λ a. rw (go k a)) (stood-in (suc k)) (or_cases (walkers.chosen Q from (suc k) (carried_at m v)) (shared Q (carried_at m v) && holder m v (suc k)) z)
 
     -- and is carried if it stands in a later one
     later : (k : ℕ) (K : Stand) → Level P Q S from (suc k) K → (y t : ℕ) → elem y (vars (get_or Q (suc k) [])) ≡ true → K y ≡ some t → shared Q y ≡ true
     later k K h y t e q = ⊎_elim (λ c. c)
-        (λ c. ⊎_elim (λ d. d) (λ d. clash e (stands-alone Q 0 (suc k) y d (omega arith) (begins.stands y c.0 c.1))) (either (shared Q y)))
+        (λ c. ⊎_elim (λ d. d) (λ d. clash e (stands-alone Q 0 (suc k) y d (omega arith) (begins.stands y c.0 c.1))) (cases_Bool (shared Q y)))
         (level-named P Q S from (suc k) K h y t q)
 
     -- NO OTHER WALKER HAS TO COME ANYWHERE
@@ -225,7 +226,7 @@ module _ (m : Model) (wf : WellFormed m) (w : List ℕ) (s : States) (ex : Exact
     stands-there = first-stands m wf some-variable
 
     only-first : (y u : ℕ) → follows first t y ≡ some u → (y ≡ first) × (u ≡ t)
-    only-first y u = ⊎_elim (λ (z : eqb y first ≡ true). rw z (λ q. (eqb-true y first z, sym (some_same t u q)))) (λ (z : eqb y first ≡ false). rw z (λ q. no_none q)) (either (eqb y first))
+    only-first y u = ⊎_elim (λ (z : eqb y first ≡ true). rw z (λ q. (eqb-true y first z, sym (some_same t u q)))) (λ (z : eqb y first ≡ false). rw z (λ q. no_none q)) (cases_Bool (eqb y first))
 
     object-begins : Begins (follows first t)
     object-begins = record {

@@ -1,5 +1,5 @@
 -- A stage with the two variables in their places, and what becomes of a row of pairs.
-use mathlib.Core.Path.{◌≡◌, refl, sym, ◌∙◌, subst}
+use mathlib.Core.Path.{◌≡◌, refl, sym, ap, ◌∙◌, subst}
 use mathlib.Core.Logic.{◌↔◌, ◌≢◌}
 use mathlib.Core.Bool.{Bool, true, false, cond, ◌&&◌, and-eq-true_iff}
 use mathlib.Core.List.{List}
@@ -12,75 +12,70 @@ use Rattle.limits.specs.Limits as limit
 use Rattle.semantics.specs.Facts.{Database}
 use Rattle.semantics.proofs.Tools.{clash}
 use Rattle.facts_bits.specs.Width as width
-use Rattle.facts_bits.specs.Bits.{bit_at, Both, Empty}
+use Rattle.facts_bits.specs.Bits.{bit_at, Both}
 use Rattle.facts_bits.proofs.Laws.{full-bits}
 use Rattle.facts_candidates.specs.declared.Choice.{Choice}
-use Rattle.facts_candidates.specs.Choices.{chosen}
+use Rattle.facts_candidates.specs.Choices.{element_of}
+use Rattle.std.specs.Prelude.{Some, None, is_some}
 use Rattle.facts_find.specs.Bodies.{Fixed}
 use Rattle.facts_holds.proofs.Laws.{fixed_more}
 use Rattle.search_levels.specs.declared.Walker.{Walker}
 use Rattle.search_levels.specs.declared.Meeting.{Meeting}
 use Rattle.search_levels.specs.Levels.{pair_at, Seated}
-use Rattle.search_levels.specs.Passing.{Has, Picked, Onward, Led, Met, alone, Hopeful, Ready}
+use Rattle.search_levels.specs.Passing.{stands, place, Has, Picked, Onward, Led, Met, alone, Hopeful, Ready}
 use Rattle.search_levels.proofs.Rows.{has-so, has-nothing}
 
 -- THE CHOICES with slot e for a variable where it stands in the stage
 abbrev Seats : Choice → Walker → ℕ → Choice → Type 0
-Seats c a e r = (x : ℕ) → x < limit.variables → chosen r x ≡ cond (a.stands && eqb x a.seat) e (chosen c x)
+Seats c a e r = (x : ℕ) → x < limit.variables → element_of r x ≡ cond (stands a && eqb x (place a)) (Some e) (element_of c x)
 
-fixed-seated : (c r : Choice) (a : Walker) (v e : ℕ) → v ≤ limit.variables → e < width.slots → (a.stands ≡ true → a.seat < v) → (a.stands ≡ true → chosen c a.seat ≡ limit.none) → Seats c a e r
-    → (σ : ℕ → ℕ) → Fixed v r σ ↔ (Fixed v c σ × Seated a.stands σ a.seat e)
-fixed-seated c r a v e few l = go a.stands
+fixed-seated : (c r : Choice) (a : Walker) (v e : ℕ) → v ≤ limit.variables → (stands a ≡ true → place a < v) → (stands a ≡ true → element_of c (place a) ≡ None) → Seats c a e r
+    → (σ : ℕ → ℕ) → Fixed v r σ ↔ (Fixed v c σ × Seated (stands a) σ (place a) e)
+fixed-seated c r a v e few = go (stands a)
   where
-    go : (s : Bool) → (s ≡ true → a.seat < v) → (s ≡ true → chosen c a.seat ≡ limit.none) → ((x : ℕ) → x < limit.variables → chosen r x ≡ cond (s && eqb x a.seat) e (chosen c x))
-        → (σ : ℕ → ℕ) → Fixed v r σ ↔ (Fixed v c σ × Seated s σ a.seat e)
-    go true inside free law σ = fixed_more c r v a.seat e few (inside refl) l (free refl) law σ
+    go : (s : Bool) → (s ≡ true → place a < v) → (s ≡ true → element_of c (place a) ≡ None) → ((x : ℕ) → x < limit.variables → element_of r x ≡ cond (s && eqb x (place a)) (Some e) (element_of c x))
+        → (σ : ℕ → ℕ) → Fixed v r σ ↔ (Fixed v c σ × Seated s σ (place a) e)
+    go true inside free law σ = fixed_more c r v (place a) e few (inside refl) (free refl) law σ
     go false inside free law σ = (
-      (λ f. ((λ y g n. let z = law y (omega arith) in f y g (λ p. n (sym z ∙ p)) ∙ z), tt)),
-      λ f y g n. let z = law y (omega arith) in f.0 y g (λ p. n (z ∙ p)) ∙ sym z,
+      (λ f. ((λ y g i n. f y g i (law y (omega arith) ∙ n)), tt)),
+      λ f y g i n. f.0 y g i (sym (law y (omega arith)) ∙ n),
     )
 
-pub fixed-both : (c one both : Choice) (a b : Walker) (v e f : ℕ) → v ≤ limit.variables → e < limit.listed → f < limit.listed
-    → (a.stands ≡ true → a.seat < v) → (b.stands ≡ true → b.seat < v) → (a.stands ≡ true → b.stands ≡ true → a.seat ≢ b.seat)
-    → ((x : ℕ) → chosen c x ≡ limit.none) → Seats c a e one → Seats one b f both
-    → (σ : ℕ → ℕ) → Fixed v both σ ↔ (Seated a.stands σ a.seat e × Seated b.stands σ b.seat f)
-fixed-both c one both a b v e f few l h first second apart free p q σ =
-    let x = fixed-seated c one a v e few (omega arith) first (λ s. free a.seat) p σ in
-    let y = fixed-seated one both b v f few (omega arith) second other q σ in (
+pub fixed-both : (c one both : Choice) (a b : Walker) (v e f : ℕ) → v ≤ limit.variables
+    → (stands a ≡ true → place a < v) → (stands b ≡ true → place b < v) → (stands a ≡ true → stands b ≡ true → place a ≢ place b)
+    → ((x : ℕ) → element_of c x ≡ None) → Seats c a e one → Seats one b f both
+    → (σ : ℕ → ℕ) → Fixed v both σ ↔ (Seated (stands a) σ (place a) e × Seated (stands b) σ (place b) f)
+fixed-both c one both a b v e f few first second apart free p q σ =
+    let x = fixed-seated c one a v e few first (λ s. free (place a)) p σ in
+    let y = fixed-seated one both b v f few second other q σ in (
       (λ z. let k = y.0 z in ((x.0 k.0).1, k.1)),
-      λ z. y.1 (x.1 ((λ i g n. absurd (n (free i))), z.0), z.1),
+      λ z. y.1 (x.1 ((λ i g j n. clash (ap is_some n) (ap is_some (free i))), z.0), z.1),
     )
   where
-    go : (s : Bool) → (s ≡ true → a.seat ≢ b.seat) → cond (s && eqb b.seat a.seat) e (chosen c b.seat) ≡ limit.none
-    go true n = rw (ne_eqb b.seat a.seat (λ z. n refl (sym z))) (free b.seat)
-    go false n = free b.seat
+    go : (s : Bool) → (s ≡ true → place a ≢ place b) → cond (s && eqb (place b) (place a)) (Some e) (element_of c (place b)) ≡ None
+    go true n = rw (ne_eqb (place b) (place a) (λ z. n refl (sym z))) (free (place b))
+    go false n = free (place b)
 
-    other : b.stands ≡ true → chosen one b.seat ≡ limit.none
-    other s = p b.seat (let z = second s in omega arith) ∙ go a.stands (λ t. apart t s)
+    other : stands b ≡ true → element_of one (place b) ≡ None
+    other s = p (place b) (let z = second s in omega arith) ∙ go (stands a) (λ t. apart t s)
 
 module _ (w slots : List ℕ) (n : ℕ) (literals : List ℕ) (t : Meeting) (ready : Ready w slots n literals t) (S : Database) (many : length S ≡ n) where
   -- where a variable stands in the stage its slot is one of the n
-  pub first_below : t.first.stands ≡ true → (e f : ℕ) → Met S w literals t e f → e < n
-  first_below s e f h = subst (λ (u : ℕ). u < n) (rw s at h.2) (subst (λ (k : ℕ). h.0 t.first.seat < k) many (h.1.0 t.first.seat (ready.asked.body.body.every t.first.seat (ready.first s))))
+  pub first_below : stands t.first ≡ true → (e f : ℕ) → Met S w literals t e f → e < n
+  first_below s e f h = subst (λ (u : ℕ). u < n) (rw s at h.2) (subst (λ (k : ℕ). h.0 (place t.first) < k) many (h.1.0 (place t.first) (ready.asked.body.body.every (place t.first) (ready.first s))))
 
-  pub second_below : t.second.stands ≡ true → (e f : ℕ) → Met S w literals t e f → f < n
-  second_below s e f h = subst (λ (u : ℕ). u < n) (rw s at h.3) (subst (λ (k : ℕ). h.0 t.second.seat < k) many (h.1.0 t.second.seat (ready.asked.body.body.every t.second.seat (ready.second s))))
+  pub second_below : stands t.second ≡ true → (e f : ℕ) → Met S w literals t e f → f < n
+  second_below s e f h = subst (λ (u : ℕ). u < n) (rw s at h.3) (subst (λ (k : ℕ). h.0 (place t.second) < k) many (h.1.0 (place t.second) (ready.asked.body.body.every (place t.second) (ready.second s))))
 
 module _ (S w literals : List ℕ) (t : Meeting) (row : List ℕ) (f : ℕ) where
   abbrev Kept : ℕ → Type 0
   Kept e = (bit_at row e ≡ true) × Met S w literals t e f
 
   -- A ROW WHERE THE FIRST VARIABLE DOES NOT STAND in the stage: it is empty, or it stays, or nothing is left
-  any-first : t.first.stands ≡ false → (d e : ℕ) → Met S w literals t d f → Met S w literals t e f
+  any-first : stands t.first ≡ false → (d e : ℕ) → Met S w literals t d f → Met S w literals t e f
   any-first s d e h = (h.0, h.1, rw s tt, h.3, h.4)
 
-  pub met-empty : Empty row true → Has row Kept
-  met-empty z = record { bits = λ e l. ((λ q. clash q (z.none refl e)), λ q. q.0) }
-
-  pub met-kept : t.first.stands ≡ false → Met S w literals t 0 f → Has row Kept
-  met-kept s h = record { bits = λ e l. ((λ q. (q, any-first s 0 e h)), λ q. q.0) }
-
-  pub met-none : t.first.stands ≡ false → (Met S w literals t 0 f → ⊥) → Has (replicate width.bytes 0) Kept
+  pub met-none : stands t.first ≡ false → (Met S w literals t 0 f → ⊥) → Has (replicate width.bytes 0) Kept
   met-none s h = has-nothing Kept (λ e l q. h (any-first s e 0 q.1))
 
 module _ (S w literals ways : List ℕ) (t : Meeting) (A : ℕ → ℕ → Bool) (f : ℕ) where
@@ -102,11 +97,11 @@ module _ (S w literals ways : List ℕ) (t : Meeting) (A : ℕ → ℕ → Bool)
       λ b. both.bits e (omega arith) ∙ z.1 (p.1 b.0, q.1 b.1),
     )
 
-    unseated : t.second.stands ≡ false → (e : ℕ) → Met S w literals (alone t) e 0 → Met S w literals t e f
+    unseated : stands t.second ≡ false → (e : ℕ) → Met S w literals (alone t) e 0 → Met S w literals t e f
     unseated s e h = (h.0, h.1, h.2, rw s tt, h.4)
 
     -- all of them where the second variable does not stand in the stage,
-    pub paired-all : t.second.stands ≡ false → Has row Paired
+    pub paired-all : stands t.second ≡ false → Has row Paired
     paired-all s = record {
       bits = λ e g. let z = row-bits e g in (
         (λ q. let y = z.0 q in (y.0, unseated s e y.1.1)),
@@ -121,10 +116,6 @@ module _ (S w literals ways : List ℕ) (t : Meeting) (A : ℕ → ℕ → Bool)
       λ q. (z.1 (q.0, hoped e q), q.1),
     ))
 
-  -- where nobody is led there is no pair
-  pub paired-empty : (led : List ℕ) → Has led (λ e. Led ways t A e f) → Empty led true → Has led Paired
-  paired-empty led l z = record { bits = λ e g. ((λ q. clash q (z.none refl e)), λ q. (l.bits e g).1 q.0) }
-
   -- and none where the stage does not hold
   pub paired_none : ((e : ℕ) → Met S w literals t e f → ⊥) → Has (replicate width.bytes 0) Paired
   paired_none h = has-nothing Paired (λ e l q. h e q.1)
@@ -135,12 +126,12 @@ onward-so ways s c A B f e q = (q.0, q.1, f q.0 q.1 q.2, q.3)
 
 module _ (ways : List ℕ) (t : Meeting) (A B : ℕ → ℕ → Bool) (same : (u v : ℕ) → u < limit.listed → v < limit.listed → A u v ≡ B u v) where
   pub led-so : (e f : ℕ) → Led ways t A e f → Led ways t B e f
-  led-so e f = onward-so ways t.first.stands t.first.chosen (λ u. Onward ways t.second.stands t.second.chosen (λ v. A u v ≡ true) f) (λ u. Onward ways t.second.stands t.second.chosen (λ v. B u v ≡ true) f)
-      (λ u l. onward-so ways t.second.stands t.second.chosen (λ v. A u v ≡ true) (λ v. B u v ≡ true) (λ v g q. sym (same u v l g) ∙ q) f) e
+  led-so e f = onward-so ways (stands t.first) t.first.chosen (λ u. Onward ways (stands t.second) t.second.chosen (λ v. A u v ≡ true) f) (λ u. Onward ways (stands t.second) t.second.chosen (λ v. B u v ≡ true) f)
+      (λ u l. onward-so ways (stands t.second) t.second.chosen (λ v. A u v ≡ true) (λ v. B u v ≡ true) (λ v g q. sym (same u v l g) ∙ q) f) e
 
   pub hopeful-so : (S w literals : List ℕ) (e : ℕ) → Hopeful S w literals ways t A e → Hopeful S w literals ways t B e
   hopeful-so S w literals e q = (
-    onward-so ways t.first.stands t.first.chosen (λ u. (v : ℕ) × (v < limit.listed) × (A u v ≡ true)) (λ u. (v : ℕ) × (v < limit.listed) × (B u v ≡ true)) (λ u l z. (z.0, z.1, sym (same u z.0 l z.1) ∙ z.2)) e q.0,
+    onward-so ways (stands t.first) t.first.chosen (λ u. (v : ℕ) × (v < limit.listed) × (A u v ≡ true)) (λ u. (v : ℕ) × (v < limit.listed) × (B u v ≡ true)) (λ u l z. (z.0, z.1, sym (same u z.0 l z.1) ∙ z.2)) e q.0,
     q.1,
   )
 
@@ -153,14 +144,14 @@ onward-has ways s c row D h r = has-so r (Onward ways s c (λ u. bit_at row u �
 
 -- the hopeful slots, from all the rows of a level at once
 pub hopeful-has : (S w literals ways : List ℕ) (t : Meeting) (rows : List ℕ) (k : ℕ) (any : List ℕ) → Has any (Picked rows (limit.listed * k) (replicate width.bytes 255))
-    → (row : List ℕ) → Has row (Onward ways t.first.stands t.first.chosen (λ u. bit_at any u ≡ true)) → (r : List ℕ) → Has r (λ e. (bit_at row e ≡ true) × Met S w literals (alone t) e 0)
+    → (row : List ℕ) → Has row (Onward ways (stands t.first) t.first.chosen (λ u. bit_at any u ≡ true)) → (r : List ℕ) → Has r (λ e. (bit_at row e ≡ true) × Met S w literals (alone t) e 0)
     → Has r (Hopeful S w literals ways t (pair_at rows k))
 hopeful-has S w literals ways t rows k any h row g r = has-so r (λ e. (bit_at row e ≡ true) × Met S w literals (alone t) e 0) (Hopeful S w literals ways t (pair_at rows k)) (λ e l. let p = led.bits e l in (
   (λ q. (p.0 q.0, q.1)),
   λ q. (p.1 q.0, q.1),
 ))
   where
-    led : Has row (Onward ways t.first.stands t.first.chosen (λ u. (v : ℕ) × (v < limit.listed) × (pair_at rows k u v ≡ true)))
-    led = onward-has ways t.first.stands t.first.chosen any (λ u. (v : ℕ) × (v < limit.listed) × (pair_at rows k u v ≡ true))
+    led : Has row (Onward ways (stands t.first) t.first.chosen (λ u. (v : ℕ) × (v < limit.listed) × (pair_at rows k u v ≡ true)))
+    led = onward-has ways (stands t.first) t.first.chosen any (λ u. (v : ℕ) × (v < limit.listed) × (pair_at rows k u v ≡ true))
         (has-so any (Picked rows (limit.listed * k) (replicate width.bytes 255)) (λ u. (v : ℕ) × (v < limit.listed) × (pair_at rows k u v ≡ true)) (λ e l. ((λ q. (q.0, q.1, q.3)), λ q. (q.0, q.1, full-bits q.0 (omega (arith, q.1)), q.2)))
         h) row g

@@ -6,20 +6,20 @@ use mathlib.Core.List.{List}
 use Prim.Native.Nat.{ℕ, ◌+◌, ◌*◌, ◌≤◌, ◌<◌}
 use native.Mathlib.Omega.{arith}
 use lib.ListN.{replicate}
+use Rattle.std.proofs.lemmas.Bool.{cases_Bool}
 use Rattle.limits.specs.Limits as limit
-use Rattle.semantics.proofs.Tools.{either, same?, clash}
+use Rattle.semantics.proofs.Tools.{same?, clash}
 use Rattle.facts_bits.specs.Width as width
 use Rattle.facts_bits.specs.Bits.{bit_at, in_row, Copied, Joined}
 use Rattle.facts_bits.proofs.Laws.{full-bits}
 use Rattle.facts_bits.proofs.Changing.{before?}
 use Rattle.search_ways.specs.Moves.{Marks, With, InRow}
 use Rattle.search_ways.proofs.Marking.{marks-none, marks-so, marks-same, marks_then, marks-join}
-use Rattle.search_levels.specs.Levels.{pair_at}
-use Rattle.search_levels.specs.Passing.{Has, Picked, Onward}
+use Rattle.search_levels.specs.Passing.{Has, Onward}
 
 -- bytes that are 0 have no bit
 pub no-bit : (n i e : ℕ) → e < width.slots → in_row (replicate {A = ℕ} n 0) i e ≡ false
-no-bit n i e l = ⊎_elim (λ q. absurd (((marks-none n).bits i e l).0 q)) (λ q. q) (either (in_row (replicate {A = ℕ} n 0) i e))
+no-bit n i e l = ⊎_elim (λ q. absurd (((marks-none n).bits i e l).0 q)) (λ q. q) (cases_Bool (in_row (replicate {A = ℕ} n 0) i e))
 
 -- row 0 of a table is its first row
 row_zero : (w : List ℕ) (e : ℕ) → in_row w 0 e ≡ bit_at w e
@@ -105,34 +105,3 @@ module _ (ways row : List ℕ) where
 
   pub onward-none : bit_at row 0 ≡ false → Has (replicate width.bytes 0) (Onward ways true false (λ u. bit_at row u ≡ true))
   onward-none q = has-nothing (Onward ways true false (λ u. bit_at row u ≡ true)) (λ e l x. clash (subst (λ (u : ℕ). bit_at row u ≡ true) x.3 x.2) q)
-
-  pub onward-led : (r : List ℕ) → Has r (Picked ways 0 row) → Has r (Onward ways true true (λ u. bit_at row u ≡ true))
-  onward-led r = has-so r (Picked ways 0 row) (Onward ways true true (λ u. bit_at row u ≡ true)) (λ e l. (
-    (λ q. (q.0, q.1, q.2, subst (λ (i : ℕ). in_row ways i e ≡ true) (start q.0) q.3)),
-    λ q. (q.0, q.1, q.2, subst (λ (i : ℕ). in_row ways i e ≡ true) (sym (start q.0)) q.3),
-  ))
-    where
-      start : (u : ℕ) → 0 + u ≡ u
-      start u = omega arith
-
--- the same for the second object, where the rows of a matrix are its slots
-module _ (ways rows : List ℕ) (k f : ℕ) (here : f < limit.listed) where
-  pub gathered-same : (c : Bool) (r : List ℕ) → Copied rows (limit.listed * k + f) r → Has r (λ u. Onward ways false c (λ v. pair_at rows k u v ≡ true) f)
-  gathered-same c r h = record { bits = λ e l. ((λ q. (f, here, sym (h.bits e (omega arith)) ∙ q, refl)), λ q. h.bits e (omega arith) ∙ subst (λ (v : ℕ). pair_at rows k e v ≡ true) q.3 q.2) }
-
-  pub gathered-first : (r : List ℕ) → Copied rows (limit.listed * k) r → Has r (λ u. Onward ways true false (λ v. pair_at rows k u v ≡ true) f)
-  gathered-first r h = record {
-    bits = λ e l. (
-      (λ q. (0, omega arith, subst (λ (i : ℕ). in_row rows i e ≡ true) start (sym (h.bits e (omega arith)) ∙ q), refl)),
-      λ q. h.bits e (omega arith) ∙ subst (λ (i : ℕ). in_row rows i e ≡ true) (sym start) (subst (λ (v : ℕ). pair_at rows k e v ≡ true) q.3 q.2),
-    );
-  }
-    where
-      start : limit.listed * k ≡ limit.listed * k + 0
-      start = omega arith
-
-  pub gathered-led : (col r : List ℕ) → Has col (λ u. in_row ways u f ≡ true) → Has r (Picked rows (limit.listed * k) col) → Has r (λ u. Onward ways true true (λ v. pair_at rows k u v ≡ true) f)
-  gathered-led col r h = has-so r (Picked rows (limit.listed * k) col) (λ u. Onward ways true true (λ v. pair_at rows k u v ≡ true) f) (λ e l. (
-    (λ q. (q.0, q.1, q.3, (h.bits q.0 q.1).0 q.2)),
-    λ q. (q.0, q.1, (h.bits q.0 q.1).1 q.3, q.2),
-  ))

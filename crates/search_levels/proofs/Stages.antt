@@ -1,20 +1,21 @@
 -- The stages of an accepted question, with the numbers that the stages and the question have for the carried variables.
 use mathlib.Core.Path.{◌≡◌, refl, sym, ap, ◌∙◌, subst}
 use mathlib.Core.Logic.{⊎_elim, ◌↔◌}
-use mathlib.Core.Bool.{Bool, true, false, ◌||◌}
+use mathlib.Core.Bool.{Bool, true, false, cond, ◌||◌, false≢true}
 use mathlib.Core.List.{List, [], map}
 use Prim.Native.Nat.{ℕ, zero, suc, ◌≤◌, ◌<◌}
 use native.Mathlib.Omega.{arith}
-use borrow.Author.Tests.{ltb-true, ltb-false}
+use borrow.Author.Tests.{ltb-true, ltb-false, lt-ltb, le-ltb}
 use lib.Dec.{ltb}
 use lib.ListN.{length, take, get_or}
 use lib.Seq.{get_or-take, length-take-le}
+use Rattle.std.proofs.lemmas.Bool.{cases_Bool}
 use Rattle.limits.specs.Limits as limit
 use Rattle.semantics.specs.Models.{elem, Body, vars, names, supported, Supported}
 use Rattle.semantics.specs.Facts.{Database, Holds, In}
 use Rattle.semantics.specs.Runs.{named}
 use Rattle.semantics.specs.Tables.{seat}
-use Rattle.semantics.proofs.Tools.{either, clash, named-own, seat-ok}
+use Rattle.semantics.proofs.Tools.{clash, named-own, seat-ok}
 use Rattle.semantics.proofs.Bodies.{holds_agree, supported-vars}
 use Rattle.model.specs.declared.Model.{Model}
 use Rattle.model.specs.declared.Stage.{Stage}
@@ -28,11 +29,13 @@ use Rattle.facts_bits.specs.Bits.{bit_at}
 use Rattle.facts_table.specs.Table.{table_of, Consistent}
 use Rattle.facts_candidates.specs.Choices.{Own}
 use Rattle.facts_holds.specs.Shows.{Evaluable}
-use Rattle.search_states.proofs.Seats.{elem-get_or, seat-in, seat-out}
-use Rattle.std.specs.Prelude.{Option, Some, None, IfSome}
+use Rattle.search_states.proofs.Seats.{elem-get_or, seat-absent, seat-in, seat-out}
+use Rattle.search_states.specs.States.{Sought}
+use Rattle.std.specs.Prelude.{Option, Some, None, is_some, unwrap_or, IfSome}
+use Rattle.search_levels.specs.declared.Walker.{Walker}
 use Rattle.search_levels.specs.declared.Meeting.{Meeting}
 use Rattle.search_levels.specs.Levels.{holder, chosen, pair_at, Moved, Seated, Pointed, Next, Passed}
-use Rattle.search_levels.specs.Passing.{besides, Aimed, Led, Met, Ready, meeting_of}
+use Rattle.search_levels.specs.Passing.{stands, place, besides, Aimed, Led, Met, Ready, walker_of, meeting_of}
 
 -- VARIABLES of a stage and of the question: b has numbers of its own for them, and f are those of the question
 module _ (f : ℕ → ℕ) (b : Body) (inj : Injective f (vars b)) where
@@ -87,6 +90,28 @@ module _ (m : Model) where
   aimed-locally zero p σ h = h
   aimed-locally (suc k) p σ h = tt
 
+-- A NUMBER that is there as s says
+place-own : (s : Bool) (y : ℕ) → is_some (cond s (Some y) None) ≡ true → (s ≡ true) × (unwrap_or (cond s (Some y) None) 0 ≡ y)
+place-own true y q = (refl, refl)
+place-own false y q = absurd (false≢true q)
+
+place-there : (s : Bool) (y : ℕ) → is_some (cond s (Some y) None) ≡ s
+place-there true y = refl
+place-there false y = refl
+
+seated-there : (s : Bool) (σ : ℕ → ℕ) (y e : ℕ) → Seated (is_some (cond s (Some y) None)) σ (unwrap_or (cond s (Some y) None) 0) e → Seated s σ y e
+seated-there true σ y e h = h
+seated-there false σ y e h = h
+
+seated-here : (s : Bool) (σ : ℕ → ℕ) (y e : ℕ) → Seated s σ y e → Seated (is_some (cond s (Some y) None)) σ (unwrap_or (cond s (Some y) None) 0) e
+seated-here true σ y e h = h
+seated-here false σ y e h = h
+
+-- a variable's number in a row, as it is sought
+pub sought-place : (x : ℕ) (xs : List ℕ) (n : ℕ) (r : Option ℕ) → length xs ≡ n → Sought xs x r → r ≡ cond (ltb (seat x xs) n) (Some (seat x xs)) None
+sought-place x xs n None long s = rw (le-ltb (seat x xs) n (omega (arith, seat-absent x xs s, long))) refl
+sought-place x xs n (Some i) long s = rw (lt-ltb (seat x xs) n (omega (arith, (seat-ok x xs s.0).0, long)), s.1) refl
+
 -- STAGE k of a well-formed model
 module _ (m : Model) (wf : WellFormed m) (k : ℕ) (here : k < m.stagecount) where
   abbrev g : Stage
@@ -136,14 +161,14 @@ module _ (m : Model) (wf : WellFormed m) (k : ℕ) (here : k < m.stagecount) whe
         clash (subst (λ (v : ℕ). elem v (take g.variables g.numbers) ≡ true) (get_or-take g.variables g.numbers z.0 0 h ∙ sym z.2) (elem-get_or (take g.variables g.numbers) z.0 (rw length-numbered h)))
         (seat-out x (take g.variables g.numbers) g.variables length-numbered l))
         (λ e. e)
-        (either (elem x (vars (get_or (question_of m) k []))))
+        (cases_Bool (elem x (vars (get_or (question_of m) k []))))
 
     -- whether the stage has it
     stands-holder : ltb y g.variables ≡ elem x (vars (get_or (question_of m) k []))
     stands-holder = ⊎_elim
         (λ q. q ∙ sym (holder-here (ltb-true y g.variables q)))
         (λ q. q ∙ sym (holder-none (ltb-false y g.variables q)))
-        (either (ltb y g.variables))
+        (cases_Bool (ltb y g.variables))
 
     stands-number : ltb y g.variables ≡ true → f y ≡ x
     stands-number q = number-here (ltb-true y g.variables q)
@@ -152,8 +177,8 @@ module _ (m : Model) (wf : WellFormed m) (k : ℕ) (here : k < m.stagecount) whe
     stands-elem q = (stage-vars m wf k here y).1 (ltb-true y g.variables q)
 
   -- which carried variables stood in a stage before the next one
-  pub chosen-after : (v : ℕ) → (chosen m v k || ltb (y (carried_at m v)) g.variables) ≡ chosen m v (suc k)
-  chosen-after v = ap (λ (s : Bool). chosen m v k || s) (stands-holder (carried_at m v))
+  pub chosen-after : (v : ℕ) → (chosen m v k || stands (walker_of g (carried_at m v) (chosen m v k))) ≡ chosen m v (suc k)
+  chosen-after v = ap (λ (s : Bool). chosen m v k || s) (place-there (ltb (y (carried_at m v)) g.variables) (y (carried_at m v)) ∙ stands-holder (carried_at m v))
 
   -- THE STAGE WITH THE CARRIED VARIABLES, and what it asks besides
   module _ (p : Option (List ℕ)) (some : IfSome p (λ among. 0 < (stage_at m 0).variables)) where
@@ -165,9 +190,12 @@ module _ (m : Model) (wf : WellFormed m) (k : ℕ) (here : k < m.stagecount) whe
     stage-ready w slots n agree own few = record {
       asked = record { agree = agree; own = own; few = few; body = stage-evaluable };
       some = some-variable m k p some;
-      first = λ q. ltb-true _ _ q;
-      second = λ q. ltb-true _ _ q;
-      apart = λ p q e. absurd (let z = carried-differ m wf 0 1 (omega arith) (carried-own m wf 0 k (sym (stands-holder (carried_at m 0)) ∙ p)) (sym (stands-number (carried_at m 0) p) ∙ ap f e ∙ stands-number (carried_at m 1) q) in omega (arith, z));
+      first = λ q. let o = place-own (ltb (y (carried_at m 0)) g.variables) (y (carried_at m 0)) q in rw o.1 (ltb-true _ _ o.0);
+      second = λ q. let o = place-own (ltb (y (carried_at m 1)) g.variables) (y (carried_at m 1)) q in rw o.1 (ltb-true _ _ o.0);
+      apart = λ p q e.
+          let o = place-own (ltb (y (carried_at m 0)) g.variables) (y (carried_at m 0)) p in
+          let u = place-own (ltb (y (carried_at m 1)) g.variables) (y (carried_at m 1)) q in
+          absurd (let z = carried-differ m wf 0 1 (omega arith) (carried-own m wf 0 k (sym (stands-holder (carried_at m 0)) ∙ o.0)) (sym (stands-number (carried_at m 0) o.0) ∙ ap f (sym o.1 ∙ e ∙ u.1) ∙ stands-number (carried_at m 1) u.0) in omega (arith, z));
     }
 
     module _ (S w ways : List ℕ) where
@@ -184,20 +212,26 @@ module _ (m : Model) (wf : WellFormed m) (k : ℕ) (here : k < m.stagecount) whe
         ),
       )
         where
-          moved : (v u e : ℕ) → Moved ways (ltb (y (carried_at m v)) g.variables) (chosen m v k) u e → Moved ways (holder m v k) (chosen m v k) u e
-          moved v u e = subst (λ (s : Bool). Moved ways s (chosen m v k) u e) (stands-holder (carried_at m v))
+          walker : ℕ → Walker
+          walker v = walker_of g (carried_at m v) (chosen m v k)
 
-          moved_back : (v u e : ℕ) → Moved ways (holder m v k) (chosen m v k) u e → Moved ways (ltb (y (carried_at m v)) g.variables) (chosen m v k) u e
-          moved_back v u e = subst (λ (s : Bool). Moved ways s (chosen m v k) u e) (sym (stands-holder (carried_at m v)))
+          holds-it : (v : ℕ) → stands (walker v) ≡ holder m v k
+          holds-it v = place-there (ltb (y (carried_at m v)) g.variables) (y (carried_at m v)) ∙ stands-holder (carried_at m v)
 
-          outward : (v e : ℕ) (σ : ℕ → ℕ) → Seated (ltb (y (carried_at m v)) g.variables) σ (y (carried_at m v)) e → Seated (holder m v k) (globally (number_in g) b (stage-different m wf k here) σ) (carried_at m v) e
+          moved : (v u e : ℕ) → Moved ways (stands (walker v)) (chosen m v k) u e → Moved ways (holder m v k) (chosen m v k) u e
+          moved v u e = subst (λ (s : Bool). Moved ways s (chosen m v k) u e) (holds-it v)
+
+          moved_back : (v u e : ℕ) → Moved ways (holder m v k) (chosen m v k) u e → Moved ways (stands (walker v)) (chosen m v k) u e
+          moved_back v u e = subst (λ (s : Bool). Moved ways s (chosen m v k) u e) (sym (holds-it v))
+
+          outward : (v e : ℕ) (σ : ℕ → ℕ) → Seated (stands (walker v)) σ (place (walker v)) e → Seated (holder m v k) (globally (number_in g) b (stage-different m wf k here) σ) (carried_at m v) e
           outward v e σ q = subst (λ (s : Bool). Seated s (globally (number_in g) b (stage-different m wf k here) σ) (carried_at m v) e) (stands-holder (carried_at m v))
-              (seated-globally (number_in g) b (stage-different m wf k here) (ltb (y (carried_at m v)) g.variables) (carried_at m v) (y (carried_at m v)) e (stands-number (carried_at m v)) (stands-elem (carried_at m v)) σ q)
+              (seated-globally (number_in g) b (stage-different m wf k here) (ltb (y (carried_at m v)) g.variables) (carried_at m v) (y (carried_at m v)) e (stands-number (carried_at m v)) (stands-elem (carried_at m v)) σ (seated-there (ltb (y (carried_at m v)) g.variables) σ (y (carried_at m v)) e q))
 
-          inward : (v e : ℕ) (σ : ℕ → ℕ) → Seated (holder m v k) σ (carried_at m v) e → Seated (ltb (y (carried_at m v)) g.variables) (λ z. σ (number_in g z)) (y (carried_at m v)) e
+          inward : (v e : ℕ) (σ : ℕ → ℕ) → Seated (holder m v k) σ (carried_at m v) e → Seated (stands (walker v)) (λ z. σ (number_in g z)) (place (walker v)) e
           inward v e σ q =
-              seated-locally (number_in g) b (stage-different m wf k here) (ltb (y (carried_at m v)) g.variables) (carried_at m v) (y (carried_at m v)) e (stands-number (carried_at m v)) σ
-              (subst (λ (s : Bool). Seated s σ (carried_at m v) e) (sym (stands-holder (carried_at m v))) q)
+              seated-here (ltb (y (carried_at m v)) g.variables) (λ z. σ (number_in g z)) (y (carried_at m v)) e (seated-locally (number_in g) b (stage-different m wf k here) (ltb (y (carried_at m v)) g.variables) (carried_at m v) (y (carried_at m v)) e (stands-number (carried_at m v)) σ
+              (subst (λ (s : Bool). Seated s σ (carried_at m v) e) (sym (stands-holder (carried_at m v))) q))
 
           global : (e f : ℕ) → Met S w m.literals t e f → (σ : ℕ → ℕ) × Holds S (In (table_of w)) σ (get_or (question_of m) k []) × Seated (holder m 0 k) σ (carried_at m 0) e × Seated (holder m 1 k) σ (carried_at m 1) f × Pointed m p k σ
           global e f h = (

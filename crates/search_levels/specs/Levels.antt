@@ -1,7 +1,7 @@
 -- THE LEVELS OF A QUESTION: in which states the carried objects can be with so many stages met, pair by pair.
 -- S is the row of found states, and a slot is a place in it. Matrix k has the pairs of level k, with k stages met: bit e of its row f is set if the object
 -- of the first carried variable can be in slot e while that of the second is in slot f. As long as a variable stood in no stage its slot is 0 and says nothing.
-use Rattle.std.specs.Prelude.{◌≡◌, ◌↔◌, Bool, true, false, ◌||◌, Option, IfSome, List, [], ℕ, zero, suc, ◌+◌, ◌*◌, ◌<◌, length, get_or}
+use Rattle.std.specs.Prelude.{◌≡◌, ◌↔◌, Bool, true, false, ◌||◌, Option, IfSome, List, [], ℕ, zero, suc, ◌+◌, ◌*◌, ◌<◌, length, slice_index_or}
 use Rattle.limits.specs.Limits as limit
 use Rattle.semantics.specs.Models.{elem, Program, vars}
 use Rattle.semantics.specs.Facts.{Database, state}
@@ -22,7 +22,7 @@ levels_bytes = (limit.stages + 1) * matrix_bytes
 
 -- the carried variable of cell v stands in stage k, counted from 0
 abbrev pub holder : Model → ℕ → ℕ → Bool
-holder m v k = elem (carried_at m v) (vars (get_or (question_of m) k []))
+holder m v k = elem (carried_at m v) (vars (slice_index_or (question_of m) k []))
 
 -- it stands in one of the first k stages
 abbrev pub chosen : Model → ℕ → ℕ → Bool
@@ -32,6 +32,10 @@ chosen m v (suc k) = chosen m v k || holder m v k
 -- the pair of slot e for the first carried variable and slot f for the second is on level k
 abbrev pub pair_at : List ℕ → ℕ → ℕ → ℕ → Bool
 pair_at rows k e f = in_row rows (limit.listed * k + f) e
+
+-- they are slots, and their pair is there
+abbrev pub OnLevel : List ℕ → ℕ → ℕ → ℕ → Type 0
+OnLevel rows k e f = (e < limit.listed) × (f < limit.listed) × (pair_at rows k e f ≡ true)
 
 -- an object goes from slot u to slot e before a stage is met: it stays where its variable does not stand in the stage;
 -- where it does, any slot will do as long as it stood in none before, and else one to which its object can come, as `ways` says
@@ -65,7 +69,7 @@ pub record Aims (s : States) (ways : List ℕ) (t : ℕ) (among : List ℕ) : Ty
 -- level k + 1 has the pair e f, where level k has the pairs A: both objects are led on, each by itself, and stage k holds with them, as is asked besides
 abbrev pub Next : Model → Database → List ℕ → List ℕ → Option (List ℕ) → ℕ → (ℕ → ℕ → Bool) → ℕ → ℕ → Type 0
 Next m S w ways p k A e f = ((u v : ℕ) × (u < limit.listed) × (v < limit.listed) × (A u v ≡ true) × Moved ways (holder m 0 k) (chosen m 0 k) u e × Moved ways (holder m 1 k) (chosen m 1 k) v f)
-    × ((σ : ℕ → ℕ) × Shows S (table_of w) σ (get_or (question_of m) k []) × Seated (holder m 0 k) σ (carried_at m 0) e × Seated (holder m 1 k) σ (carried_at m 1) f × Pointed m p k σ)
+    × ((σ : ℕ → ℕ) × Shows S (table_of w) σ (slice_index_or (question_of m) k []) × Seated (holder m 0 k) σ (carried_at m 0) e × Seated (holder m 1 k) σ (carried_at m 1) f × Pointed m p k σ)
 
 -- STAGE k IS PASSED: level k has the pairs A, and level k + 1 has the pairs B
 pub record Passed (m : Model) (S : Database) (w ways : List ℕ) (p : Option (List ℕ)) (k : ℕ) (A B : ℕ → ℕ → Bool) : Type 0 where

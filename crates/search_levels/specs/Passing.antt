@@ -1,5 +1,5 @@
 -- PASSING A STAGE row by row, with the variables numbered within the stage.
-use Rattle.std.specs.Prelude.{◌≡◌, ◌↔◌, ◌≢◌, Bool, true, false, Option, None, IfSome, List, ℕ, zero, suc, ◌+◌, ◌≤◌, ◌<◌, ltb, length, take, get_or}
+use Rattle.std.specs.Prelude.{◌≡◌, ◌↔◌, ◌≢◌, Bool, true, false, if◌then◌else◌, Option, None, Some, is_some, unwrap_or, IfSome, List, ℕ, zero, suc, ◌+◌, ◌≤◌, ◌<◌, nat_lt, length, take, slice_index_or}
 use Rattle.limits.specs.Limits as limit
 use Rattle.semantics.specs.Facts.{Database}
 use Rattle.semantics.specs.Tables.{Shows, seat}
@@ -12,7 +12,7 @@ use Rattle.facts_candidates.specs.declared.Choice.{Choice}
 use Rattle.facts_candidates.specs.Choices.{Own}
 use Rattle.facts_find.specs.Bodies.{Fixed}
 use Rattle.facts_holds.specs.declared.Part.{Part}
-use Rattle.facts_holds.specs.Shows.{Evaluable}
+use Rattle.facts_holds.specs.Shows.{part_of, Evaluable}
 use Rattle.search_levels.specs.declared.Walker.{Walker}
 use Rattle.search_levels.specs.declared.Meeting.{Meeting}
 use Rattle.search_levels.specs.Levels.{Moved, Seated}
@@ -29,9 +29,16 @@ Picked table at picked e = (u : ℕ) × (u < limit.listed) × (bit_at picked u �
 abbrev pub Onward : List ℕ → Bool → Bool → (ℕ → Type 0) → ℕ → Type 0
 Onward ways s c A e = (u : ℕ) × (u < limit.listed) × A u × Moved ways s c u e
 
+-- a carried variable stands in the stage, and its number there
+abbrev pub stands : Walker → Bool
+stands a = is_some a.seat
+
+abbrev pub place : Walker → ℕ
+place a = unwrap_or a.seat 0
+
 -- both go to the pair e f from one of the pairs A
 abbrev pub Led : List ℕ → Meeting → (ℕ → ℕ → Bool) → ℕ → ℕ → Type 0
-Led ways t A e f = Onward ways t.first.stands t.first.chosen (λ u. Onward ways t.second.stands t.second.chosen (λ v. A u v ≡ true) f) e
+Led ways t A e f = Onward ways (stands t.first) t.first.chosen (λ u. Onward ways (stands t.second) t.second.chosen (λ v. A u v ≡ true) f) e
 
 -- what stage k asks besides
 abbrev pub besides : Option (List ℕ) → ℕ → Option (List ℕ)
@@ -49,15 +56,15 @@ Holding S w literals part c D = (σ : ℕ → ℕ) × Shows S (table_of w) σ (b
 -- the stage holds with the pair e f
 abbrev pub Met : Database → List ℕ → List ℕ → Meeting → ℕ → ℕ → Type 0
 Met S w literals t e f =
-    (σ : ℕ → ℕ) × Shows S (table_of w) σ (body_at literals t.part.first t.part.count) × Seated t.first.stands σ t.first.seat e × Seated t.second.stands σ t.second.seat f × Aimed t.pointing σ
+    (σ : ℕ → ℕ) × Shows S (table_of w) σ (body_at literals t.part.first t.part.count) × Seated (stands t.first) σ (place t.first) e × Seated (stands t.second) σ (place t.second) f × Aimed t.pointing σ
 
 -- the same stage with only the first variable in its place
 abbrev pub alone : Meeting → Meeting
-alone t = record { part = t.part; first = t.first; second = record { seat = 0; stands = false; chosen = false }; pointing = t.pointing }
+alone t = record { part = t.part; first = t.first; second = record { seat = None; chosen = false }; pointing = t.pointing }
 
 -- the first object can go to slot e, whatever the second does, and the stage holds with it
 abbrev pub Hopeful : Database → List ℕ → List ℕ → List ℕ → Meeting → (ℕ → ℕ → Bool) → ℕ → Type 0
-Hopeful S w literals ways t A e = Onward ways t.first.stands t.first.chosen (λ u. (v : ℕ) × (v < limit.listed) × (A u v ≡ true)) e × Met S w literals (alone t) e 0
+Hopeful S w literals ways t A e = Onward ways (stands t.first) t.first.chosen (λ u. (v : ℕ) × (v < limit.listed) × (A u v ≡ true)) e × Met S w literals (alone t) e 0
 
 -- what is said of the n states whose facts the work area has
 abbrev pub Over : List ℕ → ℕ → (Database → Type 0) → Type 0
@@ -74,19 +81,19 @@ pub record Asked (w slots : List ℕ) (n : ℕ) (literals : List ℕ) (part : Pa
 pub record Ready (w slots : List ℕ) (n : ℕ) (literals : List ℕ) (t : Meeting) : Type 0 where
   pub asked : Asked w slots n literals t.part
   pub some : IfSome t.pointing (λ among. 0 < t.part.variables)
-  pub first : t.first.stands ≡ true → t.first.seat < t.part.variables
-  pub second : t.second.stands ≡ true → t.second.seat < t.part.variables
-  pub apart : t.first.stands ≡ true → t.second.stands ≡ true → t.first.seat ≢ t.second.seat
+  pub first : stands t.first ≡ true → place t.first < t.part.variables
+  pub second : stands t.second ≡ true → place t.second < t.part.variables
+  pub apart : stands t.first ≡ true → stands t.second ≡ true → place t.first ≢ place t.second
 
 -- the variable of number x as a stage has it
 abbrev pub walker_of : Stage → ℕ → Bool → Walker
-walker_of g x c = record { seat = seat x (take g.variables g.numbers); stands = ltb (seat x (take g.variables g.numbers)) g.variables; chosen = c }
+walker_of g x c = let y = seat x (take g.variables g.numbers) in record { seat = if nat_lt y g.variables then Some y else None; chosen = c }
 
 abbrev pub meeting_of : Stage → List ℕ → Bool → Bool → Option (List ℕ) → Meeting
 meeting_of g carried c d p = record {
-  part = record { first = g.first; count = g.count; variables = g.variables };
-  first = walker_of g (get_or carried 0 limit.none) c;
-  second = walker_of g (get_or carried 1 limit.none) d;
+  part = part_of g;
+  first = walker_of g (slice_index_or carried 0 limit.none) c;
+  second = walker_of g (slice_index_or carried 1 limit.none) d;
   pointing = p;
 }
 

@@ -1,17 +1,17 @@
 // The levels of a question: in which states the carried objects can be with so many stages met, pair by pair, by who can come from which state to which.
 #![tactic(auto)]
 
-ghost use Rattle.std.specs.Prelude.{◌≡◌, ◌↔◌, true, cond, ◌&&◌, ◌||◌, ℕ, suc, ◌+◌, ◌*◌, ◌≤◌, ◌<◌, eqb, length, IfSome};
+ghost use Rattle.std.specs.Prelude.{◌≡◌, ◌↔◌, true, if◌then◌else◌, ◌&&◌, ◌||◌, ℕ, suc, ◌+◌, ◌*◌, ◌≤◌, ◌<◌, ◌==◌, length, MatchOption, IfSome};
 ghost use Rattle.limits.specs.Limits as limit;
 ghost use Rattle.model.specs.Records.{stage_at};
 ghost use Rattle.model.specs.WellFormed.{WellFormed};
 ghost use Rattle.facts_bits.specs.Width as width;
 ghost use Rattle.facts_bits.specs.Bits.{bit_at, in_row};
-ghost use Rattle.facts_candidates.specs.Choices.{chosen};
+ghost use Rattle.facts_candidates.specs.Choices.{element_of, chosen};
 ghost use Rattle.search_states.specs.States.{row, Proper};
 ghost use Rattle.search_ways.specs.Moves.{matrix_bytes, Exactly};
-ghost use Rattle.search_levels.specs.Levels.{Aims, pair_at, Filled};
-ghost use Rattle.search_levels.specs.Passing.{Has, Picked, Onward, Led, besides, Aimed, Holding, Met, Hopeful, Over, Asked, Ready, walker_of, meeting_of, Clear, Written};
+ghost use Rattle.search_levels.specs.Levels.{Aims, pair_at, OnLevel, Filled};
+ghost use Rattle.search_levels.specs.Passing.{stands, place, Has, Picked, Onward, Led, besides, Aimed, Holding, Met, Hopeful, Over, Asked, Ready, walker_of, meeting_of, Clear, Written};
 
 use facts_bits::{BYTES, SLOTS, WIDTH};
 use facts_candidates::Choice;
@@ -32,13 +32,19 @@ pub struct Levels {
     pub rows: [u8; LEVELS],
 }
 
-// A carried variable at a stage: its number in the stage, whether it stands there, and whether it stood in a stage before.
-// The flag `stands` stays beside the number: four functions ask for it alone, and the number is read in one.
+// The slots of the two carried objects; a slot says nothing as long as its variable stood in no stage.
+// Slot 0 stays for no slot: the pair is read in the matrix of its level, which has slot 0 there.
+#[derive(Clone, Copy)]
+pub struct Pair {
+    pub first: usize,
+    pub second: usize,
+}
+
+// A carried variable at a stage: its number in the stage, if it stands there, and whether it stood in a stage before.
 // The flag `chosen` stays: it is a fact about the stages before, and no field counts by it.
 #[derive(Clone, Copy)]
 struct Walker {
-    seat: usize,
-    stands: bool,
+    seat: Option<usize>,
     chosen: bool,
 }
 
@@ -71,13 +77,13 @@ fn asked_at(p: Option<[u8; BYTES]>, k: usize) -> Option<[u8; BYTES]>
 
 // The choice with slot e for the variable, where it stands in the stage.
 fn seated(c: Choice, a: Walker, e: usize) -> Choice
-    requires { a.stands ≡ true → a.seat < limit.variables }
-    ensures { (x : ℕ) → x < limit.variables → chosen result x ≡ cond (a.stands && eqb x a.seat) e (chosen c x) }
+    requires { stands a ≡ true → place a < limit.variables }
+    ensures { (x : ℕ) → x < limit.variables → element_of result x ≡ (if stands a && x == place a then Some e else element_of c x) }
 {
-    if a.stands {
-        return facts_candidates::choose(c, a.seat, e);
+    match a.seat {
+        Some(v) => facts_candidates::choose(c, v, e),
+        None => c,
     }
-    c
 }
 
 // Does the body hold for a choice with the fixed slots, and with a slot of the row for its first variable, which is free?
@@ -91,7 +97,7 @@ fn somewhere(
     row: [u8; BYTES],
     c: Choice,
 ) -> bool
-    requires { Asked work.now slots.now n literals.now part × (0 < part.variables) × (chosen c 0 ≡ limit.none) }
+    requires { Asked work.now slots.now n literals.now part × (0 < part.variables) × (element_of c 0 ≡ None) }
     ensures { Over work.now n (λ S. (result ≡ true) ↔ Holding S work.now literals.now part c (λ σ. bit_at row (σ 0) ≡ true)) }
 {
     for e in facts_bits::slots(row) {
@@ -122,8 +128,8 @@ fn pointed(
     let Some(among) = p else {
         return true;
     };
-    if c.first < SLOTS {
-        return facts_bits::get(&among, c.first);
+    if let Some(e) = c.first {
+        return facts_bits::get(&among, e);
     }
     somewhere(work, slots, n, literals, part, among, c)
 }
@@ -142,7 +148,7 @@ fn holds(
     requires { Ready work.now slots.now n literals.now t × (e < limit.listed) × (f < limit.listed) }
     ensures { Over work.now n (λ S. (result ≡ true) ↔ Met S work.now literals.now t e f) }
 {
-    let free = facts_holds::free();
+    let free = facts_candidates::free();
     let one = seated(free, t.first, e);
     let both = seated(one, t.second, f);
     pointed(work, slots, n, literals, t.part, t.pointing, both)
@@ -158,7 +164,7 @@ fn fitting(
     f: usize,
     row: [u8; BYTES],
 ) -> [u8; BYTES]
-    requires { Ready work.now slots.now n literals.now t × (t.first.stands ≡ true) × (f < limit.listed) }
+    requires { Ready work.now slots.now n literals.now t × (stands t.first ≡ true) × (f < limit.listed) }
     ensures { Over work.now n (λ S. Has result (λ e. (bit_at row e ≡ true) × Met S work.now literals.now t e f)) }
 {
     let mut out = [0u8; BYTES];
@@ -183,7 +189,7 @@ fn met(
     requires { Ready work.now slots.now n literals.now t × (f < limit.listed) }
     ensures { Over work.now n (λ S. Has result (λ e. (bit_at row e ≡ true) × Met S work.now literals.now t e f)) }
 {
-    if t.first.stands {
+    if t.first.seat.is_some() {
         return fitting(work, slots, n, literals, t, f, row);
     }
     if facts_bits::empty(row) {
@@ -226,9 +232,9 @@ fn column(ways: &[u8; MATRIX], f: usize) -> [u8; BYTES]
 
 // The slots to which the first object goes from the slots of a row.
 fn onward(ways: &[u8; MATRIX], a: Walker, row: [u8; BYTES]) -> [u8; BYTES]
-    ensures { Has result (Onward ways.now a.stands a.chosen (λ u. bit_at row u ≡ true)) }
+    ensures { Has result (Onward ways.now (stands a) a.chosen (λ u. bit_at row u ≡ true)) }
 {
-    if !a.stands {
+    if a.seat.is_none() {
         return row;
     }
     if a.chosen {
@@ -244,10 +250,10 @@ fn onward(ways: &[u8; MATRIX], a: Walker, row: [u8; BYTES]) -> [u8; BYTES]
 // The level and the row stay apart from the matrices, with their bounds in clauses: they are the numbers of two loops, while the matrices are lent.
 fn gathered(ways: &[u8; MATRIX], b: Walker, rows: &[u8; LEVELS], k: usize, f: usize) -> [u8; BYTES]
     requires { (k ≤ limit.stages) × (f < limit.listed) }
-    ensures { Has result (λ u. Onward ways.now b.stands b.chosen (λ v. pair_at rows.now k u v ≡ true) f) }
+    ensures { Has result (λ u. Onward ways.now (stands b) b.chosen (λ v. pair_at rows.now k u v ≡ true) f) }
 {
     let at = LISTED * k;
-    if !b.stands {
+    if b.seat.is_none() {
         return facts_bits::row(rows, at + f);
     }
     if b.chosen {
@@ -284,8 +290,7 @@ fn hopeful(
     let any = union(rows, LISTED * k, facts_bits::full());
     let row = onward(ways, t.first, any);
     let nobody = Walker {
-        seat: 0,
-        stands: false,
+        seat: None,
         chosen: false,
     };
     let part = t.part;
@@ -321,7 +326,7 @@ fn next_row(
         return pairs;
     }
     let row = facts_bits::both(pairs, able);
-    if !t.second.stands {
+    if t.second.seat.is_none() {
         return row;
     }
     if f < n {
@@ -357,12 +362,8 @@ fn standing(stage: Stage, x: u32, chosen: bool) -> Walker
     ensures { result ≡ walker_of stage x chosen }
 {
     let variables = stage.variables as usize;
-    let seat = search_states::seek(&stage.numbers[..variables], x).unwrap_or(variables);
-    Walker {
-        seat,
-        stands: seat < variables,
-        chosen,
-    }
+    let seat = search_states::seek(&stage.numbers[..variables], x);
+    Walker { seat, chosen }
 }
 
 // A stage with the carried variables, where it is known which of them stood in a stage before, and what is asked besides.
@@ -376,13 +377,8 @@ fn asked(
     requires { stage.variables ≤ length stage.numbers }
     ensures { result ≡ meeting_of stage carried first second pointing }
 {
-    let part = Part {
-        first: stage.first,
-        count: stage.count,
-        variables: stage.variables as usize,
-    };
     Meeting {
-        part,
+        part: Part::from(stage),
         first: standing(stage, carried[0], first),
         second: standing(stage, carried[1], second),
         pointing,
@@ -391,9 +387,9 @@ fn asked(
 
 // Whether the variable stood in a stage before the next one.
 fn after(w: Walker) -> bool
-    ensures { result ≡ (w.chosen || w.stands) }
+    ensures { result ≡ (w.chosen || stands w) }
 {
-    w.chosen || w.stands
+    w.chosen || w.seat.is_some()
 }
 
 // The levels of a question over the found states, where `ways` has who can come from which slot to which, and p is a row in which stage 1 asks besides for the slot of its first variable, or nothing.
@@ -414,4 +410,23 @@ pub fn fill(work: &[u8], m: Model, s: States, ways: &[u8; MATRIX], p: Option<[u8
         second = after(t.second);
     }
     Levels { rows }
+}
+
+// The first pair of level k, in the first row that has one.
+pub fn first_pair(rows: &[u8; LEVELS], k: usize) -> Option<Pair>
+    requires { k ≤ limit.stages }
+    ensures { MatchOption result ((e f : ℕ) → OnLevel rows.now k e f → ⊥) (λ p. OnLevel rows.now k p.first p.second) }
+{
+    for f in 0..LISTED {
+        let row = facts_bits::row(rows, LISTED * k + f);
+        if let Some(e) = facts_bits::first(&row, 0) {
+            if e < LISTED {
+                return Some(Pair {
+                    first: e,
+                    second: f,
+                });
+            }
+        }
+    }
+    None
 }

@@ -8,19 +8,20 @@ use native.Mathlib.Omega.{arith}
 use native.Mathlib.Numerals.{add-one}
 use borrow.Author.Tests.{eqb-true, eqb-false, eq-eqb, ne_eqb, lt-ltb, le-ltb}
 use lib.Dec.{eqb}
+use Rattle.std.proofs.lemmas.Bool.{cases_Bool, or_cases}
 use Rattle.std.specs.Prelude.{Option, Some, None}
 use lib.ListN.{length, length-set}
 use lib.Seq.{take-suc-set, length-take-le, get_or-set_same, get_or-set_other}
 use Rattle.limits.specs.Limits as limit
 use Rattle.semantics.specs.Models.{elem, Program, line, Distinct}
 use Rattle.semantics.specs.Tables.{From}
-use Rattle.semantics.proofs.Tools.{either, clash, or-true-cases, or-false, elem-cases}
+use Rattle.semantics.proofs.Tools.{clash, or-false, elem-cases}
 use Rattle.semantics.proofs.Growth.{founded-more}
 use Rattle.search_states.specs.declared.States.{States}
 use Rattle.search_states.specs.States.{row, by, from, nothing, appended, noted, added, Proper, Discovered}
 
 pub only_one : (x y : ℕ) → elem x (y ∷ []) ≡ true → x ≡ y
-only_one x y e = ⊎_elim (λ q. eqb-true x y q) (λ q. absurd (false≢true q)) (or-true-cases (eqb x y) false e)
+only_one x y e = ⊎_elim (λ q. eqb-true x y q) (λ q. absurd (false≢true q)) (or_cases (eqb x y) false e)
 
 -- a new element keeps a list distinct
 pub distinct_snoc : (xs : List ℕ) (t : ℕ) → Distinct xs → elem t xs ≡ false → Distinct (xs ++ (t ∷ []))
@@ -30,7 +31,7 @@ distinct_snoc (x ∷ xs) t d e =
       ⊎_elim
           (λ (q : elem x (xs ++ (t ∷ [])) ≡ true). ⊎_elim (λ r. clash r d.0) (λ r. absurd (eqb-false t x p.0 (sym (only_one x t r)))) (elem-cases x xs (t ∷ []) q))
           (λ (q : elem x (xs ++ (t ∷ [])) ≡ false). q)
-          (either (elem x (xs ++ (t ∷ [])))),
+          (cases_Bool (elem x (xs ++ (t ∷ [])))),
       distinct_snoc xs t d.1 p.1,
     )
 

@@ -9,10 +9,11 @@ use borrow.Author.Tests.{eqb-true}
 use lib.Dec.{eqb}
 use lib.ListN.{length, take, drop, replicate, take-append-drop}
 use lib.Seq.{length-take-le, get_or-take}
+use Rattle.std.proofs.lemmas.Bool.{or_cases}
 use Rattle.limits.specs.Limits as limit
 use Rattle.semantics.specs.Models.{elem, Program}
 use Rattle.semantics.specs.Tables.{seat}
-use Rattle.semantics.proofs.Tools.{or-true-cases, or_right, elem-here, seat-ok}
+use Rattle.semantics.proofs.Tools.{or_right, elem-here, seat-ok}
 use Rattle.search_states.specs.Rising.{Rising}
 use Rattle.search_states.specs.Listed.{Listed}
 
@@ -28,11 +29,11 @@ above x xs h y e = let q = seat-ok y xs e in subst (λ (z : ℕ). x < z) q.1 (h 
 
 -- the first number is the least
 least : (x : ℕ) (xs : List ℕ) → Rises (x ∷ xs) → (y : ℕ) → elem y (x ∷ xs) ≡ true → x ≤ y
-least x xs h y e = ⊎_elim (λ (q : eqb y x ≡ true). omega (arith, eqb-true y x q)) (λ (q : elem y xs ≡ true). omega (arith, above x xs h y q)) (or-true-cases (eqb y x) (elem y xs) e)
+least x xs h y e = ⊎_elim (λ (q : eqb y x ≡ true). omega (arith, eqb-true y x q)) (λ (q : elem y xs ≡ true). omega (arith, above x xs h y q)) (or_cases (eqb y x) (elem y xs) e)
 
 -- the others are those above it
 later : (x : ℕ) (xs : List ℕ) (y : ℕ) → x < y → elem y (x ∷ xs) ≡ true → elem y xs ≡ true
-later x xs y l e = ⊎_elim (λ (q : eqb y x ≡ true). absurd (omega (arith, eqb-true y x q))) (λ (q : elem y xs ≡ true). q) (or-true-cases (eqb y x) (elem y xs) e)
+later x xs y l e = ⊎_elim (λ (q : eqb y x ≡ true). absurd (omega (arith, eqb-true y x q))) (λ (q : elem y xs ≡ true). q) (or_cases (eqb y x) (elem y xs) e)
 
 same-rising : (xs ys : List ℕ) → Rises xs → Rises ys → ((z : ℕ) → elem z xs ≡ true → elem z ys ≡ true) → ((z : ℕ) → elem z ys ≡ true → elem z xs ≡ true) → xs ≡ ys
 same-rising [] [] g h to fro = refl

@@ -10,6 +10,7 @@ use borrow.Author.Tests.{lt-ltb, le-ltb}
 use lib.Dec.{eqb, ltb}
 use lib.ListN.{length, get_or}
 use native.Mathlib.Numerals.{one-add}
+use Rattle.std.proofs.lemmas.Bool.{cases_Bool}
 use Rattle.std.specs.List.{list_any, position}
 use Rattle.std.specs.Prelude.{Option, Some, None}
 use Rattle.std.specs.Option.{unwrap_or, IsSome}
@@ -18,7 +19,7 @@ use Rattle.std.proofs.lemmas.List.Recursion.{is_position_or_len}
 use Rattle.semantics.specs.Models.{elem}
 use Rattle.semantics.specs.Tables.{seat}
 use Rattle.search_states.specs.States.{Sought}
-use Rattle.semantics.proofs.Tools.{either, or-false, or_right, elem-here, seat-ok}
+use Rattle.semantics.proofs.Tools.{or-false, or_right, elem-here, seat-ok}
 
 -- a number that is not in the row has no place
 pub seat-absent : (x : ℕ) (xs : List ℕ) → elem x xs ≡ false → seat x xs ≡ length xs
@@ -31,7 +32,7 @@ seat-below x xs =
     ⊎_elim
     (λ (e : elem x xs ≡ true). rw (e, lt-ltb _ _ (seat-ok x xs e).0))
     (λ (e : elem x xs ≡ false). rw e (le-ltb (seat x xs) (length xs) (let q = seat-absent x xs e in omega arith)))
-    (either (elem x xs))
+    (cases_Bool (elem x xs))
 
 -- the same of a row of n numbers
 pub seat-in : (x : ℕ) (xs : List ℕ) (n : ℕ) → length xs ≡ n → seat x xs < n → elem x xs ≡ true
@@ -50,7 +51,7 @@ pub position-seat : (x : ℕ) (xs : List ℕ) → position (eqb x) xs ≡ cond (
 position-seat x xs = rw (← is_position_or_len (seat x) (eqb x) refl (λ y ys. ap (cond (eqb x y) 0) (sym (one-add (seat x ys)))) xs, seat-below x xs)
 
 pub sought-seat : (x : ℕ) (xs : List ℕ) (r : Option ℕ) → r ≡ position (eqb x) xs → Sought xs x r
-sought-seat x xs r h = rw (h, position-seat x xs) (⊎_elim (λ (e : elem x xs ≡ true). rw e (refl, refl)) (λ (e : elem x xs ≡ false). rw e refl) (either (elem x xs)))
+sought-seat x xs r h = rw (h, position-seat x xs) (⊎_elim (λ (e : elem x xs ≡ true). rw e (refl, refl)) (λ (e : elem x xs ≡ false). rw e refl) (cases_Bool (elem x xs)))
 
 -- it is found where it is there
 pub sought-known : (x : ℕ) (xs : List ℕ) (r : Option ℕ) → Sought xs x r → elem x xs ≡ true → IsSome r
@@ -67,7 +68,7 @@ pub position-there : (x : ℕ) (xs : List ℕ) (t : ℕ) → position (eqb x) xs
 position-there x xs t h = ⊎_elim
     (λ (e : elem x xs ≡ true). let q : seat x xs ≡ t = some-same (seat x xs) t (rw e at (sym (position-seat x xs) ∙ h)) in subst (λ (u : ℕ). (u < length xs) × (get_or xs u 0 ≡ x)) q (seat-ok x xs e))
     (λ (e : elem x xs ≡ false). absurd (none-some t (rw e at (sym (position-seat x xs) ∙ h))))
-    (either (elem x xs))
+    (cases_Bool (elem x xs))
   where
     some-same : (a b : ℕ) → ◌≡◌ {A = Option ℕ} (Some a) (Some b) → a ≡ b
     some-same a b e = cc
@@ -79,7 +80,7 @@ pub position-nowhere : (x : ℕ) (xs : List ℕ) → position (eqb x) xs ≡ Non
 position-nowhere x xs h = ⊎_elim
     (λ (e : elem x xs ≡ true). absurd (some-none (seat x xs) (rw e at (sym (position-seat x xs) ∙ h))))
     (λ (e : elem x xs ≡ false). e)
-    (either (elem x xs))
+    (cases_Bool (elem x xs))
   where
     some-none : (b : ℕ) → ◌≡◌ {A = Option ℕ} (Some b) None → ⊥
     some-none b e = cc

@@ -11,6 +11,7 @@ use borrow.Rule.Slice.PartMut.{put_mid}
 use lib.Dec.{eqb, ltb}
 use lib.ListN.{length, take, drop, get_or, replicate, length-append, length-replicate, take-append-drop}
 use lib.Seq.{length-take-le, get_or-take}
+use Rattle.std.proofs.lemmas.Bool.{cases_Bool, or_cases}
 use Rattle.std.proofs.lemmas.List.{get_or-drop, length-drop, length-take, drop-replicate}
 use Rattle.std.proofs.lemmas.List.Sorted.{length_permutation, IsPermutation-sym, Contains-permutation}
 use Rattle.std.proofs.lemmas.Slice.{take-put_mid, take-put_mid_below, drop-put_mid, between-put_mid}
@@ -19,7 +20,7 @@ use Rattle.std.proofs.iter.runs.Made.{zero_default}
 use Rattle.limits.specs.Limits as limit
 use Rattle.semantics.specs.Models.{elem, Distinct}
 use Rattle.semantics.specs.Tables.{seat}
-use Rattle.semantics.proofs.Tools.{either, same?, clash, or_right, or-true-cases, distinct-length, seat-ok, elem-left, elem-right}
+use Rattle.semantics.proofs.Tools.{same?, clash, or_right, distinct-length, seat-ok, elem-left, elem-right}
 use Rattle.search_states.specs.declared.States.{States}
 use Rattle.search_states.specs.States.{row, Known, Proper}
 use Rattle.search_states.specs.Rising.{Lists}
@@ -60,7 +61,7 @@ module _ (xs ys : List ℕ) (distinct : Distinct xs) (p : IsPermutation xs ys) (
         (λ (b : ltb k i ≡ true). let c = ltb-true k i b in
         elem-left x (take i ys) (drop (suc i) ys) (subst (λ (y : ℕ). elem y (take i ys) ≡ true) (get_or-take i ys k 0 c ∙ q.1) (elem-get_or (take i ys) k (omega (arith, c, length-take-le i ys (omega arith))))))
         (λ (b : ltb k i ≡ false). subst (λ (y : ℕ). elem y rest ≡ true) q.1 (late k (omega (arith, z, ltb-false k i b)) q.0))
-        (either (ltb k i)))
+        (cases_Bool (ltb k i)))
         (same? k i)
 
     rises : get_or ys i 0 < get_or ys j 0
@@ -105,7 +106,7 @@ module _ (s : States) (proper : Proper s) (ys : List ℕ) (p : IsPermutation (ro
   in-order true e = (
     first,
     λ t. (
-      λ q. ⊎_elim (λ z. inl (eqb-true t 0 z, e)) (λ z. inr (back t z)) (or-true-cases (eqb t 0) (elem t ys) q),
+      λ q. ⊎_elim (λ z. inl (eqb-true t 0 z, e)) (λ z. inr (back t z)) (or_cases (eqb t 0) (elem t ys) q),
       λ k. ⊎_elim (λ q. rw q.0) (λ q. or_right (eqb t 0) (elem t ys) (same-elem (row s) ys p t q)) k,
     ),
   )

@@ -1,5 +1,5 @@
 -- THE ROW OF STATES that a search has found, in order of discovery, each with the line that it came by and the earlier state that it came from; the empty state is noted beside it.
-use Rattle.std.specs.Prelude.{◌≡◌, ◌⊎◌, true, false, cond, Option, Some, None, MatchOption, List, ℕ, ◌+◌, ◌≤◌, ◌<◌, eqb, ltb, length, take, get_or, set, replicate}
+use Rattle.std.specs.Prelude.{◌≡◌, ◌⊎◌, true, false, if◌then◌else◌, Option, Some, None, MatchOption, List, ℕ, ◌+◌, ◌≤◌, ◌<◌, ◌==◌, nat_lt, length, take, slice_index, set, replicate}
 use Rattle.limits.specs.Limits as limit
 use Rattle.semantics.specs.Models.{elem, Program, Distinct}
 use Rattle.semantics.specs.Facts.{Database}
@@ -12,10 +12,10 @@ row s = take s.count s.states
 
 -- the line that state i came by, and the state that it came from
 abbrev pub by : States → ℕ → ℕ
-by s i = get_or s.lines i 0
+by s i = slice_index s.lines i
 
 abbrev pub from : States → ℕ → ℕ
-from s i = get_or s.origins i 0
+from s i = slice_index s.origins i
 
 -- the state is found: it is empty and noted, or in the row
 abbrev pub Known : States → ℕ → Type 0
@@ -36,7 +36,7 @@ noted s = record { states = s.states; lines = s.lines; origins = s.origins; coun
 
 -- the state is added where it is not found: the empty one is noted, any other stands behind, and there is none where there is no room
 unfoldable pub added : States → ℕ → ℕ → ℕ → Option States
-added s t ℓ p = cond (eqb t 0) (Some (noted s)) (cond (elem t (row s)) (Some s) (cond (ltb s.count limit.atomic) (Some (appended s t ℓ p)) None))
+added s t ℓ p = if t == 0 then Some (noted s) else (if elem t (row s) then Some s else (if nat_lt s.count limit.atomic then Some (appended s t ℓ p) else None))
 
 -- r is the first place of x in the row, if it is there
 abbrev pub Sought : List ℕ → ℕ → Option ℕ → Type 0

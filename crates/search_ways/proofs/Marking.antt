@@ -8,7 +8,8 @@ use native.Mathlib.Omega.{arith}
 use borrow.Author.Tests.{eq-eqb, eqb-true, ltb-true, ltb-false}
 use lib.Dec.{eqb, ltb}
 use lib.ListN.{length, get_or, replicate, get_or-replicate, length-replicate, get_or-eq_default}
-use Rattle.semantics.proofs.Tools.{either, same?, has-empty, or-true-cases, or_right}
+use Rattle.std.proofs.lemmas.Bool.{cases_Bool, or_cases}
+use Rattle.semantics.proofs.Tools.{same?, has-empty, or_right}
 use Rattle.facts_bits.specs.Width as width
 use Rattle.facts_bits.specs.Bits.{bit_at, with_bit, in_row, Joined}
 use Rattle.facts_bits.proofs.Laws.{with-bit}
@@ -23,7 +24,7 @@ marks-zero w n long h = record { bits = λ i e l. ((λ q. false≢true (sym (rw 
     zero i e = ⊎_elim
         (λ q. h ((i * width.bits + e) / 8) 0 (ltb-true ((i * width.bits + e) / 8) n q) refl)
         (λ q. get_or-eq_default w 0 (omega (arith, long, ltb-false ((i * width.bits + e) / 8) n q)))
-        (either (ltb ((i * width.bits + e) / 8) n))
+        (cases_Bool (ltb ((i * width.bits + e) / 8) n))
 
 pub marks-none : (n : ℕ) → Marks (replicate {A = ℕ} n 0) None
 marks-none n = marks-zero (replicate n 0) n (length-replicate n 0) (λ k d l e. get_or-replicate n k 0 d l)
@@ -43,7 +44,7 @@ marks-bit w i e h room = record {
     λ q. ⊎_elim
         (λ r. let z = eqb-true (k * width.bits + t) (i * width.bits + e) r in inr (omega arith, omega arith))
         (λ r. inl r)
-        (or-true-cases (eqb (k * width.bits + t) (i * width.bits + e)) (in_row w k t) (sym (law k t) ∙ q)),
+        (or_cases (eqb (k * width.bits + t) (i * width.bits + e)) (in_row w k t) (sym (law k t) ∙ q)),
     λ q. law k t ∙ ⊎_elim (λ r. or_right (eqb (k * width.bits + t) (i * width.bits + e)) (in_row w k t) r) (λ r. rw (eq-eqb (k * width.bits + t) (i * width.bits + e) (rw (r.0, r.1)))) q,
   );
 }
@@ -95,7 +96,7 @@ marks-join w k r w' h = record {
     λ q. ⊎_elim
         (λ x. inl x)
         (λ x. let y = (and-eq-true_iff (eqb i k) (bit_at r e)).0 x in inr (eqb-true i k y.0, l, y.1))
-        (or-true-cases (in_row w i e) (eqb i k && bit_at r e) (sym (h i e (omega arith)) ∙ q)),
+        (or_cases (in_row w i e) (eqb i k && bit_at r e) (sym (h i e (omega arith)) ∙ q)),
     λ q. h i e (omega arith) ∙ ⊎_elim
         (λ x. rw x)
         (λ x. or_right (in_row w i e) (eqb i k && bit_at r e) ((and-eq-true_iff (eqb i k) (bit_at r e)).1 (eq-eqb i k x.0, x.2)))

@@ -11,12 +11,13 @@ use lib.Dec.{eqb, ltb}
 use borrow.Author.Tests.{eqb-true, eqb-false, ltb-true, ltb-false}
 use lib.ListN.{length, set, take, length-set}
 use lib.Seq.{slice, slice-cons, take-set-lt, drop-set-lt, get_or-set_same}
+use Rattle.std.proofs.lemmas.Bool.{cases_Bool}
 use Rattle.limits.specs.Limits as limit
 use Rattle.semantics.specs.Models.{line}
 use Rattle.semantics.specs.Facts.{state}
 use Rattle.semantics.specs.Tables.{seat}
 use Rattle.semantics.specs.Walkers.{Whole, Takes, Way, Comes}
-use Rattle.semantics.proofs.Tools.{either, same?, clash, seat-ok}
+use Rattle.semantics.proofs.Tools.{same?, clash, seat-ok}
 use Rattle.semantics.proofs.WalkersMoves.{elem-state, comes-empty, short-way}
 use Rattle.semantics.proofs.WalkersSlots.{one-slot, takes-within}
 use Rattle.model.specs.declared.Model.{Model}
@@ -101,7 +102,7 @@ module _ (w : List ℕ) (n : ℕ) (few : n ≤ limit.listed) (e : ℕ) where
 
 -- some other number of pairs leads there, and it is greater
 pub farther : (w : List ℕ) (n e t j : ℕ) → (k : ℕ) × (k < n) × Near w n k e t → NotBefore w n (j + 1) e t → j + 1 < n
-farther w n e t j (k, l, h) f = ⊎_elim (λ q. absurd (f k (ltb-true k (j + 1) q) h)) (λ q. omega (arith, ltb-false k (j + 1) q)) (either (ltb k (j + 1)))
+farther w n e t j (k, l, h) f = ⊎_elim (λ q. absurd (f k (ltb-true k (j + 1) q) h)) (λ q. omega (arith, ltb-false k (j + 1) q)) (cases_Bool (ltb k (j + 1)))
 
 -- one pair before
 near-cons : (w : List ℕ) (n j e u t : ℕ) → e < n → in_row w e u ≡ true → Near w n j u t → Near w n (suc j) e t
@@ -132,7 +133,7 @@ module _ (m : Model) (wf : WellFormed m) (s : States) (proper : Proper s) (whole
 
     -- no way is shorter than the least number of pairs
     pub least-way : (k : ℕ) → NotBefore links s.count k e t → (ls : List ℕ) → Way (program_of m) (row s) (state (row s) e) ls (state (row s) t) → k ≤ length ls
-    least-way k f ls w = ⊎_elim (λ q. absurd (f (length ls) (ltb-true (length ls) k q) (way-near ls e t l h w))) (λ q. ltb-false (length ls) k q) (either (ltb (length ls) k))
+    least-way k f ls w = ⊎_elim (λ q. absurd (f (length ls) (ltb-true (length ls) k q) (way-near ls e t l h w))) (λ q. ltb-false (length ls) k q) (cases_Bool (ltb (length ls) k))
 
 -- a slot from which one pair leads to what was not reached before was itself not reached before
 pub not-before : (w : List ℕ) (n j e u t : ℕ) → u < n → NotBefore w n (j + 1) e t → in_row w u t ≡ true → NotBefore w n j e u
@@ -146,7 +147,7 @@ slice-more out j k x l h =
 
 -- what a test says
 pub says_eq : (a b : ℕ) → Says (eqb a b) (a ≡ b)
-says_eq a b = ⊎_elim (λ (q : eqb a b ≡ true). rw q (eqb-true a b q)) (λ (q : eqb a b ≡ false). rw q (eqb-false a b q)) (either (eqb a b))
+says_eq a b = ⊎_elim (λ (q : eqb a b ≡ true). rw q (eqb-true a b q)) (λ (q : eqb a b ≡ false). rw q (eqb-false a b q)) (cases_Bool (eqb a b))
 
 pub says-bit : (b c : Bool) → b ≡ c → Says b (c ≡ true)
 says-bit true c q = sym q

@@ -70,12 +70,13 @@ fn lead_at(states: &[u32], plus: u32, minus: u32, e: usize, ways: &mut [u8; MATR
     ensures { Marks ways.new (With ways.old (InRow e (length states.now) (λ t. state states.now t ≡ relabel (state states.now e) plus minus))) }
 {
     let led = labels::relabel(states[e], plus, minus);
-    if let Some(t) = states.iter().position(|state| led == *state) {
+    if let Some(t) = search_states::seek(states, led) {
         facts_bits::put(ways, e * WIDTH + t);
     }
 }
 
 // Marks where a `next` clause leads from each slot of its row of the table.
+// It stays beside `lead` of game_moves: a state without a slot is passed over here, and is the empty one there, whose slot is marked.
 fn lead_next(
     states: &[u32],
     plus: u32,

@@ -6,12 +6,13 @@ use mathlib.Core.List.{List}
 use Prim.Native.Nat.{ℕ, ◌<◌}
 use native.Mathlib.Omega.{arith}
 use lib.ListN.{length, take}
+use Rattle.std.proofs.lemmas.Bool.{cases_Bool}
 use Rattle.semantics.specs.Models.{elem}
 use Rattle.semantics.specs.Facts.{Database, state}
 use Rattle.semantics.specs.Steps.{Reachable}
 use Rattle.semantics.specs.Tables.{Within, seat}
 use Rattle.semantics.specs.Walkers.{Comes}
-use Rattle.semantics.proofs.Tools.{either, seat-ok}
+use Rattle.semantics.proofs.Tools.{seat-ok}
 use Rattle.semantics.proofs.WalkersMoves.{comes-empty}
 use Rattle.model.specs.declared.Model.{Model}
 use Rattle.model.specs.Records.{program_of}
@@ -65,7 +66,7 @@ module _ (m : Model) (wf : WellFormed m) (w : List ℕ) (r : Explored) (h : Surv
       }
 
   full : elem 0 (row r.states) ≡ false
-  full = ⊎_elim (λ e. absurd (row-full r.states h.proper e)) (λ e. e) (either (elem 0 (row r.states)))
+  full = ⊎_elim (λ e. absurd (row-full r.states h.proper e)) (λ e. e) (cases_Bool (elem 0 (row r.states)))
 
   helped : (R : Database → Type 0) → ((H : Database) → Helpers (program_of m) H → R H) → Helped (program_of m) R
   helped R so = let k = some-helpers (program_of m) (row r.states) r.states.empty h.proper.distinct full h.reachable in record { row = k.0; helpers = k.1; so = so }

@@ -17,9 +17,8 @@ use facts_bits::WIDTH;
 use facts_heads::ROOM;
 use model::Model;
 use rows::{Refusal, Row};
-use search::Explored;
+use search::{Explored, Moves};
 use search_states::States;
-use search_ways::{MATRIX, TABLE};
 
 // Is the state found?
 fn known(s: States, state: u32) -> bool
@@ -36,35 +35,24 @@ fn known(s: States, state: u32) -> bool
 fn between(
     m: Model,
     s: States,
-    table: &[u8; TABLE],
-    links: &[u8; MATRIX],
-    ways: &[u8; MATRIX],
+    moves: &Moves,
     from: usize,
     to: usize,
     run: &mut [u32],
 ) -> Option<usize>
-    requires { Mapped m s table.now links.now ways.now × (from < s.count) × (to < s.count) × (s.count ≤ length run.old) }
+    requires { Mapped m s moves.now.table moves.now.steps moves.now.ways × (from < s.count) × (to < s.count) × (s.count ≤ length run.old) }
     ensures { Ended (program_of m) (row s) (state (row s) from) (state (row s) to) run.old run.new result }
 {
-    if !facts_bits::get(ways, from * WIDTH + to) {
+    if !facts_bits::get(&moves.ways, from * WIDTH + to) {
         return None;
     }
-    Some(search_ways::way(m, s, table, links, from, to, run))
+    Some(search_ways::way(m, s, &moves.table, &moves.steps, from, to, run))
 }
 
 // A shortest way from one found state to another one; from the empty state there is none.
 // The two states stay beside the model and the row, since C gives them apart.
-fn onward(
-    m: Model,
-    s: States,
-    table: &[u8; TABLE],
-    links: &[u8; MATRIX],
-    ways: &[u8; MATRIX],
-    from: u32,
-    to: u32,
-    run: &mut [u32],
-) -> Option<usize>
-    requires { Mapped m s table.now links.now ways.now × Known s from × Known s to × (from ≢ to) × (s.count ≤ length run.old) }
+fn onward(m: Model, s: States, moves: &Moves, from: u32, to: u32, run: &mut [u32]) -> Option<usize>
+    requires { Mapped m s moves.now.table moves.now.steps moves.now.ways × Known s from × Known s to × (from ≢ to) × (s.count ≤ length run.old) }
     ensures { Ended (program_of m) (row s) from to run.old run.new result }
 {
     if from == 0 {
@@ -72,10 +60,10 @@ fn onward(
     }
     let e = search_states::seek(&s.states[..s.count], from).unwrap();
     if to == 0 {
-        return shortest_empty::way(m, s, table, links, ways, e, run);
+        return shortest_empty::way(m, s, &moves.table, &moves.steps, &moves.ways, e, run);
     }
     let u = search_states::seek(&s.states[..s.count], to).unwrap();
-    between(m, s, table, links, ways, e, u, run)
+    between(m, s, moves, e, u, run)
 }
 
 // The answer that the explored states give.
@@ -93,26 +81,13 @@ fn find(
         return Err(CROWDED);
     };
     let s = found.states;
-    if !known(s, from) {
-        return Err(Refusal {
-            row: Row::Unreachable,
-            line: 0,
-        });
-    }
-    if !known(s, to) {
-        return Err(Refusal {
-            row: Row::Unreachable,
-            line: 0,
-        });
+    if !known(s, from) || !known(s, to) {
+        return Err(Row::Unreachable.refusal());
     }
     if from == to {
         return Ok(Some(0));
     }
-    let moves = found.moves;
-    let table = moves.table;
-    let links = moves.steps;
-    let ways = moves.ways;
-    Ok(onward(m, s, &table, &links, &ways, from, to, run))
+    Ok(onward(m, s, &found.moves, from, to, run))
 }
 
 // Explores a well-formed model, writes a shortest way where there is one and says how many steps it has, and leaves the work bytes zero.

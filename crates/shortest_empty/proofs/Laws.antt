@@ -17,7 +17,7 @@ use Rattle.semantics.proofs.Tools.{same?, seat-ok}
 use Rattle.semantics.proofs.WalkersMoves.{elem-state, way-append}
 use Rattle.semantics.proofs.WalkersSlots.{takes-within}
 use Rattle.search_ways.specs.Shortest.{Shortest}
-use Rattle.shortest_empty.specs.Emptying.{Empties, Approached, Approach, NearestTo, Nearest, Fewest}
+use Rattle.shortest_empty.specs.Emptying.{Empties, Approach, NearestTo, Nearest, Fewest}
 
 pub take-most : (k : ℕ) (xs : List ℕ) → length (take k xs) ≤ k
 take-most zero xs = omega arith
@@ -44,17 +44,6 @@ module _ (P : Program) (S : Database) (e : ℕ) where
   pub sofar-none : (u k : ℕ) (near : Option ℕ) → SoFar u k near → Approach P S e u None → SoFar (u + 1) k near
   sofar-none u k None (q, h) a = (q, below_more _ _ h (λ ls ℓ w x. a ls ℓ w x))
   sofar-none u k (Some v) b a = record { here = b.here; empties = b.empties; way = b.way; least = below_more _ _ b.least (λ ls ℓ w x. absurd (a ls ℓ w x)) }
-
-  pub sofar-other : (u k : ℕ) (near : Option ℕ) (j : ℕ) → SoFar u k near → Approached P S e u j → k ≤ j → SoFar (u + 1) k near
-  sofar-other u k None j (q, h) a l = absurd (omega (arith, q, a.few))
-  sofar-other u k (Some v) j b a l = record { here = b.here; empties = b.empties; way = b.way; least = below_more _ _ b.least (λ ls ℓ w x. omega (arith, a.least ls w)) }
-
-  pub sofar-nearer : (u k : ℕ) (near : Option ℕ) (j : ℕ) → SoFar u k near → Approached P S e u j → u < length S → j < k → SoFar (u + 1) j (Some u)
-  sofar-nearer u k near j b a l h = record { here = l; empties = a.empties; way = a.way; least = below_more _ _ (before near b) (λ ls ℓ w x. a.least ls w) }
-    where
-      before : (near : Option ℕ) → SoFar u k near → (v : ℕ) → v < u → (ls : List ℕ) (ℓ : ℕ) → Way P S (state S e) ls (state S v) → Empties P S v ℓ → j ≤ length ls
-      before None b v q ls ℓ w x = absurd (b.1 v q ls ℓ w x)
-      before (Some n) b v q ls ℓ w x = omega (arith, h, b.least v q ls ℓ w x)
 
   pub sofar-all : (k : ℕ) (near : Option ℕ) → SoFar (length S) k near → Nearest P S e near
   sofar-all k None b = λ v ls ℓ l w x. b.1 v l ls ℓ w x

@@ -11,6 +11,7 @@ use lib.Dec.{eqb, ltb}
 use lib.ListN.{length, length-append, length-set, length-map, get_or-append}
 use lib.Seq.{get_or-append_seam, get_or-set_same, get_or-set_other}
 use borrow.Author.Tests.{ltb-true, ltb-false}
+use Rattle.std.proofs.lemmas.Bool.{cases_Bool}
 use Rattle.semantics.specs.Labels.{has, union, difference, relabel}
 use Rattle.semantics.specs.Models.{elem, is, isnt, Body, Line, rule, new, next, other, Program, line, Question, vars, shared, firsts, names, SafeLine, Safe}
 use Rattle.semantics.specs.Facts.{Database, state, Chosen, Meets}
@@ -18,7 +19,7 @@ use Rattle.semantics.specs.Steps.{Enabled, execute, Steps}
 use Rattle.semantics.specs.Runs.{Place, step, meet, named, Session, start, stage, Allowed, after, Plays, Kept, played}
 use Rattle.semantics.specs.Cases.{office, promotion}
 use Rattle.shuffle.specs.Shuffle.{Begins, Side, left, right, whose, Turn, turn, own, Shuffle, creates, makers, number, count, renumber, renamed, Desk, empty, seen, desk_after, Joined, desk_played, steps, heard, numbers, AtOneDesk, hired, pausing, mixed, Mixed}
-use Rattle.semantics.proofs.Tools.{either, same?, no_none, each-cons, names-elem, pick-map}
+use Rattle.semantics.proofs.Tools.{same?, no_none, each-cons, names-elem, pick-map}
 use Rattle.semantics.proofs.Similar.{live_below, similar}
 use Rattle.semantics.proofs.Cases.{promoted-true}
 
@@ -64,7 +65,7 @@ number-rising right (right ∷ ms) (suc o) (suc p) h = omega (arith, number-risi
 pub number-injective : (b : Side) (ms : List Side) (o p : ℕ) → number b ms o ≡ number b ms p → o ≡ p
 number-injective b ms o p e = ⊎_elim (λ q. q) (λ (q : o ≢ p). ⊎_elim
     (λ (t : ltb o p ≡ true). absurd (omega (arith, number-rising b ms o p (ltb-true o p t))))
-    (λ (t : ltb o p ≡ false). absurd (omega (arith, number-rising b ms p o (omega (arith, ltb-false o p t))))) (either (ltb o p))) (same? o p)
+    (λ (t : ltb o p ≡ false). absurd (omega (arith, number-rising b ms p o (omega (arith, ltb-false o p t))))) (cases_Bool (ltb o p))) (same? o p)
 
 -- nor two of different runs;
 pub number-apart : (ms : List Side) (o p : ℕ) → o < count left ms → p < count right ms → number left ms o ≢ number right ms p
@@ -226,7 +227,7 @@ module _ (M : List Side) where
         → (after P Q (seen d a) (meet i (map (num a) os))).carried x ≡ renamed (num a) ((after P Q (s a) (meet i os)).carried x)
     carried-there i os h x = rw (j.met a) (⊎_elim
         (λ (e : (shared Q x && elem x (vars b)) ≡ true). rw e (ap {B = Option ℕ} some (named-there b os h.2 x ((and-eq-true_iff (shared Q x) (elem x (vars b))).0 e).1)))
-        (λ (e : (shared Q x && elem x (vars b)) ≡ false). rw e (j.carried a x)) (either (shared Q x && elem x (vars b))))
+        (λ (e : (shared Q x && elem x (vars b)) ≡ false). rw e (j.carried a x)) (cases_Bool (shared Q x && elem x (vars b))))
       where
         b : Body
         b = stage P Q (s a)
@@ -271,7 +272,7 @@ module _ (M : List Side) where
         (λ p h. ⊎_elim
         (λ (q : ltb p (length (s a).db) ≡ true). let l = ltb-true p (length (s a).db) q in get_or-append d.db (t ∷ []) 0 (num a p) (j.each a p l).0 ∙ k.like a p l ∙ sym (get_or-append (s a).db (t ∷ []) 0 p l))
         (λ (q : ltb p (length (s a).db) ≡ false). let z : p ≡ length (s a).db = omega (arith, ltb-false p (length (s a).db) q, length-append (s a).db (t ∷ [])) in
-        rw (z, seam (new t b) a ms ns e s d k refl) (get_or-append_seam d.db t [] 0 ∙ sym (get_or-append_seam (s a).db t [] 0))) (either (ltb p (length (s a).db))))
+        rw (z, seam (new t b) a ms ns e s d k refl) (get_or-append_seam d.db t [] 0 ∙ sym (get_or-append_seam (s a).db t [] 0))) (cases_Bool (ltb p (length (s a).db))))
         (λ b q p h. get_or-append d.db (t ∷ []) 0 (num b p) (j.each b p h).0)
     worked-up P o (next x plus minus b) ms ns e j k c = work o (next x plus minus b) ms ms k
         (rw length-set k.size)
@@ -386,7 +387,7 @@ hearing P Q n right p ws (turn right (meet i os) ∷ ys) s d h l = (h.1, hearing
 -- WHO HAS MADE WHAT
 makers-append : (P : Program) (ys ws : List Turn) → makers P (ys ++ ws) ≡ makers P ys ++ makers P ws
 makers-append P [] ws = refl
-makers-append P (turn a (step ℓ o) ∷ ys) ws = ⊎_elim (λ (q : creates (line P ℓ) ≡ true). rw (q, makers-append P ys ws)) (λ (q : creates (line P ℓ) ≡ false). rw (q, makers-append P ys ws)) (either (creates (line P ℓ)))
+makers-append P (turn a (step ℓ o) ∷ ys) ws = ⊎_elim (λ (q : creates (line P ℓ) ≡ true). rw (q, makers-append P ys ws)) (λ (q : creates (line P ℓ) ≡ false). rw (q, makers-append P ys ws)) (cases_Bool (creates (line P ℓ)))
 makers-append P (turn a (meet i os) ∷ ys) ws = makers-append P ys ws
 
 made-own : (b : Side) (L : Line) (db : Database) (o : ℕ) (ms : List Side) → length (execute db o L) + count b ms ≡ length db + count b (cond (creates L) (b ∷ ms) ms)
@@ -552,7 +553,7 @@ AllSafe (c ∷ P) = SafeLine c.1 × AllSafe P
 
 all-safe : (P : Program) → AllSafe P → Safe P
 all-safe [] h ℓ = tt
-all-safe (c ∷ P) h ℓ = ⊎_elim (λ (q : eqb ℓ c.0 ≡ true). rw q h.0) (λ (q : eqb ℓ c.0 ≡ false). rw q (all-safe P h.1 ℓ)) (either (eqb ℓ c.0))
+all-safe (c ∷ P) h ℓ = ⊎_elim (λ (q : eqb ℓ c.0 ≡ true). rw q h.0) (λ (q : eqb ℓ c.0 ≡ false). rw q (all-safe P h.1 ℓ)) (cases_Bool (eqb ℓ c.0))
 
 chosen-two : (db : Database) (σ : ℕ → ℕ) (x y : ℕ) → σ x < length db → σ y < length db → Chosen db σ (x ∷ y ∷ [])
 chosen-two db σ x y p q = each-cons (λ (z : ℕ). σ z < length db) x (y ∷ []) p (each-cons (λ (z : ℕ). σ z < length db) y [] q (λ z e. absurd (false≢true e)))

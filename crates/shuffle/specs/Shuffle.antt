@@ -1,5 +1,5 @@
 -- TWO RUNS AT ONE DESK: two runs of one text, each with its own objects, are played on one database.
-use Rattle.std.specs.Prelude.{◌≡◌, Bool, true, false, cond, List, [], ◌∷◌, ◌++◌, map, ℕ, zero, suc, ◌+◌, ◌<◌, length}
+use Rattle.std.specs.Prelude.{◌≡◌, Bool, true, false, if◌then◌else◌, List, [], ◌∷◌, ◌++◌, map, ℕ, zero, suc, ◌+◌, ◌<◌, length}
 use Rattle.std.proofs.Math.Option.{Option, none, some}
 use Rattle.semantics.specs.Models.{Line, rule, new, next, other, Program, line, Question}
 use Rattle.semantics.specs.Facts.{Database, state}
@@ -46,7 +46,7 @@ creates other = false
 -- who makes the objects of the shuffle, in order of creation
 abbrev pub makers : Program → List Turn → List Side
 makers P [] = []
-makers P (turn a (step ℓ o) ∷ zs) = cond (creates (line P ℓ)) (a ∷ makers P zs) (makers P zs)
+makers P (turn a (step ℓ o) ∷ zs) = if creates (line P ℓ) then a ∷ makers P zs else makers P zs
 makers P (turn a (meet i os) ∷ zs) = makers P zs
 
 -- 0 for object 0, and for each other one more than f says of the one before

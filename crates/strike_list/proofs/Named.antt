@@ -8,8 +8,9 @@ use native.Mathlib.Omega.{arith}
 use lib.Dec.{eqb, ltb}
 use lib.ListN.{length}
 use borrow.Author.Tests.{eqb-true, eqb-false, lt-ltb}
+use Rattle.std.proofs.lemmas.Bool.{cases_Bool}
 use Rattle.semantics.specs.Models.{elem, Line, Program, line}
-use Rattle.semantics.proofs.Tools.{either, or_right}
+use Rattle.semantics.proofs.Tools.{or_right}
 use Rattle.striking.specs.Striking.{strikable, AllStrikable, twice, strange, most, faulty, Among, Rising, rising}
 use Rattle.striking.proofs.Striking.{not-faulty}
 use Rattle.striking.proofs.Choices.{rising-elem, rising-rising, rising-length}
@@ -25,7 +26,7 @@ named-append [] R L = refl
 named-append (c ∷ P) R L = ⊎_elim
     (λ (q : (strikable c.1 && elem c.0 L) ≡ true). rw q (ap {B = List ℕ} (λ (l : List ℕ). c.0 ∷ l) (named-append P R L)))
     (λ (q : (strikable c.1 && elem c.0 L) ≡ false). rw q (named-append P R L))
-    (either (strikable c.1 && elem c.0 L))
+    (cases_Bool (strikable c.1 && elem c.0 L))
 
 -- a line that no clause has is not named
 named-known : (P : Program) (L : List ℕ) (x : ℕ) → elem x (named P L) ≡ true → elem x (numbers P) ≡ true
@@ -35,8 +36,8 @@ named-known (c ∷ P) L x e = ⊎_elim
     (λ (t : eqb x c.0 ≡ false). or_right (eqb x c.0) (elem x (numbers P)) (named-known P L x (⊎_elim
     (λ (q : (strikable c.1 && elem c.0 L) ≡ true). rw t at (rw q at e))
     (λ (q : (strikable c.1 && elem c.0 L) ≡ false). rw q at e)
-    (either (strikable c.1 && elem c.0 L)))))
-    (either (eqb x c.0))
+    (cases_Bool (strikable c.1 && elem c.0 L)))))
+    (cases_Bool (eqb x c.0))
 
 -- THE NAMED LINES rise, where the clauses' lines do,
 pub named-rising : (P : Program) (L : List ℕ) → Rising (numbers P) → Rising (named P L)
@@ -44,7 +45,7 @@ named-rising [] L r = tt
 named-rising (c ∷ P) L r = ⊎_elim
     (λ (q : (strikable c.1 && elem c.0 L) ≡ true). rw q ((λ y e. r.0 y (named-known P L y e)), named-rising P L r.1))
     (λ (q : (strikable c.1 && elem c.0 L) ≡ false). rw q (named-rising P L r.1))
-    (either (strikable c.1 && elem c.0 L))
+    (cases_Bool (strikable c.1 && elem c.0 L))
 
 -- and are the listed ones that may be struck
 pub named-elem : (P : Program) (L : List ℕ) (x : ℕ) → Rising (numbers P) → elem x (named P L) ≡ (strikable (line P x) && elem x L)
@@ -53,15 +54,15 @@ named-elem (c ∷ P) L x r = ⊎_elim
     (λ (t : eqb x c.0 ≡ true). let e = eqb-true x c.0 t in rw t (⊎_elim
     (λ (q : (strikable c.1 && elem c.0 L) ≡ true). rw q (rw t (sym (subst (λ (z : ℕ). (strikable c.1 && elem z L) ≡ true) (sym e) q))))
     (λ (q : (strikable c.1 && elem c.0 L) ≡ false). rw q (later e ∙ sym (subst (λ (z : ℕ). (strikable c.1 && elem z L) ≡ false) (sym e) q)))
-    (either (strikable c.1 && elem c.0 L))))
+    (cases_Bool (strikable c.1 && elem c.0 L))))
     (λ (t : eqb x c.0 ≡ false). rw t (⊎_elim
     (λ (q : (strikable c.1 && elem c.0 L) ≡ true). rw q (rw t (named-elem P L x r.1)))
     (λ (q : (strikable c.1 && elem c.0 L) ≡ false). rw q (named-elem P L x r.1))
-    (either (strikable c.1 && elem c.0 L))))
-    (either (eqb x c.0))
+    (cases_Bool (strikable c.1 && elem c.0 L))))
+    (cases_Bool (eqb x c.0))
   where
     later : x ≡ c.0 → elem x (named P L) ≡ false
-    later e = ⊎_elim (λ (u : elem x (named P L) ≡ true). absurd (omega (arith, e, r.0 x (named-known P L x u)))) (λ u. u) (either (elem x (named P L)))
+    later e = ⊎_elim (λ (u : elem x (named P L) ≡ true). absurd (omega (arith, e, r.0 x (named-known P L x u)))) (λ u. u) (cases_Bool (elem x (named P L)))
 
 module _ (P : Program) (L : List ℕ) (r : Rising (numbers P)) where
   pub named-listed : Among (named P L) L
@@ -83,8 +84,8 @@ module _ (P : Program) (L : List ℕ) (r : Rising (numbers P)) where
       rw q ((not-faulty P L).1 (one, ten, all-distinct (named P L) L (named-rising P L r) named-listed l, λ x e. ((and-eq-true_iff (strikable (line P x)) (elem x L)).0 (sym (named-elem P L x r) ∙ all_among (named P L) L (named-rising P L r) named-listed l x e)).0)))
       (λ (q : eqb (length (named P L)) (length L) ≡ false). rw q (⊎_elim (λ f. f)
       (λ (f : faulty P L ≡ false). absurd (eqb-false (length (named P L)) (length L) q (ap length (named-is f) ∙ rising-length L ((not-faulty P L).0 f).2)))
-      (either (faulty P L))))
-      (either (eqb (length (named P L)) (length L)))
+      (cases_Bool (faulty P L))))
+      (cases_Bool (eqb (length (named P L)) (length L)))
 
 -- a good list has at most ten lines
 pub rising-few : (P : Program) (L : List ℕ) → faulty P L ≡ false → length (rising L) ≤ most

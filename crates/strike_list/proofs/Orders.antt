@@ -8,15 +8,16 @@ use native.Mathlib.Omega.{arith}
 use lib.Dec.{eqb, ltb}
 use lib.ListN.{length, get_or}
 use borrow.Author.Tests.{eqb-true, eqb-false, ltb-true}
+use Rattle.std.proofs.lemmas.Bool.{cases_Bool, or_cases}
 use Rattle.semantics.specs.Models.{elem, Distinct}
 use Rattle.semantics.specs.Tables.{seat}
-use Rattle.semantics.proofs.Tools.{either, same?, or-true-cases, elem-here, each_tail, each-cons, seat-ok, distinct-length}
+use Rattle.semantics.proofs.Tools.{same?, elem-here, each_tail, each-cons, seat-ok, distinct-length}
 use Rattle.striking.specs.Striking.{Among, Rising, insert, rising}
 use Rattle.striking.proofs.Choices.{rising-elem, rising-rising}
 
 -- a number below all of a list is not in it
 below_none : (x : ℕ) (xs : List ℕ) → ((y : ℕ) → elem y xs ≡ true → x < y) → elem x xs ≡ false
-below_none x xs h = ⊎_elim (λ (q : elem x xs ≡ true). absurd (omega (arith, h x q))) (λ q. q) (either (elem x xs))
+below_none x xs h = ⊎_elim (λ (q : elem x xs ≡ true). absurd (omega (arith, h x q))) (λ q. q) (cases_Bool (elem x xs))
 
 pub rising-distinct : (xs : List ℕ) → Rising xs → Distinct xs
 rising-distinct [] r = tt
@@ -24,7 +25,7 @@ rising-distinct (x ∷ xs) r = (below_none x xs r.0, rising-distinct xs r.1)
 
 -- what is in a list with a first number, and is not that number, is behind it
 behind : (x y : ℕ) (ys : List ℕ) → elem x (y ∷ ys) ≡ true → x ≢ y → elem x ys ≡ true
-behind x y ys e n = ⊎_elim (λ (q : eqb x y ≡ true). absurd (n (eqb-true x y q))) (λ q. q) (or-true-cases (eqb x y) (elem x ys) e)
+behind x y ys e n = ⊎_elim (λ (q : eqb x y ≡ true). absurd (n (eqb-true x y q))) (λ q. q) (or_cases (eqb x y) (elem x ys) e)
 
 tails : (x : ℕ) (C D : List ℕ) → ((y : ℕ) → elem y C ≡ true → x < y) → Among (x ∷ C) (x ∷ D) → Among C D
 tails x C D h a z e = behind z x D (each_tail (λ (w : ℕ). elem w (x ∷ D) ≡ true) x C a z e) (λ q. omega (arith, h z e, q))
@@ -44,16 +45,16 @@ rising-one (x ∷ C) (y ∷ D) r s a b = ⊎_elim
 insert-same : (x : ℕ) (ys : List ℕ) → Rising ys → elem x ys ≡ true → length (insert x ys) ≡ length ys
 insert-same x [] r e = absurd (false≢true e)
 insert-same x (y ∷ ys) r e = ⊎_elim
-    (λ (q : ltb x y ≡ true). let l = ltb-true x y q in absurd (⊎_elim (λ (t : eqb x y ≡ true). omega (arith, eqb-true x y t, l)) (λ (t : elem x ys ≡ true). omega (arith, r.0 x t, l)) (or-true-cases (eqb x y) (elem x ys) e)))
+    (λ (q : ltb x y ≡ true). let l = ltb-true x y q in absurd (⊎_elim (λ (t : eqb x y ≡ true). omega (arith, eqb-true x y t, l)) (λ (t : elem x ys ≡ true). omega (arith, r.0 x t, l)) (or_cases (eqb x y) (elem x ys) e)))
     (λ (q : ltb x y ≡ false). rw q (⊎_elim
     (λ (t : eqb x y ≡ true). rw t)
-    (λ (t : eqb x y ≡ false). rw t (ap suc (insert-same x ys r.1 (behind x y ys e (eqb-false x y t))))) (either (eqb x y))))
-    (either (ltb x y))
+    (λ (t : eqb x y ≡ false). rw t (ap suc (insert-same x ys r.1 (behind x y ys e (eqb-false x y t))))) (cases_Bool (eqb x y))))
+    (cases_Bool (ltb x y))
 
 insert-most : (x : ℕ) (ys : List ℕ) → length (insert x ys) ≤ suc (length ys)
 insert-most x [] = omega arith
 insert-most x (y ∷ ys) = ⊎_elim (λ (q : ltb x y ≡ true). rw q (omega arith))
-    (λ (q : ltb x y ≡ false). rw q (⊎_elim (λ (t : eqb x y ≡ true). rw t (omega arith)) (λ (t : eqb x y ≡ false). rw t (omega (arith, insert-most x ys))) (either (eqb x y)))) (either (ltb x y))
+    (λ (q : ltb x y ≡ false). rw q (⊎_elim (λ (t : eqb x y ≡ true). rw t (omega arith)) (λ (t : eqb x y ≡ false). rw t (omega (arith, insert-most x ys))) (cases_Bool (eqb x y)))) (cases_Bool (ltb x y))
 
 rising-most : (L : List ℕ) → length (rising L) ≤ length L
 rising-most [] = omega arith
@@ -64,7 +65,7 @@ length-distinct [] l = tt
 length-distinct (x ∷ L) l = ⊎_elim
     (λ (q : elem x L ≡ true). absurd (omega (arith, l, insert-same x (rising L) (rising-rising L) (rising-elem x L ∙ q), rising-most L)))
     (λ (q : elem x L ≡ false). (q, length-distinct L (omega (arith, l, insert-most x (rising L)))))
-    (either (elem x L))
+    (cases_Bool (elem x L))
 
 -- A RISING LIST AMONG ANOTHER THAT IS NO LONGER has all of it, and then the other has no number twice
 module _ (C L : List ℕ) (r : Rising C) (a : Among C L) (l : length L ≤ length C) where
@@ -74,7 +75,7 @@ module _ (C L : List ℕ) (r : Rising C) (a : Among C L) (l : length L ≤ lengt
   pub all_among : Among L C
   all_among x e = ⊎_elim (λ q. q)
       (λ (q : elem x C ≡ false). absurd (omega (arith, distinct-length (x ∷ C) L (q, rising-distinct C r) (each-cons (λ (z : ℕ). elem z L ≡ true) x C e a))))
-      (either (elem x C))
+      (cases_Bool (elem x C))
 
 -- numbers that rise by their places rise
 pub places-rise : (xs : List ℕ) → ((i j : ℕ) → i < j → j < length xs → get_or xs i 0 < get_or xs j 0) → Rising xs

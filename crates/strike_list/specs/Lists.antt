@@ -1,5 +1,5 @@
 -- THE LIST OF LINES as the calls have it. What a faulty list is, and the order of its lines, is said in `striking`.
-use Rattle.std.specs.Prelude.{Bool, true, false, cond, ◌&&◌, List, [], ◌∷◌, ◌++◌, ℕ, ◌-◌, length, take, replicate}
+use Rattle.std.specs.Prelude.{Bool, true, false, if◌then◌else◌, ◌&&◌, List, [], ◌∷◌, ◌++◌, ℕ, ◌-◌, length, take, replicate}
 use Rattle.semantics.specs.Models.{elem, Program}
 use Rattle.model.specs.declared.Action.{Action}
 use Rattle.model.specs.declared.Action.TheVariants.{Rule, New, Next}
@@ -26,4 +26,4 @@ free (Next plus minus) = true
 -- HOW THE LIST IS JUDGED: the listed lines that may be struck, in the order of the program. The list is good exactly if they are as many as its lines.
 abbrev pub named : Program → List ℕ → List ℕ
 named [] L = []
-named (c ∷ P) L = cond (strikable c.1 && elem c.0 L) (c.0 ∷ named P L) (named P L)
+named (c ∷ P) L = if strikable c.1 && elem c.0 L then c.0 ∷ named P L else named P L

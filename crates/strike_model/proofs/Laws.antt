@@ -10,11 +10,11 @@ use native.Mathlib.Numerals.{add-one}
 use lib.ListN.{length, take, drop, get_or, set, length-set}
 use lib.Seq.{get_or-take, get_or-drop, length-take-le, take-suc, take-suc-set, drop-drop, drop-set-lt}
 use lib.Dec.{eqb}
+use Rattle.std.proofs.lemmas.Bool.{cases_Bool}
 use Rattle.std.specs.List.{list_any}
 use Rattle.std.proofs.lemmas.Bool.Decides.{nat_tests}
 use Rattle.limits.specs.Limits as limit
 use Rattle.semantics.specs.Models.{elem, Line, Safe, SafeQuestion}
-use Rattle.semantics.proofs.Tools.{either}
 use Rattle.model.specs.declared.Action.{Action}
 use Rattle.model.specs.declared.Action.TheVariants.{Rule, New, Next}
 use Rattle.model.specs.declared.Clause.{Clause}
@@ -41,7 +41,7 @@ without-append L [] ds = refl
 without-append L (c ∷ cs) ds = ⊎_elim
     (λ (q : elem c.line L ≡ true). rw q (without-append L cs ds))
     (λ (q : elem c.line L ≡ false). rw q (ap {B = List Clause} (λ (r : List Clause). c ∷ r) (without-append L cs ds)))
-    (either (elem c.line L))
+    (cases_Bool (elem c.line L))
 
 -- they are the program with these lines struck
 without-program : (row L : List ℕ) (cs : List Clause) → map (λ (c : Clause). (c.line, clause_line row c)) (without L cs) ≡ strike (map (λ (c : Clause). (c.line, clause_line row c)) cs) L
@@ -49,7 +49,7 @@ without-program row L [] = refl
 without-program row L (c ∷ cs) = ⊎_elim
     (λ (q : elem c.line L ≡ true). rw q (without-program row L cs))
     (λ (q : elem c.line L ≡ false). rw q (ap (λ (r : List (ℕ × Line)). (c.line, clause_line row c) ∷ r) (without-program row L cs)))
-    (either (elem c.line L))
+    (cases_Bool (elem c.line L))
 
 module _ (L : List ℕ) (d : Clause) where
   abbrev From : List Clause → List Clause → ℕ → Type 0
@@ -65,7 +65,7 @@ module _ (L : List ℕ) (d : Clause) where
   without_from (c ∷ cs) i l = ⊎_elim
       (λ (q : elem c.line L ≡ true). let w = without_from cs i (rw q at l) in rw q (suc w.0, omega (arith, w.1), w.2))
       (λ (q : elem c.line L ≡ false). rw q (from_cons c (without L cs) cs (without_from cs) i (rw q at l)))
-      (either (elem c.line L))
+      (cases_Bool (elem c.line L))
 
   abbrev Rise : List Clause → Type 0
   Rise cs = (i j : ℕ) → i < j → j < length cs → (get_or cs i d).line < (get_or cs j d).line
@@ -80,14 +80,13 @@ module _ (L : List ℕ) (d : Clause) where
   without-rise [] h = h
   without-rise (c ∷ cs) h =
       let r = without-rise cs (λ i j l k. h (suc i) (suc j) (omega arith) (omega arith)) in
-      ⊎_elim (λ (q : elem c.line L ≡ true). rw q r) (λ (q : elem c.line L ≡ false). rw q (rise-cons c (without L cs) cs h (without_from cs) r)) (either (elem c.line L))
+      ⊎_elim (λ (q : elem c.line L ≡ true). rw q r) (λ (q : elem c.line L ≡ false). rw q (rise-cons c (without L cs) cs h (without_from cs) r)) (cases_Bool (elem c.line L))
 
 -- the record with other clauses
 abbrev pub cut : Model → List Clause → ℕ → Model
 cut m cs n = record {
   relations = m.relations;
   names = m.names;
-  lengths = m.lengths;
   clauses = cs;
   clausecount = n;
   literals = m.literals;

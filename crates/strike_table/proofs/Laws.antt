@@ -2,22 +2,23 @@
 use mathlib.Core.Path.{◌≡◌, refl, sym, ap, ◌∙◌, subst}
 use mathlib.Core.Logic.{⊎_elim, ◌≢◌}
 use mathlib.Core.Bool.{Bool, true, false, cond, and-eq-true_iff}
-use mathlib.Core.List.{List, [], ◌∷◌}
+use mathlib.Core.List.{List, [], ◌∷◌, ◌++◌}
+use Rattle.std.proofs.lemmas.Bool.{cases_Bool}
+use Rattle.std.specs.Prelude.{Option, None, Some, is_some, unwrap_or}
 use Prim.Native.Nat.{ℕ, zero, suc, ◌+◌, ◌*◌, ◌%◌, ◌^◌, ◌≤◌, ◌<◌}
 use native.Mathlib.Nat.{mod-le, mod-eq_of_lt, two-pow-succ}
 use native.Mathlib.Omega.{arith}
 use lib.Bits.{bit_and, bit_or, and_self, or_lt}
 use lib.Pow.{pow_mono, pow_pos}
-use lib.Dec.{eqb}
-use lib.ListN.{length, get_or, set, replicate, length-set, length-replicate}
+use lib.ListN.{length, set, take, replicate, length-set, length-replicate, get_or-append}
 use lib.Seq.{get_or-set_same, get_or-set_other, length-take-le}
-use borrow.Author.Tests.{eqb-true, eq-eqb, ne_eqb}
+use borrow.Author.Tests.{eqb-true, eq-eqb}
 use Rattle.limits.specs.Limits as limit
 use Rattle.semantics.specs.Labels.{has}
 use Rattle.semantics.specs.Models.{Program, Question}
 use Rattle.semantics.specs.Steps.{MoreThan}
 use Rattle.semantics.specs.Questions.{Verdict}
-use Rattle.semantics.proofs.Tools.{either, same?}
+use Rattle.semantics.proofs.Tools.{same?}
 use Rattle.semantics.proofs.Sets.{has-and, has-beyond}
 use Rattle.model.specs.declared.Model.{Model}
 use Rattle.model.specs.Records.{program_of, question_of}
@@ -31,7 +32,7 @@ use Rattle.strike_model.specs.Models.{Strikes}
 use Rattle.strike_list.specs.declared.Lines.{Lines}
 use Rattle.strike_list.specs.Lists.{listed}
 use Rattle.strike_table.specs.declared.Table.{Table}
-use Rattle.strike_table.specs.Tables.{Told, code, settled, Marked, Right, Onward, Decides, Complete, Ready, Filled}
+use Rattle.strike_table.specs.Tables.{Told, said_of, settled, Marked, Right, Onward, Settles, Decides, Complete, Ready, Filled}
 
 -- a number whose bits another has all
 and-within : (a b : ℕ) → bit_and a b ≡ a → (x : ℕ) → has a x ≡ true → has b x ≡ true
@@ -41,79 +42,87 @@ and-within-right : (a b : ℕ) → bit_and a b ≡ b → (x : ℕ) → has b x �
 and-within-right a b e x h = ((and-eq-true_iff (has a x) (has b x)).0 (sym (has-and a b x) ∙ ap (λ (n : ℕ). has n x) e ∙ h)).0
 
 -- a choice settles itself,
-settles-itself : (n v : ℕ) → settled n v n ≡ true
+settles-itself : (n : ℕ) (b : Bool) → settled n b n ≡ true
 unfolding settled
-settles-itself n v = ⊎_elim (λ (q : eqb v 1 ≡ true). rw q (eq-eqb (bit_and n n) n (and_self n))) (λ (q : eqb v 1 ≡ false). rw q (eq-eqb (bit_and n n) n (and_self n))) (either (eqb v 1))
+settles-itself n true = eq-eqb (bit_and n n) n (and_self n)
+settles-itself n false = eq-eqb (bit_and n n) n (and_self n)
 
-module _ (P : Program) (Q : Question) (xs : List ℕ) (total : ℕ) where
+module _ (P : Program) (Q : Question) (xs : List ℕ) where
   -- and others rightly
-  settles-right : (n k : ℕ) (b : Bool) → Verdict (strike P (numbered xs n)) Q b → settled n (code b) k ≡ true → Told (strike P (numbered xs k)) Q (code b)
+  settles-right : (n k : ℕ) (b : Bool) → Verdict (strike P (numbered xs n)) Q b → settled n b k ≡ true → Verdict (strike P (numbered xs k)) Q b
   unfolding settled
   settles-right n k true v e = still-reached P Q (numbered xs k) (numbered xs n) (numbered_more xs k n (and-within k n (eqb-true (bit_and k n) k e))) v
   settles-right n k false v e = still-unreached P Q (numbered xs n) (numbered xs k) (numbered_more xs n k (and-within-right k n (eqb-true (bit_and k n) n e))) v
 
-  code-some : (b : Bool) → code b ≢ 0
-  code-some true e = omega (arith, e)
-  code-some false e = omega (arith, e)
+  told-some : (b : Bool) → ◌≢◌ {A = Option Bool} (Some b) None
+  told-some b e = cc
 
-  module _ (said said' : List ℕ) (n : ℕ) (b : Bool) (mk : Marked n (code b) total said said') where
-    pub marked-decides : n < total → Right P Q xs total said → Verdict (strike P (numbered xs n)) Q b → Decides P Q xs total n said said'
+  module _ (said said' : List (Option Bool)) (n : ℕ) (b : Bool) (mk : Marked n b said said') where
+    pub marked-decides : n < length said → Right P Q xs said → Verdict (strike P (numbered xs n)) Q b → Decides P Q xs n b said said'
     marked-decides l r v = record {
       onward = record {
         long = mk.long;
-        right = λ k h. rw (mk.each k h) (⊎_elim
-            (λ (q : settled n (code b) k ≡ true). rw q (settles-right n k b v q))
-            (λ (q : settled n (code b) k ≡ false). rw q (r k h)) (either (settled n (code b) k)));
+        right = λ k h. let w : k < length said = omega (arith, h, mk.long) in rw (mk.each k w) (⊎_elim
+            (λ (q : settled n b k ≡ true). rw q (settles-right n k b v q))
+            (λ (q : settled n b k ≡ false). rw q (r k w)) (cases_Bool (settled n b k)));
         keeps = λ k h d. rw (mk.each k h) (⊎_elim
-            (λ (q : settled n (code b) k ≡ true). rw q (code-some b))
-            (λ (q : settled n (code b) k ≡ false). rw q d) (either (settled n (code b) k)));
+            (λ (q : settled n b k ≡ true). rw q (told-some b))
+            (λ (q : settled n b k ≡ false). rw q d) (cases_Bool (settled n b k)));
       };
-      decided = rw (mk.each n l, settles-itself n (code b)) (code-some b);
+      told = rw (mk.each n l, settles-itself n b) refl;
     }
 
   -- nothing done
-  pub onward-same : (said : List ℕ) → Right P Q xs total said → Onward P Q xs total said said
+  pub onward-same : (said : List (Option Bool)) → Right P Q xs said → Onward P Q xs said said
   onward-same said r = record { long = refl; right = r; keeps = λ k h d. d }
 
   -- one after the other
-  pub onward_then : (a b c : List ℕ) → Onward P Q xs total a b → Onward P Q xs total b c → Onward P Q xs total a c
-  onward_then a b c s t = record { long = t.long ∙ s.long; right = t.right; keeps = λ k h d. t.keeps k h (s.keeps k h d) }
+  pub onward_then : (a b c : List (Option Bool)) → Onward P Q xs a b → Onward P Q xs b c → Onward P Q xs a c
+  onward_then a b c s t = record { long = t.long ∙ s.long; right = t.right; keeps = λ k h d. t.keeps k (omega (arith, h, s.long)) (s.keeps k h d) }
+
+  -- a choice that is decided stays so
+  pub decides_then : (n : ℕ) (v : Bool) (a b c : List (Option Bool)) → n < length a → Decides P Q xs n v a b → Onward P Q xs b c → Settles P Q xs n a c
+  decides_then n v a b c l d t = record { onward = onward_then a b c d.onward t; decided = t.keeps n (omega (arith, l, d.onward.long)) (rw d.told (told-some v)) }
+
+-- what is decided says something
+pub decided-some : (v : Option Bool) → is_some v ≡ true → v ≢ None
+decided-some None e q = cc
+decided-some (Some b) e q = cc
 
 -- one decided more
-pub decided-next : (P : Program) (Q : Question) (xs : List ℕ) (total n : ℕ) (said said' : List ℕ) → n < total → Decides P Q xs total n said said' → ((k : ℕ) → k < n → get_or said k 0 ≢ 0) → (k : ℕ) → k < n + 1 → get_or said' k 0 ≢ 0
-decided-next P Q xs total n said said' b d h k l = ⊎_elim (λ (q : k ≡ n). rw q d.decided) (λ (q : k ≢ n). d.onward.keeps k (omega (arith, l, b)) (h k (omega (arith, l, q)))) (same? k n)
+pub decided-next : (P : Program) (Q : Question) (xs : List ℕ) (n : ℕ) (said said' : List (Option Bool)) → n < length said → Settles P Q xs n said said' → ((k : ℕ) → k < n → said_of said k ≢ None) → (k : ℕ) → k < n + 1 → said_of said' k ≢ None
+decided-next P Q xs n said said' b d h k l = ⊎_elim (λ (q : k ≡ n). rw q d.decided) (λ (q : k ≢ n). d.onward.keeps k (omega (arith, l, b)) (h k (omega (arith, l, q)))) (same? k n)
 
 -- and all is ready for the next
-pub ready_on : (m : Model) (l : Lines) (total : ℕ) (said said' facts facts' : List ℕ) → Ready m l total said facts → Onward (program_of m) (question_of m) (listed l) total said said' → length facts' ≡ length facts → Ready m l total said' facts'
-ready_on m l total said said' facts facts' r o e = record { formed = r.formed; sparse = r.sparse; few = r.few; all = r.all; long = o.long ∙ r.long; right = o.right; space = omega (arith, r.space) }
+pub ready_on : (m : Model) (l : Lines) (said said' : List (Option Bool)) (facts facts' : List ℕ) → Ready m l said facts → Onward (program_of m) (question_of m) (listed l) said said' → length facts' ≡ length facts → Ready m l said' facts'
+ready_on m l said said' facts facts' r o e = record { formed = r.formed; sparse = r.sparse; few = r.few; all = o.long ∙ r.all; right = o.right; space = omega (arith, r.space) }
 
 -- at the end each choice has its verdict
-pub told-verdict : (P : Program) (Q : Question) (v : ℕ) → Told P Q v → v ≢ 0 → Verdict P Q (eqb v 1)
-told-verdict P Q zero t n = absurd (n refl)
-told-verdict P Q (suc zero) t n = t
-told-verdict P Q (suc (suc v)) t n = rw (ne_eqb (suc (suc v)) 1 (λ e. omega (arith, e))) t
+told-verdict : (P : Program) (Q : Question) (v : Option Bool) → Told P Q v → v ≢ None → Verdict P Q (unwrap_or v false)
+told-verdict P Q None t n = absurd (n refl)
+told-verdict P Q (Some b) t n = t
 
 -- THE MARKING, after the first i choices
-pub record Marking (n v i : ℕ) (said said' : List ℕ) : Type 0 where
+pub record Marking (n : ℕ) (b : Bool) (i : ℕ) (said said' : List (Option Bool)) : Type 0 where
   pub long : length said' ≡ length said
-  pub done : (k : ℕ) → k < i → get_or said' k 0 ≡ cond (settled n v k) v (get_or said k 0)
-  pub ahead : (k : ℕ) → i < suc k → get_or said' k 0 ≡ get_or said k 0
+  pub done : (k : ℕ) → k < i → said_of said' k ≡ cond (settled n b k) (Some b) (said_of said k)
+  pub ahead : (k : ℕ) → i < suc k → said_of said' k ≡ said_of said k
 
-pub marking-start : (n v : ℕ) (said : List ℕ) → Marking n v 0 said said
-marking-start n v said = record { long = refl; done = λ k l. absurd (omega (arith, l)); ahead = λ k l. refl }
+pub marking-start : (n : ℕ) (b : Bool) (said : List (Option Bool)) → Marking n b 0 said said
+marking-start n b said = record { long = refl; done = λ k l. absurd (omega (arith, l)); ahead = λ k l. refl }
 
-module _ (n v i : ℕ) (said said' : List ℕ) (h : Marking n v i said said') where
-  pub marking-more : settled n v i ≡ true → i < length said → Marking n v (i + 1) said (set said' i v)
+module _ (n : ℕ) (b : Bool) (i : ℕ) (said said' : List (Option Bool)) (h : Marking n b i said said') where
+  pub marking-more : settled n b i ≡ true → i < length said → Marking n b (i + 1) said (set said' i (Some b))
   marking-more e l = record {
-    long = length-set said' i v ∙ h.long;
+    long = length-set said' i (Some b) ∙ h.long;
     done = λ k m. ⊎_elim
-        (λ (q : k ≡ i). rw (q, get_or-set_same said' i v 0 (omega (arith, h.long)), e))
-        (λ (q : k ≢ i). get_or-set_other said' i k v 0 q ∙ h.done k (omega arith))
+        (λ (q : k ≡ i). rw (q, get_or-set_same said' i (Some b) None (omega (arith, h.long)), e))
+        (λ (q : k ≢ i). get_or-set_other said' i k (Some b) None q ∙ h.done k (omega arith))
         (same? k i);
-    ahead = λ k m. get_or-set_other said' i k v 0 (λ z. omega (arith, m, z)) ∙ h.ahead k (omega (arith, m));
+    ahead = λ k m. get_or-set_other said' i k (Some b) None (λ z. omega (arith, m, z)) ∙ h.ahead k (omega (arith, m));
   }
 
-  pub marking-other : settled n v i ≡ false → Marking n v (i + 1) said said'
+  pub marking-other : settled n b i ≡ false → Marking n b (i + 1) said said'
   marking-other e = record {
     long = h.long;
     done = λ k m. ⊎_elim
@@ -123,8 +132,8 @@ module _ (n v i : ℕ) (said said' : List ℕ) (h : Marking n v i said said') wh
     ahead = λ k m. h.ahead k (omega (arith, m));
   }
 
-  pub marking-end : Marked n v i said said'
-  marking-end = record { long = h.long; each = h.done }
+  pub marking-end : i ≡ length said → Marked n b said said'
+  marking-end e = record { long = h.long; each = λ k l. h.done k (omega (arith, e, l)) }
 
 -- NOT TOO MANY STATES with lines struck, where there are not with none
 still-sparse : (P : Program) (n : ℕ) (C : List ℕ) → (MoreThan n P → ⊥) → MoreThan n (strike P C) → ⊥
@@ -158,35 +167,42 @@ pub shift-total : (count : ℕ) → count ≤ most → 1 * 2 ^ count % 184467440
 shift-total count l = mod-eq_of_lt {n = 1 * 2 ^ count} (omega (arith, pow_mono {i = count} {j = most} l)) ∙ omega arith
 
 -- at first nothing is said
-replicate-zero : (n k : ℕ) → ◌≡◌ {A = ℕ} (get_or (replicate n 0) k 0) 0
-replicate-zero zero k = refl
-replicate-zero (suc n) zero = refl
-replicate-zero (suc n) (suc k) = replicate-zero n k
+none-said : (n r k : ℕ) → ◌≡◌ {A = Option Bool} (said_of (take n (replicate r None)) k) None
+none-said zero r k = refl
+none-said (suc n) zero k = refl
+none-said (suc n) (suc r) zero = refl
+none-said (suc n) (suc r) (suc k) = none-said n r k
 
-pub none-decided : (P : Program) (Q : Question) (xs : List ℕ) (total n : ℕ) → Right P Q xs total (replicate n 0)
-none-decided P Q xs total n k l = rw (replicate-zero n k) tt
+-- the table before
+abbrev pub blank : List (Option Bool)
+blank = replicate 1024 None
+
+none-decided : (P : Program) (Q : Question) (xs : List ℕ) (n : ℕ) → Right P Q xs (take n blank)
+none-decided P Q xs n k l = rw (none-said n 1024 k) tt
 
 -- then what nothing struck settles
-pub begun : (m : Model) (l : Lines) (total : ℕ) (said facts : List ℕ) (b : Bool) → WellFormed m → (MoreThan limit.atomic (program_of m) → ⊥) → l.count ≤ most → total ≡ 2 ^ l.count
-    → Marked 0 (code b) total (replicate 1024 0) said → Verdict (program_of m) (question_of m) b → room ≤ length facts → Ready m l total said facts
-begun m l total said facts b f n w e k v r = record {
-  formed = f;
-  sparse = n;
-  few = w;
-  all = e;
-  long = k.long ∙ length-replicate {A = ℕ} 1024 0;
-  right = (marked-decides (program_of m) (question_of m) (listed l) total (replicate 1024 0) said 0 b k (omega (arith, e, pow_pos l.count)) (none-decided (program_of m) (question_of m) (listed l) total 1024) (whole-verdict (program_of m) (question_of m) (listed l) b v)).onward.right;
-  space = r;
-}
+pub begun : (m : Model) (l : Lines) (said : List (Option Bool)) (facts : List ℕ) (b : Bool) → WellFormed m → (MoreThan limit.atomic (program_of m) → ⊥) → l.count ≤ most
+    → Marked 0 b (take (2 ^ l.count) blank) said → Verdict (program_of m) (question_of m) b → room ≤ length facts → Ready m l said facts
+begun m l said facts b f n w k v r =
+    let few : 2 ^ l.count ≤ 1024 = total-most l.count (2 ^ l.count) w refl in
+    let all : length (take (2 ^ l.count) blank) ≡ 2 ^ l.count = length-take-le (2 ^ l.count) blank (omega (arith, few, length-replicate {A = Option Bool} 1024 None)) in
+    record {
+      formed = f;
+      sparse = n;
+      few = w;
+      all = k.long ∙ all;
+      right = (marked-decides (program_of m) (question_of m) (listed l) (take (2 ^ l.count) blank) said 0 b k (omega (arith, all, pow_pos l.count)) (none-decided (program_of m) (question_of m) (listed l) (2 ^ l.count)) (whole-verdict (program_of m) (question_of m) (listed l) b v)).onward.right;
+      space = r;
+    }
 
 -- the lines of a record are as many as it counts
 pub listed-count : (l : Lines) → length l.lines ≡ most → l.count ≤ most → length (listed l) ≡ l.count
 listed-count l e w = length-take-le l.count l.lines (omega (arith, e))
 
 -- THE TABLE in the end: every choice decided
-pub filled : (P : Program) (Q : Question) (xs : List ℕ) (t : Table) → (MoreThan limit.atomic P → ⊥) → t.total ≡ 2 ^ length xs → Complete P Q xs t.total t.said → Filled P Q xs t
-filled P Q xs t n e d = record {
+pub filled : (P : Program) (Q : Question) (xs : List ℕ) (t : Table) (said rest : List (Option Bool)) → (MoreThan limit.atomic P → ⊥) → t.total ≡ 2 ^ length xs → t.said ≡ said ++ rest → length said ≡ 2 ^ length xs → Complete P Q xs said → Filled P Q xs t
+filled P Q xs t said rest n e s w d = record {
   few = n;
   total = e;
-  verdict = λ k l. let h : k < t.total = omega (arith, e) in told-verdict (strike P (numbered xs k)) Q (get_or t.said k 0) (d.right k h) (d.all k h);
+  verdict = λ k l. let h : k < length said = omega (arith, w, l) in rw (s, get_or-append said rest None k h) (told-verdict (strike P (numbered xs k)) Q (said_of said k) (d.right k h) (d.all k h));
 }

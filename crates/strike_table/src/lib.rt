@@ -11,7 +11,7 @@ ghost use Rattle.facts_heads.specs.Heads.{room};
 ghost use Rattle.striking.specs.Striking.{strike, most};
 ghost use Rattle.striking.specs.Numbers.{numbered};
 ghost use Rattle.strike_list.specs.Lists.{listed};
-ghost use Rattle.strike_table.specs.Tables.{code as code_of, settled, Marked, Onward, Decides, Complete, Ready, Fills};
+ghost use Rattle.strike_table.specs.Tables.{settled, Marked, Onward, Decides, Settles, Complete, Ready, Fills};
 
 use facts_heads::ROOM;
 use model::Model;
@@ -20,45 +20,31 @@ use strike_list::Lines;
 // The choices of ten lines.
 pub const CHOICES: usize = 1024;
 
-// What the table says of a choice; before it is decided it says 0.
-// The numbers stay: with `Option<bool>` in their place a goal of `fill` stayed open.
-pub const REACHED: u8 = 1;
-
-pub const UNREACHED: u8 = 2;
-
-// What is said of each choice by its number, and how many choices there are.
+// Whether each choice is reached, by its number, or nothing before it is decided, and how many choices there are.
 // The number stays beside the array: memory is fixed, and the places behind it are not read.
 #[derive(Clone, Copy)]
 pub struct Table {
-    pub said: [u8; CHOICES],
+    pub said: [Option<bool>; CHOICES],
     pub total: usize,
 }
 
-// Whether the choice of number n, of which v is said, settles that of number k: a reached one those that strike fewer of its lines, an unreached one those that strike more.
-fn settles(n: u32, v: u8, k: u32) -> bool
-    ensures { result ≡ settled n v k }
+// Whether the choice of number n settles that of number k: a reached one those that strike fewer of its lines, an unreached one those that strike more.
+fn settles(n: u32, reached: bool, k: u32) -> bool
+    ensures { result ≡ settled n reached k }
 {
-    if v == REACHED { k & n == k } else { k & n == n }
+    if reached { k & n == k } else { k & n == n }
 }
 
-// Says v of all choices that it settles.
-// The table, its number of choices and the choice stay apart: the table alone is written, and the choice is another one for each call.
-fn mark(said: &mut [u8; CHOICES], total: usize, n: u32, v: u8)
-    requires { (total ≤ 1024) × (length said.old ≡ 1024) }
-    ensures { Marked n v total said.old said.new }
+// Says of all choices that a decided one settles what is said of that one.
+fn mark(said: &mut [Option<bool>], n: u32, reached: bool)
+    requires { length said.old ≤ 1024 }
+    ensures { Marked n reached said.old said.new }
 {
-    for k in 0..total {
-        if settles(n, v, k as u32) {
-            said[k] = v;
+    for (k, v) in said.iter_mut().enumerate() {
+        if settles(n, reached, k as u32) {
+            *v = Some(reached);
         }
     }
-}
-
-// What is said of a verdict.
-fn code(reached: bool) -> u8
-    ensures { result ≡ code_of reached }
-{
-    if reached { REACHED } else { UNREACHED }
 }
 
 // Whether the question is reached with the lines of a choice struck, by a search.
@@ -76,56 +62,53 @@ fn reached(m: Model, l: Lines, n: u32, facts: &mut [u8]) -> bool
     found.reached
 }
 
-// Decides a choice, unless a decided one has settled it, and says what it settles.
+// Whether a choice is reached: by the table, where a decided one has settled it, or by a search, which then says what it settles.
 // What a choice is decided with stays apart, and that all is ready and the choice is there stays in clauses: the table and the room change in each call, and the model and the lines in none.
-fn decide(said: &mut [u8; CHOICES], total: usize, m: Model, l: Lines, n: u32, facts: &mut [u8])
-    requires { Ready m l total said.old facts.old × (n < total) }
-    ensures { Decides (program_of m) (question_of m) (listed l) total n said.old said.new × (length facts.new ≡ length facts.old) }
+fn decide(said: &mut [Option<bool>], m: Model, l: Lines, n: u32, facts: &mut [u8]) -> bool
+    requires { Ready m l said.old facts.old × (n < length said.old) }
+    ensures { Decides (program_of m) (question_of m) (listed l) n result said.old said.new × (length facts.new ≡ length facts.old) }
 {
-    let at = n as usize;
-    if said[at] != 0 {
-        return;
+    if let Some(known) = said[n as usize] {
+        return known;
     }
-    let v = code(reached(m, l, n, facts));
-    mark(said, total, n, v);
+    let found = reached(m, l, n, facts);
+    mark(said, n, found);
+    found
 }
 
 // From a choice on, decides those with one line more struck, as long as they are reached: the last settles all below it.
-fn climb(said: &mut [u8; CHOICES], total: usize, m: Model, l: Lines, n: u32, facts: &mut [u8])
-    requires { Ready m l total said.old facts.old × (n < total) }
-    ensures { Onward (program_of m) (question_of m) (listed l) total said.old said.new × (length facts.new ≡ length facts.old) }
+fn climb(said: &mut [Option<bool>], m: Model, l: Lines, n: u32, facts: &mut [u8])
+    requires { Ready m l said.old facts.old × (n < length said.old) }
+    ensures { Onward (program_of m) (question_of m) (listed l) said.old said.new × (length facts.new ≡ length facts.old) }
 {
     let mut top = n;
     for i in 0..l.count {
         let next = top | (1 << i);
-        decide(said, total, m, l, next, facts);
-        if said[next as usize] == REACHED {
+        if decide(said, m, l, next, facts) {
             top = next;
         }
     }
 }
 
 // Decides a choice, unless it is settled, and climbs from it.
-fn settle(said: &mut [u8; CHOICES], total: usize, m: Model, l: Lines, n: u32, facts: &mut [u8])
-    requires { Ready m l total said.old facts.old × (n < total) }
-    ensures { Decides (program_of m) (question_of m) (listed l) total n said.old said.new × (length facts.new ≡ length facts.old) }
+fn settle(said: &mut [Option<bool>], m: Model, l: Lines, n: u32, facts: &mut [u8])
+    requires { Ready m l said.old facts.old × (n < length said.old) }
+    ensures { Settles (program_of m) (question_of m) (listed l) n said.old said.new × (length facts.new ≡ length facts.old) }
 {
-    let at = n as usize;
-    if said[at] != 0 {
-        return;
+    if said[n as usize].is_none() {
+        decide(said, m, l, n, facts);
+        climb(said, m, l, n, facts);
     }
-    decide(said, total, m, l, n, facts);
-    climb(said, total, m, l, n, facts);
 }
 
 // Decides every choice: all struck first, which may settle the whole table; then by rising number, so that of one that is not settled all below it are reached.
-fn complete(said: &mut [u8; CHOICES], total: usize, m: Model, l: Lines, facts: &mut [u8])
-    requires { Ready m l total said.old facts.old }
-    ensures { Complete (program_of m) (question_of m) (listed l) total said.new }
+fn complete(said: &mut [Option<bool>], m: Model, l: Lines, facts: &mut [u8])
+    requires { Ready m l said.old facts.old }
+    ensures { Complete (program_of m) (question_of m) (listed l) said.new }
 {
-    decide(said, total, m, l, (total - 1) as u32, facts);
-    for n in 0..total {
-        settle(said, total, m, l, n as u32, facts);
+    decide(said, m, l, (said.len() - 1) as u32, facts);
+    for n in 0..said.len() {
+        settle(said, m, l, n as u32, facts);
     }
 }
 
@@ -143,10 +126,11 @@ pub fn fill(m: Model, l: Lines) -> Option<Table>
     ensures { Fills (program_of m) (question_of m) (listed l) result }
 {
     let total = ways(l.count);
-    let mut said = [0u8; CHOICES];
+    let mut said = [None; CHOICES];
     let mut facts = [0u8; ROOM];
     let whole = search::search(&mut facts, m)?;
-    mark(&mut said, total, 0, code(whole.reached));
-    complete(&mut said, total, m, l, &mut facts);
+    let choices = &mut said[..total];
+    mark(choices, 0, whole.reached);
+    complete(choices, m, l, &mut facts);
     Some(Table { said, total })
 }

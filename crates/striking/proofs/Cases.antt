@@ -9,6 +9,7 @@ use native.Mathlib.Omega.{arith}
 use lib.Dec.{eqb}
 use lib.ListN.{length, length-append, get_or-append}
 use lib.Seq.{get_or-append_seam}
+use Rattle.std.proofs.lemmas.Bool.{cases_Bool}
 use Rattle.semantics.specs.Labels.{has, union, difference, relabel}
 use Rattle.semantics.specs.Models.{elem, Program}
 use Rattle.semantics.specs.Facts.{Database, state, Meets}
@@ -16,7 +17,7 @@ use Rattle.semantics.specs.Steps.{Pair, Steps}
 use Rattle.semantics.specs.Questions.{Reached}
 use Rattle.semantics.specs.Cases.{never, some_a, turning}
 use Rattle.striking.specs.Striking.{strike, Choice, Before, nothing as none-counted, reached as one-reached, unreached as one-unreached, faulty, some_b, Struck}
-use Rattle.semantics.proofs.Tools.{either, same?, elem-here, each-cons}
+use Rattle.semantics.proofs.Tools.{same?, elem-here, each-cons}
 use Rattle.striking.proofs.Striking.{strike-none, still-unreached}
 use Rattle.striking.proofs.Choices.{no-cure, empty-cure}
 use Rattle.semantics.proofs.Cases.{uncreated-true}
@@ -38,7 +39,7 @@ none_made : (ts : List Pair) (db : Database) → Steps (strike turning (3 ∷ []
 none_made [] db h = sym h
 none_made (t ∷ ts) db h = absurd (⊎_elim
     (λ (q : eqb t.0 4 ≡ true). not-suc-le-zero (rw q at h.0).0)
-    (λ (q : eqb t.0 4 ≡ false). rw q at h.0) (either (eqb t.0 4)))
+    (λ (q : eqb t.0 4 ≡ false). rw q at h.0) (cases_Bool (eqb t.0 4)))
 
 without-3 : Reached (strike turning (3 ∷ [])) some_b → ⊥
 without-3 r = let m = r.1.3 in let e = none_made r.1.0 r.1.1 r.1.2 in not-suc-le-zero (subst (λ (d : Database). r.0 0 < length d) e (m.0 0 (elem-here 0 [])))
@@ -55,7 +56,7 @@ stays-A : (ts : List Pair) (db db' : Database) → AllA db → Steps (strike tur
 stays-A [] db db' a h = subst (λ (d : Database). AllA d) h a
 stays-A (t ∷ ts) db db' a h = ⊎_elim
     (λ (q : eqb t.0 3 ≡ true). stays-A ts (db ++ (1 ∷ [])) db' (more-A db a) (rw q at h).1)
-    (λ (q : eqb t.0 3 ≡ false). absurd (rw q at h.0)) (either (eqb t.0 3))
+    (λ (q : eqb t.0 3 ≡ false). absurd (rw q at h.0)) (cases_Bool (eqb t.0 3))
 
 without-4 : Reached (strike turning (4 ∷ [])) some_b → ⊥
 unfolding has

@@ -1,7 +1,7 @@
 -- CHOICES OF LINES TO STRIKE: all of them, the one that cures (R-8), and how many are reached (R-10).
 use mathlib.Core.Path.{◌≡◌, refl, sym, ap, ap₂, ◌∙◌, subst}
 use mathlib.Core.Logic.{◌⊎◌, inl, inr, ⊎_elim, ◌≢◌, ◌↔◌}
-use mathlib.Core.Bool.{Bool, true, false, not, ◌&&◌, ◌||◌, and-eq-true_iff, false≢true}
+use mathlib.Core.Bool.{Bool, true, false, not, ◌&&◌, ◌||◌, and-eq-true_iff, false≢true, and-false}
 use mathlib.Core.List.Memᴰ
 use mathlib.Core.List.{List, [], ◌∷◌, ◌++◌, map, Memᴰ}
 use mathlib.Core.Option.{Option, none, some}
@@ -12,10 +12,11 @@ use lib.Pow.{pow_pos}
 use lib.Dec.{eqb, ltb}
 use lib.ListN.{length, length-append, length-map}
 use borrow.Author.Tests.{eqb-true, eqb-false, ltb-true, ltb-false, not-true}
+use Rattle.std.proofs.lemmas.Bool.{cases_Bool, or_cases}
 use Rattle.semantics.specs.Models.{elem, Program, Question, Distinct}
 use Rattle.semantics.specs.Questions.{Reached}
 use Rattle.striking.specs.Striking.{strike, Among, Rising, Choice, Before, Cure, NoCure, Cured, insert, rising, parts, choices, Counts, nothing, reached, unreached, Tally, unkept}
-use Rattle.semantics.proofs.Tools.{either, same?, clash, or-true-cases, or_right, or-false, and-false, elem-here, each_tail, each-cons}
+use Rattle.semantics.proofs.Tools.{same?, clash, or_right, or-false, elem-here, each_tail, each-cons}
 use Rattle.striking.proofs.Striking.{strike-none, strike-same, still-reached}
 
 -- RISING ORDER
@@ -32,7 +33,7 @@ insert-elem : (z x : ℕ) (ys : List ℕ) → elem z (insert x ys) ≡ (eqb z x 
 insert-elem z x [] = refl
 insert-elem z x (y ∷ ys) = ⊎_elim (λ (q : ltb x y ≡ true). rw q) (λ (q : ltb x y ≡ false). rw q (⊎_elim
     (λ (t : eqb x y ≡ true). rw (t, eqb-true x y t) (or-twice (eqb z y) (elem z ys)))
-    (λ (t : eqb x y ≡ false). rw (t, insert-elem z x ys) (or_swap (eqb z y) (eqb z x) (elem z ys))) (either (eqb x y)))) (either (ltb x y))
+    (λ (t : eqb x y ≡ false). rw (t, insert-elem z x ys) (or_swap (eqb z y) (eqb z x) (elem z ys))) (cases_Bool (eqb x y)))) (cases_Bool (ltb x y))
 
 -- the numbers are the listed ones,
 pub rising-elem : (z : ℕ) (L : List ℕ) → elem z (rising L) ≡ elem z L
@@ -46,8 +47,8 @@ insert-rising x (y ∷ ys) h = ⊎_elim
     (λ (q : ltb x y ≡ false). rw q (⊎_elim
     (λ (t : eqb x y ≡ true). rw t h)
     (λ (t : eqb x y ≡ false). let l : y < x = omega (arith, ltb-false x y q, eqb-false x y t) in
-    rw t ((λ z e. ⊎_elim (λ (u : eqb z x ≡ true). subst (λ (k : ℕ). y < k) (sym (eqb-true z x u)) l) (λ u. h.0 z u) (or-true-cases (eqb z x) (elem z ys) (sym (insert-elem z x ys) ∙ e))), insert-rising x ys h.1)) (either (eqb x y))))
-    (either (ltb x y))
+    rw t ((λ z e. ⊎_elim (λ (u : eqb z x ≡ true). subst (λ (k : ℕ). y < k) (sym (eqb-true z x u)) l) (λ u. h.0 z u) (or_cases (eqb z x) (elem z ys) (sym (insert-elem z x ys) ∙ e))), insert-rising x ys h.1)) (cases_Bool (eqb x y))))
+    (cases_Bool (ltb x y))
 
 -- in rising order,
 pub rising-rising : (L : List ℕ) → Rising (rising L)
@@ -56,7 +57,7 @@ rising-rising (x ∷ L) = insert-rising x (rising L) (rising-rising L)
 
 insert-length : (x : ℕ) (ys : List ℕ) → elem x ys ≡ false → length (insert x ys) ≡ suc (length ys)
 insert-length x [] e = refl
-insert-length x (y ∷ ys) e = let k = or-false (eqb x y) (elem x ys) e in ⊎_elim (λ (q : ltb x y ≡ true). rw q) (λ (q : ltb x y ≡ false). rw (q, k.0) (ap suc (insert-length x ys k.1))) (either (ltb x y))
+insert-length x (y ∷ ys) e = let k = or-false (eqb x y) (elem x ys) e in ⊎_elim (λ (q : ltb x y ≡ true). rw q) (λ (q : ltb x y ≡ false). rw (q, k.0) (ap suc (insert-length x ys k.1))) (cases_Bool (ltb x y))
 
 -- and as many, where none is listed twice
 pub rising-length : (L : List ℕ) → Distinct L → length (rising L) ≡ length L
@@ -69,7 +70,7 @@ parts-length [] = refl
 parts-length (x ∷ xs) = length-append (map (λ (C : List ℕ). x ∷ C) (parts xs)) (parts xs) ∙ rw (length-map, parts-length xs) (sym (two-pow-succ (length xs)))
 
 among-tail : (c x : ℕ) (cs xs : List ℕ) → ((y : ℕ) → elem y cs ≡ true → x < y) → Among cs (x ∷ xs) → Among cs xs
-among-tail c x cs xs l h y e = ⊎_elim (λ (q : eqb y x ≡ true). absurd (omega (arith, l y e, eqb-true y x q))) (λ q. q) (or-true-cases (eqb y x) (elem y xs) (h y e))
+among-tail c x cs xs l h y e = ⊎_elim (λ (q : eqb y x ≡ true). absurd (omega (arith, l y e, eqb-true y x q))) (λ q. q) (or_cases (eqb y x) (elem y xs) (h y e))
 
 choice-part : (xs C : List ℕ) → Rising xs → Choice xs C → Memᴰ C (parts xs)
 choice-part [] [] r c = Memᴰ.head refl
@@ -78,7 +79,7 @@ choice-part (x ∷ xs) [] r c = Memᴰ.append_right (map (λ (C : List ℕ). x �
 choice-part (x ∷ xs) (y ∷ C) r c = ⊎_elim
     (λ (q : y ≡ x). Memᴰ.append_left (parts xs) (subst (λ (z : ℕ). Memᴰ (z ∷ C) (map (λ (C : List ℕ). x ∷ C) (parts xs))) (sym q)
     (Memᴰ.map (λ (C : List ℕ). x ∷ C) (choice-part xs C r.1 (c.0.1, among-tail y x C xs (λ z e. omega (arith, q, c.0.0 z e)) (each_tail (λ (z : ℕ). elem z (x ∷ xs) ≡ true) y C c.1))))))
-    (λ (q : y ≢ x). let m : elem y xs ≡ true = ⊎_elim (λ (t : eqb y x ≡ true). absurd (q (eqb-true y x t))) (λ t. t) (or-true-cases (eqb y x) (elem y xs) (c.1 y (elem-here y C))) in
+    (λ (q : y ≢ x). let m : elem y xs ≡ true = ⊎_elim (λ (t : eqb y x ≡ true). absurd (q (eqb-true y x t))) (λ t. t) (or_cases (eqb y x) (elem y xs) (c.1 y (elem-here y C))) in
     let l : x < y = r.0 y m in
     Memᴰ.append_right (map (λ (C : List ℕ). x ∷ C) (parts xs)) (choice-part xs (y ∷ C) r.1 (c.0, among-tail y x (y ∷ C) xs (each-cons (λ (z : ℕ). x < z) y C l (λ z e. omega (arith, l, c.0.0 z e))) c.1)))
     (same? y x)
@@ -170,7 +171,7 @@ before-or [] (y ∷ D) e = absurd (suc-ne-zero (length D) (sym e))
 before-or (x ∷ C) [] e = absurd (suc-ne-zero (length C) e)
 before-or (x ∷ C) (y ∷ D) e = ⊎_elim
     (λ (q : x ≡ y). ⊎_elim (λ b. inl (inr (q, b))) (λ k. inr (⊎_elim (λ (t : C ≡ D). inl (ap₂ {C = List ℕ} (λ (a : ℕ) (r : List ℕ). a ∷ r) q t)) (λ b. inr (inr (sym q, b))) k)) (before-or C D (suc_inj e)))
-    (λ (q : x ≢ y). ⊎_elim (λ (t : ltb x y ≡ true). inl (inl (ltb-true x y t))) (λ (t : ltb x y ≡ false). inr (inr (inl (omega (arith, ltb-false x y t))))) (either (ltb x y)))
+    (λ (q : x ≢ y). ⊎_elim (λ (t : ltb x y ≡ true). inl (inl (ltb-true x y t))) (λ (t : ltb x y ≡ false). inr (inr (inl (omega (arith, ltb-false x y t))))) (cases_Bool (ltb x y)))
     (same? x y)
 
 sooner-not : (C : List ℕ) → Sooner C C → ⊥
@@ -184,7 +185,7 @@ sooner-trans C D E s t = ⊎_elim
 sooner-or : (C D : List ℕ) → Sooner C D ⊎ ((C ≡ D) ⊎ Sooner D C)
 sooner-or C D = ⊎_elim
     (λ (e : length C ≡ length D). ⊎_elim (λ b. inl (inr (e, b))) (λ k. inr (⊎_elim (λ t. inl t) (λ b. inr (inr (sym e, b))) k)) (before-or C D e))
-    (λ (n : length C ≢ length D). ⊎_elim (λ (t : ltb (length C) (length D) ≡ true). inl (inl (ltb-true (length C) (length D) t))) (λ (t : ltb (length C) (length D) ≡ false). inr (inr (inl (omega (arith, ltb-false (length C) (length D) t))))) (either (ltb (length C) (length D))))
+    (λ (n : length C ≢ length D). ⊎_elim (λ (t : ltb (length C) (length D) ≡ true). inl (inl (ltb-true (length C) (length D) t))) (λ (t : ltb (length C) (length D) ≡ false). inr (inr (inl (omega (arith, ltb-false (length C) (length D) t))))) (cases_Bool (ltb (length C) (length D))))
     (same? (length C) (length D))
 
 module _ (P : Program) (Q : Question) (L : List ℕ) where
@@ -262,14 +263,14 @@ module _ (P : Program) (Q : Question) (L : List ℕ) where
 struck-elem : (L K : List ℕ) (x : ℕ) → elem x (unkept L K) ≡ (elem x L && not (elem x K))
 struck-elem [] K x = refl
 struck-elem (y ∷ L) K x = ⊎_elim
-    (λ (q : elem y K ≡ true). rw (q, struck-elem L K x) (⊎_elim (λ (t : eqb x y ≡ true). rw (t, subst (λ (z : ℕ). elem z K ≡ true) (sym (eqb-true x y t)) q) (and-false (elem x L))) (λ (t : eqb x y ≡ false). rw t) (either (eqb x y))))
-    (λ (q : elem y K ≡ false). rw (q, struck-elem L K x) (⊎_elim (λ (t : eqb x y ≡ true). rw (t, subst (λ (z : ℕ). elem z K ≡ false) (sym (eqb-true x y t)) q)) (λ (t : eqb x y ≡ false). rw t) (either (eqb x y))))
-    (either (elem y K))
+    (λ (q : elem y K ≡ true). rw (q, struck-elem L K x) (⊎_elim (λ (t : eqb x y ≡ true). rw (t, subst (λ (z : ℕ). elem z K ≡ true) (sym (eqb-true x y t)) q) (and-false (elem x L))) (λ (t : eqb x y ≡ false). rw t) (cases_Bool (eqb x y))))
+    (λ (q : elem y K ≡ false). rw (q, struck-elem L K x) (⊎_elim (λ (t : eqb x y ≡ true). rw (t, subst (λ (z : ℕ). elem z K ≡ false) (sym (eqb-true x y t)) q)) (λ (t : eqb x y ≡ false). rw t) (cases_Bool (eqb x y))))
+    (cases_Bool (elem y K))
 
 unkept-fewer : (L K K' : List ℕ) → Among K K' → Among (unkept L K') (unkept L K)
 unkept-fewer L K K' h x e =
     let k = (and-eq-true_iff (elem x L) (not (elem x K'))).0 (sym (struck-elem L K' x) ∙ e) in
-    struck-elem L K x ∙ (and-eq-true_iff (elem x L) (not (elem x K))).1 (k.0, ⊎_elim (λ (t : elem x K ≡ true). clash (h x t) (not-true (elem x K') k.1)) (λ (t : elem x K ≡ false). rw t) (either (elem x K)))
+    struck-elem L K x ∙ (and-eq-true_iff (elem x L) (not (elem x K))).1 (k.0, ⊎_elim (λ (t : elem x K ≡ true). clash (h x t) (not-true (elem x K') k.1)) (λ (t : elem x K ≡ false). rw t) (cases_Bool (elem x K)))
 
 -- "A REACHED CHOICE OF KEPT LINES IS STILL REACHED WITH ANY FURTHER LINE KEPT"
 pub further-kept : (P : Program) (Q : Question) (L K : List ℕ) (ℓ : ℕ) → Reached (strike P (unkept L K)) Q → Reached (strike P (unkept L (ℓ ∷ K))) Q

@@ -3,7 +3,7 @@ use mathlib.Core.Path.{◌≡◌, refl, sym, ap, ap₂, ◌∙◌, subst}
 use mathlib.Core.Logic.{◌⊎◌, inl, inr, ⊎_elim, ◌≢◌}
 use mathlib.Core.Bool.{true, false}
 use mathlib.Core.List.Memᴰ
-use mathlib.Core.List.{List, [], ◌∷◌, ◌++◌, map, Memᴰ}
+use mathlib.Core.List.{List, [], ◌∷◌, ◌++◌, map, Memᴰ, map-append}
 use Prim.Native.Nat.{ℕ, zero, suc, ◌+◌, ◌*◌, ◌^◌, ◌/◌, ◌%◌, ◌≤◌, ◌<◌, ◌-◌}
 use native.Mathlib.Nat.{two-pow-succ, pow-succ', mul-add-div, mul-one, div-eq_of_lt, le_refl, not-suc-le-zero}
 use native.Mathlib.Omega.{arith}
@@ -11,12 +11,13 @@ use lib.Pow.{pow_pos, pow-add}
 use lib.Dec.{eqb, ltb}
 use lib.ListN.{length}
 use borrow.Author.Tests.{ltb-true, ltb-false}
+use Rattle.std.proofs.lemmas.Bool.{cases_Bool}
 use Rattle.semantics.specs.Labels.{has}
 use Rattle.semantics.specs.Models.{elem, Program, Question}
 use Rattle.semantics.specs.Questions.{Reached}
 use Rattle.striking.specs.Striking.{strike, Among, Choice, Before, Cure, NoCure, rising, parts, choices}
 use Rattle.striking.specs.Numbers.{numbered, falling}
-use Rattle.semantics.proofs.Tools.{either, same?, or_right, each-cons, elem-here}
+use Rattle.semantics.proofs.Tools.{same?, or_right, each-cons, elem-here}
 use Rattle.semantics.proofs.Sets.{has-beyond}
 use Rattle.striking.proofs.Choices.{choices-all, Ordered, choices-ordered, before-not, before-trans}
 
@@ -53,10 +54,6 @@ falling-add : (a b : ℕ) → falling (a + b) ≡ map (λ (n : ℕ). a + n) (fal
 falling-add a zero = ap falling (let e : a + 0 ≡ a = omega arith in e)
 falling-add a (suc b) = ap falling (let e : a + suc b ≡ suc (a + b) = omega arith in e) ∙ ap {B = List ℕ} (λ (r : List ℕ). (a + b) ∷ r) (falling-add a b)
 
-map_both : (f : ℕ → List ℕ) (l k : List ℕ) → map f (l ++ k) ≡ map f l ++ map f k
-map_both f [] k = refl
-map_both f (x ∷ l) k = ap {B = List (List ℕ)} (λ (r : List (List ℕ)). f x ∷ r) (map_both f l k)
-
 map_below : (f g : ℕ → List ℕ) (k : ℕ) → ((n : ℕ) → n < k → f n ≡ g n) → map f (falling k) ≡ map g (falling k)
 map_below f g zero h = refl
 map_below f g (suc k) h = ap₂ {C = List (List ℕ)} (λ (a : List ℕ) (r : List (List ℕ)). a ∷ r) (h k (omega arith)) (map_below f g k (λ n l. h n (omega arith)))
@@ -70,7 +67,7 @@ parts-numbered [] = refl
 parts-numbered (x ∷ xs) =
     ap (λ (l : List (List ℕ)). map (λ (C : List ℕ). x ∷ C) l ++ l) (parts-numbered xs)
     ∙ ap₂ {C = List (List ℕ)} (λ (l k : List (List ℕ)). l ++ k) (map-top x (2 ^ length xs) (numbered xs) (numbered (x ∷ xs)) (2 ^ length xs) upper) (map_below (numbered xs) (numbered (x ∷ xs)) (2 ^ length xs) lower)
-    ∙ sym (map_both (numbered (x ∷ xs)) (map (λ (n : ℕ). 2 ^ length xs + n) (falling (2 ^ length xs))) (falling (2 ^ length xs)))
+    ∙ sym (map-append (numbered (x ∷ xs)) (map (λ (n : ℕ). 2 ^ length xs + n) (falling (2 ^ length xs))) (falling (2 ^ length xs)))
     ∙ ap (λ (l : List ℕ). map (numbered (x ∷ xs)) l) (sym (falling-add (2 ^ length xs) (2 ^ length xs)) ∙ ap falling (sym (two-pow-succ (length xs))))
   where
     upper : (n : ℕ) → n < 2 ^ length xs → (x ∷ numbered xs n) ≡ numbered (x ∷ xs) (2 ^ length xs + n)
@@ -121,7 +118,7 @@ module _ (L : List ℕ) where
       (λ (s : k ≡ n). before-not (numbered xs n) (subst (λ (z : ℕ). Before (numbered xs z) (numbered xs n)) s b))
       (λ (s : k ≢ n). before-not (numbered xs n) (before-trans (numbered xs n) (numbered xs k) (numbered xs n) (higher-before n k (omega (arith, ltb-false n k q)) l (sym e)) b))
       (same? k n)))
-      (either (ltb n k))
+      (cases_Bool (ltb n k))
 
   -- SOONER: the choice of number k is smaller than that of n, or equally small and of a higher number
   abbrev pub Sooner : ℕ → ℕ → Type 0
@@ -150,5 +147,5 @@ numbered_more (x ∷ xs) n k h = ⊎_elim
     (λ (q : has n (length xs) ≡ true). rw (q, h (length xs) q) (each-cons (λ (z : ℕ). elem z (x ∷ numbered xs k) ≡ true) x (numbered xs n) (elem-here x (numbered xs k)) (λ z e. or_right (eqb z x) (elem z (numbered xs k)) (numbered_more xs n k h z e))))
     (λ (q : has n (length xs) ≡ false). rw q (⊎_elim
     (λ (t : has k (length xs) ≡ true). rw t (λ z e. or_right (eqb z x) (elem z (numbered xs k)) (numbered_more xs n k h z e)))
-    (λ (t : has k (length xs) ≡ false). rw t (numbered_more xs n k h)) (either (has k (length xs)))))
-    (either (has n (length xs)))
+    (λ (t : has k (length xs) ≡ false). rw t (numbered_more xs n k h)) (cases_Bool (has k (length xs)))))
+    (cases_Bool (has n (length xs)))

@@ -8,12 +8,13 @@ use native.Mathlib.Omega.{arith}
 use lib.Dec.{eqb, ltb}
 use lib.ListN.{length}
 use borrow.Author.Tests.{eqb-true, eqb-false, ltb-false, not-false, le-ltb, ne_eqb}
+use Rattle.std.proofs.lemmas.Bool.{cases_Bool}
 use Rattle.semantics.specs.Models.{elem, Body, Line, rule, new, next, other, Program, line, Question, Distinct, Safe}
 use Rattle.semantics.specs.Facts.{Database, Obeys, In, Derived, Meets}
 use Rattle.semantics.specs.Steps.{Enabled, execute, Pair, Steps, Reachable}
 use Rattle.semantics.specs.Questions.{Answers, Reached}
 use Rattle.striking.specs.Striking.{strike, strikable, AllStrikable, twice, strange, most, faulty, Among}
-use Rattle.semantics.proofs.Tools.{either, clash, or-false, each-head, each_tail, each-cons}
+use Rattle.semantics.proofs.Tools.{clash, or-false, each-head, each_tail, each-cons}
 use Rattle.semantics.proofs.Bodies.{more-facts}
 
 -- WHAT STANDS ON A LINE
@@ -23,8 +24,8 @@ strike-struck (c ∷ P) L ℓ e = ⊎_elim
     (λ (q : elem c.0 L ≡ true). rw q (strike-struck P L ℓ e))
     (λ (q : elem c.0 L ≡ false). rw q (⊎_elim
     (λ (t : eqb ℓ c.0 ≡ true). clash (subst (λ (z : ℕ). elem z L ≡ true) (eqb-true ℓ c.0 t) e) q)
-    (λ (t : eqb ℓ c.0 ≡ false). rw t (strike-struck P L ℓ e)) (either (eqb ℓ c.0))))
-    (either (elem c.0 L))
+    (λ (t : eqb ℓ c.0 ≡ false). rw t (strike-struck P L ℓ e)) (cases_Bool (eqb ℓ c.0))))
+    (cases_Bool (elem c.0 L))
 
 pub strike-kept : (P : Program) (L : List ℕ) (ℓ : ℕ) → elem ℓ L ≡ false → line (strike P L) ℓ ≡ line P ℓ
 strike-kept [] L ℓ e = refl
@@ -32,8 +33,8 @@ strike-kept (c ∷ P) L ℓ e = ⊎_elim
     (λ (t : eqb ℓ c.0 ≡ true). rw (subst (λ (z : ℕ). elem z L ≡ false) (eqb-true ℓ c.0 t) e, t))
     (λ (t : eqb ℓ c.0 ≡ false). rw t (⊎_elim
     (λ (q : elem c.0 L ≡ true). rw q (strike-kept P L ℓ e))
-    (λ (q : elem c.0 L ≡ false). rw (q, t) (strike-kept P L ℓ e)) (either (elem c.0 L))))
-    (either (eqb ℓ c.0))
+    (λ (q : elem c.0 L ≡ false). rw (q, t) (strike-kept P L ℓ e)) (cases_Bool (elem c.0 L))))
+    (cases_Bool (eqb ℓ c.0))
 
 -- striking nothing is the program itself
 pub strike-none : (P : Program) → strike P [] ≡ P
@@ -44,8 +45,8 @@ strike-none (c ∷ P) = ap {B = Program} (λ (R : Program). c ∷ R) (strike-non
 same-elem : (L L' : List ℕ) → Among L L' → Among L' L → (x : ℕ) → elem x L ≡ elem x L'
 same-elem L L' h k x = ⊎_elim
     (λ (q : elem x L ≡ true). q ∙ sym (h x q))
-    (λ (q : elem x L ≡ false). ⊎_elim (λ (t : elem x L' ≡ true). clash (k x t) q) (λ (t : elem x L' ≡ false). q ∙ sym t) (either (elem x L')))
-    (either (elem x L))
+    (λ (q : elem x L ≡ false). ⊎_elim (λ (t : elem x L' ≡ true). clash (k x t) q) (λ (t : elem x L' ≡ false). q ∙ sym t) (cases_Bool (elem x L')))
+    (cases_Bool (elem x L))
 
 pub strike-same : (P : Program) (L L' : List ℕ) → Among L L' → Among L' L → strike P L ≡ strike P L'
 strike-same [] L L' h k = refl
@@ -53,7 +54,7 @@ strike-same (c ∷ P) L L' h k = rw (same-elem L L' h k c.0, strike-same P L L' 
 
 -- a safe text stays safe
 pub strike-safe : (P : Program) (L : List ℕ) → Safe P → Safe (strike P L)
-strike-safe P L s ℓ = ⊎_elim (λ (q : elem ℓ L ≡ true). rw (strike-struck P L ℓ q) tt) (λ (q : elem ℓ L ≡ false). rw (strike-kept P L ℓ q) (s ℓ)) (either (elem ℓ L))
+strike-safe P L s ℓ = ⊎_elim (λ (q : elem ℓ L ≡ true). rw (strike-struck P L ℓ q) tt) (λ (q : elem ℓ L ≡ false). rw (strike-kept P L ℓ q) (s ℓ)) (cases_Bool (elem ℓ L))
 
 -- FEWER LINES: each line of P is the line of that number of P', or none
 abbrev pub Fewer : Program → Program → Type 0
@@ -62,8 +63,8 @@ Fewer P P' = (ℓ : ℕ) → (line P ℓ ≡ other) ⊎ (line P ℓ ≡ line P' 
 pub strike-fewer : (P : Program) (L L' : List ℕ) → Among L L' → Fewer (strike P L') (strike P L)
 strike-fewer P L L' h ℓ = ⊎_elim
     (λ (q : elem ℓ L' ≡ true). inl (strike-struck P L' ℓ q))
-    (λ (q : elem ℓ L' ≡ false). inr (strike-kept P L' ℓ q ∙ sym (strike-kept P L ℓ (⊎_elim (λ (t : elem ℓ L ≡ true). clash (h ℓ t) q) (λ (t : elem ℓ L ≡ false). t) (either (elem ℓ L))))))
-    (either (elem ℓ L'))
+    (λ (q : elem ℓ L' ≡ false). inr (strike-kept P L' ℓ q ∙ sym (strike-kept P L ℓ (⊎_elim (λ (t : elem ℓ L ≡ true). clash (h ℓ t) q) (λ (t : elem ℓ L ≡ false). t) (cases_Bool (elem ℓ L))))))
+    (cases_Bool (elem ℓ L'))
 
 -- MORE LINES: every fact, every meeting and every step is there still
 module _ (P P' : Program) (fewer : Fewer P P') where
@@ -113,7 +114,7 @@ reachable-whole P s L r = subst (λ (R : Program). Reachable R s) (strike-none P
 -- STRIKING NO RULE: the facts stay, in every database
 module _ (P : Program) (L : List ℕ) (may : AllStrikable P L) where
   whole : Fewer (strike P L) P
-  whole ℓ = ⊎_elim (λ (q : elem ℓ L ≡ true). inl (strike-struck P L ℓ q)) (λ (q : elem ℓ L ≡ false). inr (strike-kept P L ℓ q)) (either (elem ℓ L))
+  whole ℓ = ⊎_elim (λ (q : elem ℓ L ≡ true). inl (strike-struck P L ℓ q)) (λ (q : elem ℓ L ≡ false). inr (strike-kept P L ℓ q)) (cases_Bool (elem ℓ L))
 
   unruled : (db : Database) (F : ℕ → List ℕ → Type 0) (M : Line) → strikable M ≡ true → Obeys db F M
   unruled db F (rule r xs b) s = absurd (false≢true s)
@@ -124,7 +125,7 @@ module _ (P : Program) (L : List ℕ) (may : AllStrikable P L) where
   pub derived-stay : (db : Database) (r : ℕ) (os : List ℕ) → Derived (strike P L) db r os ↔ Derived P db r os
   derived-stay db r os = (
     derived-more (strike P L) P whole db r os,
-    λ d T c. d T (λ ℓ. ⊎_elim (λ (q : elem ℓ L ≡ true). unruled db (In T) (line P ℓ) (may ℓ q)) (λ (q : elem ℓ L ≡ false). subst (λ (M : Line). Obeys db (In T) M) (strike-kept P L ℓ q) (c ℓ)) (either (elem ℓ L))),
+    λ d T c. d T (λ ℓ. ⊎_elim (λ (q : elem ℓ L ≡ true). unruled db (In T) (line P ℓ) (may ℓ q)) (λ (q : elem ℓ L ≡ false). subst (λ (M : Line). Obeys db (In T) M) (strike-kept P L ℓ q) (c ℓ)) (cases_Bool (elem ℓ L))),
   )
 
   pub meets-stay : (db : Database) (σ : ℕ → ℕ) (b : Body) → Meets (strike P L) db σ b ↔ Meets P db σ b

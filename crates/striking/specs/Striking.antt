@@ -1,5 +1,5 @@
 -- STRIKING LINES: a text without some of its `new` and `next` lines; which lines to strike (document 02, R-8), and how much of the policy matters (R-10).
-use Rattle.std.specs.Prelude.{◌≡◌, ◌⊎◌, Bool, true, false, cond, not, ◌||◌, List, [], ◌∷◌, ◌++◌, map, ℕ, suc, ◌+◌, ◌*◌, ◌^◌, ◌<◌, eqb, ltb, length}
+use Rattle.std.specs.Prelude.{◌≡◌, ◌⊎◌, Bool, true, false, if◌then◌else◌, not, ◌||◌, List, [], ◌∷◌, ◌++◌, map, ℕ, suc, ◌+◌, ◌*◌, ◌^◌, ◌<◌, ◌==◌, nat_lt, length}
 use Rattle.std.proofs.Math.Option.{Option, none, some}
 use Rattle.semantics.specs.Models.{elem, is, Line, rule, new, next, other, Program, line, Question}
 use Rattle.semantics.specs.Questions.{Reached}
@@ -8,7 +8,7 @@ use Rattle.semantics.specs.Cases.{never, some_a, turning}
 -- the program without the lines of these numbers: "Removing lines renumbers none: the others keep their line numbers"
 abbrev pub strike : Program → List ℕ → Program
 strike [] L = []
-strike (c ∷ P) L = cond (elem c.0 L) (strike P L) (c ∷ strike P L)
+strike (c ∷ P) L = if elem c.0 L then strike P L else c ∷ strike P L
 
 -- THE LIST that is given. A line that may be struck: a `new` or a `next` line
 abbrev pub strikable : Line → Bool
@@ -37,7 +37,7 @@ most = 10
 
 -- REFUSAL 19: "if the list is empty, over ten long, names a line twice or names one that is neither `new` nor `next`"
 unfoldable pub faulty : Program → List ℕ → Bool
-faulty P L = eqb (length L) 0 || (ltb most (length L) || (twice L || strange P L))
+faulty P L = length L == 0 || (nat_lt most (length L) || (twice L || strange P L))
 
 -- CHOICES. The numbers of the one list are among those of the other
 abbrev pub Among : List ℕ → List ℕ → Type 0
@@ -77,7 +77,7 @@ Cured P Q L (some C) = Cure P Q L C
 -- ALL CHOICES. The numbers of a list in rising order, each once
 abbrev pub insert : ℕ → List ℕ → List ℕ
 insert x [] = x ∷ []
-insert x (y ∷ ys) = cond (ltb x y) (x ∷ y ∷ ys) (cond (eqb x y) (y ∷ ys) (y ∷ insert x ys))
+insert x (y ∷ ys) = if nat_lt x y then x ∷ y ∷ ys else (if x == y then y ∷ ys else y ∷ insert x ys)
 
 abbrev pub rising : List ℕ → List ℕ
 rising [] = []
@@ -107,7 +107,7 @@ pub record Tally (P : Program) (Q : Question) (L : List ℕ) (reached unreached 
 -- "to keep some and strike the rest": those of the listed lines that are not kept
 abbrev pub unkept : List ℕ → List ℕ → List ℕ
 unkept [] K = []
-unkept (x ∷ L) K = cond (elem x K) (unkept L K) (x ∷ unkept L K)
+unkept (x ∷ L) K = if elem x K then unkept L K else x ∷ unkept L K
 
 -- EXAMPLES, with `(new (A))` on line 3 and `(next x (B) (A) (A x))` on line 4: `((B x))`,
 abbrev pub some_b : Question

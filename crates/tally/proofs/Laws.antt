@@ -1,20 +1,21 @@
 -- THE COUNT BY THE TABLE: what a table that decides every choice says of them is counted.
-use mathlib.Core.Path.{◌≡◌, refl, sym, ap, ◌∙◌, subst}
+use mathlib.Core.Path.{◌≡◌, sym, ap, ◌∙◌, subst}
 use mathlib.Core.Logic.{inl, inr, ⊎_elim}
-use mathlib.Core.Bool.{true, false}
+use mathlib.Core.Bool.{Bool, true, false}
 use mathlib.Core.List.{List, map}
 use Prim.Native.Nat.{ℕ, zero, suc, ◌+◌, ◌-◌, ◌*◌, ◌/◌, ◌%◌, ◌^◌, ◌≤◌, ◌<◌}
 use native.Mathlib.Nat.{mod-lt, div-add-mod'}
 use native.Mathlib.Numerals.{add-one}
 use native.Mathlib.Omega.{arith}
-use lib.Dec.{eqb}
-use lib.ListN.{length, get_or}
+use lib.ListN.{length, get_or, take}
+use Rattle.std.proofs.lemmas.Bool.{cases_Bool}
+use Rattle.std.proofs.lemmas.List.{length-take}
+use Rattle.std.proofs.lemmas.List.Sums.{count_by-le-length, count_by_more_no, count_by_more_yes}
 use lib.Pow.{pow_pos}
-use Rattle.std.specs.Prelude.{Ok, Err}
+use Rattle.std.specs.Prelude.{Option, None, Ok, Err, unwrap_or}
 use Rattle.rows.specs.declared.Refusal.{Refusal}
 use Rattle.semantics.specs.Models.{Program, Question, Distinct}
 use Rattle.semantics.specs.Questions.{Verdict}
-use Rattle.semantics.proofs.Tools.{either}
 use Rattle.grammar.specs.Texts.{Outcome, accepted, refused}
 use Rattle.striking.specs.Striking.{strike, rising, choices, Counts, nothing, reached, unreached, Tally}
 use Rattle.striking.specs.Numbers.{numbered, falling}
@@ -31,52 +32,29 @@ use Rattle.tally.specs.Ones.{ones}
 use Rattle.tally.specs.Tallying.{Tallied, Leaves}
 
 -- at most all
-pub ones-most : (said : List ℕ) (i : ℕ) → ones said i ≤ i
-ones-most said zero = omega arith
-ones-most said (suc i) = ⊎_elim (λ (q : eqb (get_or said i 0) 1 ≡ true). rw q (omega (arith, ones-most said i))) (λ (q : eqb (get_or said i 0) 1 ≡ false). rw q (omega (arith, ones-most said i))) (either (eqb (get_or said i 0) 1))
+pub ones-most : (said : List (Option Bool)) (n : ℕ) → ones said n ≤ n
+ones-most said n = omega (arith, count_by-le-length (λ v. unwrap_or v false) (take n said), length-take n said)
 
 -- one more
-ones-more : (said : List ℕ) (i : ℕ) → eqb (get_or said i 0) 1 ≡ true → ones said (suc i) ≡ suc (ones said i)
-ones-more said i e = rw e
+ones-more : (said : List (Option Bool)) (i : ℕ) → i < length said → unwrap_or (get_or said i None) false ≡ true → ones said (suc i) ≡ suc (ones said i)
+ones-more said i l e = subst (λ (k : ℕ). ones said k ≡ suc (ones said i)) (add-one i) (count_by_more_yes (λ v. unwrap_or v false) said i None l e ∙ add-one (ones said i))
 
-ones-other : (said : List ℕ) (i : ℕ) → eqb (get_or said i 0) 1 ≡ false → ones said (suc i) ≡ ones said i
-ones-other said i e = rw e
-
--- COUNTING: n of the first i are said to be reached
-pub record Counting (said : List ℕ) (i n : ℕ) : Type 0 where
-  pub same : n ≡ ones said i
-
-pub counting-start : (said : List ℕ) → Counting said 0 0
-counting-start said = record { same = refl }
-
-module _ (said : List ℕ) (i n : ℕ) (c : Counting said i n) where
-  pub counting-few : n ≤ i
-  counting-few = omega (arith, c.same, ones-most said i)
-
-  next : i + 1 ≡ suc i
-  next = add-one i
-
-  pub counting_more : eqb (get_or said i 0) 1 ≡ true → Counting said (i + 1) (n + 1)
-  counting_more e = record { same = subst (λ (k : ℕ). n + 1 ≡ ones said k) (sym next) (omega (arith, c.same, ones-more said i e)) }
-
-  pub counting-other : eqb (get_or said i 0) 1 ≡ false → Counting said (i + 1) n
-  counting-other e = record { same = subst (λ (k : ℕ). n ≡ ones said k) (sym next) (c.same ∙ sym (ones-other said i e)) }
-
-  pub counting-end : (total : ℕ) → i ≡ total → n ≡ ones said total
-  counting-end total e = c.same ∙ ap (ones said) e
+ones-other : (said : List (Option Bool)) (i : ℕ) → i < length said → unwrap_or (get_or said i None) false ≡ false → ones said (suc i) ≡ ones said i
+ones-other said i l e = subst (λ (k : ℕ). ones said k ≡ ones said i) (add-one i) (count_by_more_no (λ v. unwrap_or v false) said i None l e)
 
 -- THE TALLY
-module _ (P : Program) (Q : Question) (L : List ℕ) (t : Table) (once : Distinct L) (d : Filled P Q (rising L) t) where
+module _ (P : Program) (Q : Question) (L : List ℕ) (t : Table) (long : t.total ≤ length t.said) (once : Distinct L) (d : Filled P Q (rising L) t) where
   counted : (i : ℕ) → i ≤ 2 ^ length (rising L) → Counts P Q (map (numbered (rising L)) (falling i)) (ones t.said i) (i - ones t.said i)
   counted zero l = nothing
   counted (suc i) l =
       let v = d.verdict i l in
       let c = counted i (omega arith) in
       let m = ones-most t.said i in
+      let w : i < length t.said = omega (arith, l, d.total, long) in
       ⊎_elim
-      (λ (q : eqb (get_or t.said i 0) 1 ≡ true). rw q (subst (λ (u : ℕ). Counts P Q (map (numbered (rising L)) (falling (suc i))) (suc (ones t.said i)) u) (omega (arith, m)) (reached (subst (Verdict (strike P (numbered (rising L) i)) Q) q v) c)))
-      (λ (q : eqb (get_or t.said i 0) 1 ≡ false). rw q (subst (λ (u : ℕ). Counts P Q (map (numbered (rising L)) (falling (suc i))) (ones t.said i) u) (omega (arith, m)) (unreached (subst (Verdict (strike P (numbered (rising L) i)) Q) q v) c)))
-      (either (eqb (get_or t.said i 0) 1))
+      (λ (q : unwrap_or (get_or t.said i None) false ≡ true). rw (ones-more t.said i w q) (subst (λ (u : ℕ). Counts P Q (map (numbered (rising L)) (falling (suc i))) (suc (ones t.said i)) u) (omega (arith, m)) (reached (subst (Verdict (strike P (numbered (rising L) i)) Q) q v) c)))
+      (λ (q : unwrap_or (get_or t.said i None) false ≡ false). rw (ones-other t.said i w q) (subst (λ (u : ℕ). Counts P Q (map (numbered (rising L)) (falling (suc i))) (ones t.said i) u) (omega (arith, m)) (unreached (subst (Verdict (strike P (numbered (rising L) i)) Q) q v) c)))
+      (cases_Bool (unwrap_or (get_or t.said i None) false))
 
   all : Counts P Q (choices L) (ones t.said t.total) (t.total - ones t.said t.total)
   all = rw (choices-numbered L, d.total) (counted (2 ^ length (rising L)) (omega arith))

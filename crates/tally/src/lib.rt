@@ -9,7 +9,7 @@ ghost use Rattle.tally.specs.Tallying.{Tallied, Tallies};
 
 use rows::Refusal;
 use strike_calls::Choices;
-use strike_table::{REACHED, Table};
+use strike_table::Table;
 
 // How many choices are reached and how many unreached, and the reached share in whole hundredths with its remainder.
 #[derive(Clone, Copy)]
@@ -25,13 +25,8 @@ fn reached(t: Table) -> u32
     requires { t.total ≤ 1024 }
     ensures { result ≡ ones t.said t.total }
 {
-    let mut n = 0;
-    for i in 0..t.total {
-        if t.said[i] == REACHED {
-            n += 1;
-        }
-    }
-    n
+    let said = &t.said[..t.total];
+    said.iter().filter(|v| v.unwrap_or(false)).count() as u32
 }
 
 // The share of a count in whole hundredths.

@@ -8,11 +8,11 @@ use native.Mathlib.Omega.{arith}
 use lib.Dec.{eqb}
 use lib.ListN.{length}
 use borrow.Author.Tests.{eqb-true, eqb-false}
+use Rattle.std.proofs.lemmas.Bool.{cases_Bool}
 use Rattle.model.specs.Records.{program_of, question_of}
 use Rattle.model.specs.WellFormed.{WellFormed}
 use Rattle.model.specs.declared.Model.{Model}
 use Rattle.grammar.specs.Texts.{Outcome, accepted, refused, outcome}
-use Rattle.grammar.proofs.Tests.{either}
 use Rattle.acceptance.proofs.WellFormed.{accepted-well-formed}
 use Rattle.calls.specs.Calls.{early, called}
 use Rattle.calls.proofs.Laws.{called-early, called-lines, sizes}
@@ -33,7 +33,7 @@ module _ (text : List ℕ) (m : Model) where
     none-early = ⊎_elim
         (λ (q : eqb (early (length text) short long) 0 ≡ true). eqb-true (early (length text) short long) 0 q)
         (λ (q : eqb (early (length text) short long) 0 ≡ false). absurd (unlike a (called-early text short long (eqb-false (early (length text) short long) 0 q))))
-        (either (eqb (early (length text) short long) 0))
+        (cases_Bool (eqb (early (length text) short long) 0))
 
     pub not-short : short ≡ false
     not-short = (sizes (length text) short long none-early).0

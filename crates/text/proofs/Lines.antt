@@ -1,27 +1,29 @@
 -- FROM LINE TO LINE.
 use mathlib.Core.Path.{◌≡◌, refl, sym, ap, ◌∙◌}
 use mathlib.Core.Logic.{⊎_elim}
-use mathlib.Core.Bool.{true, false}
+use mathlib.Core.Bool.{Bool, true, false, cond, ◌||◌}
 use mathlib.Core.List.{List, [], ◌∷◌}
 use mathlib.Core.Option.{none, some}
 use Prim.Native.Nat.{ℕ, ◌+◌, ◌≤◌, ◌<◌}
 use native.Mathlib.Numerals.{add-one}
 use native.Mathlib.Omega.{arith}
-use lib.Dec.{eqb}
+use lib.Dec.{eqb, ltb}
 use lib.ListN.{length, take, drop}
 use lib.Seq.{slice}
-use borrow.Author.Tests.{lt-ltb, le-ltb, eq-eqb, ne_eqb}
+use borrow.Author.Tests.{ltb-false}
 use Rattle.limits.specs.Limits as limit
 use Rattle.model.specs.Records.{program_of}
 use Rattle.model.specs.declared.Model.{Model}
 use Rattle.grammar.specs.Bytes.{bytes, Line, ended, unended, in_front, lines}
 use Rattle.grammar.specs.Shapes.{after, line, whole, form_of}
 use Rattle.grammar.specs.Texts.{refused, read_lines, outcome}
-use Rattle.grammar.proofs.Tests.{either}
+use Rattle.std.proofs.lemmas.Bool.{true≢false, cases_Bool}
 use Rattle.std.specs.Prelude.{Ok, Err}
 use Rattle.rows.specs.Rows.{number_of}
 use Rattle.rows.specs.declared.Row.{Row}
 use Rattle.rows.proofs.Laws.{some-number}
+use Rattle.calls.specs.Calls.{early, called}
+use Rattle.calls.proofs.Laws.{called-lines}
 use Rattle.text_names.specs.Names.{Valid, declared_of}
 use Rattle.text_names.specs.declared.Declared.{Declared}
 use Rattle.text_scan.specs.Found as scan
@@ -31,7 +33,6 @@ use Rattle.grammar.specs.Forms.{Form}
 use Rattle.grammar.specs.Rows.{fault}
 use Rattle.text_lines.specs.Lines.{GoodStep, Stepped, Aside}
 use Rattle.text_lines.proofs.Laws.{ok-err}
-use Rattle.text_lines.specs.declared.Step.{Step}
 use Rattle.text_lines.proofs.Going.{valid-longer, declared-longer, reads-bad, reads-unshaped, reads-faulty, reads_on, other-form}
 use Rattle.text_opening.specs.Openings.{blank}
 use Rattle.text_opening.proofs.Laws.{blank-program, blank-holds}
@@ -45,7 +46,7 @@ one_line b (unended s ∷ ls) = (_, _, refl)
 
 pub some-lines : (s : List ℕ) → 0 < length s → (l : Line) × (ls : List Line) × (lines s ≡ l ∷ ls)
 some-lines [] h = absurd (omega arith)
-some-lines (b ∷ s) h = ⊎_elim (λ (q : eqb b 10 ≡ true). rw q (ended [], lines s, refl)) (λ (q : eqb b 10 ≡ false). rw q (one_line b (lines s))) (either (eqb b 10))
+some-lines (b ∷ s) h = ⊎_elim (λ (q : eqb b 10 ≡ true). rw q (ended [], lines s, refl)) (λ (q : eqb b 10 ≡ false). rw q (one_line b (lines s))) (cases_Bool (eqb b 10))
 
 -- BEFORE THE FIRST LINE
 module _ (d : Declared) {m : Model} (z : d.count ≡ 0) (b : m ≡ blank) where
@@ -84,41 +85,41 @@ module _ {text : List ℕ} {at n : ℕ} {d : Declared} {m : Model} (so : Reached
     onwards-line = rw (declared-there, l.read)
 
     -- a line that is no `ask` line
-    pub line_refused : (x : Row) → Stepped (take e text) d (program_of m) n (line (slice at e text)) (Err x) → onwards text at n d m ≡ refused (number_of x) n
+    pub line_refused : (x : Row) {d' : Declared} {m' : Model} → Stepped (take e text) d (program_of m) n (line (slice at e text)) (Err x) d' m' → onwards text at n d m ≡ refused (number_of x) n
     unfolding form_of
-    line_refused x (unshaped w q) = onwards-line ∙ reads-unshaped n (declared_of (take e text) d) (program_of m) (lines (drop (e + 1) text)) (slice at e text) l.good w ∙ ap (λ (i : ℕ). refused i n) (sym (ap (fault_in {A = Step}) q))
+    line_refused x (unshaped w q) = onwards-line ∙ reads-unshaped n (declared_of (take e text) d) (program_of m) (lines (drop (e + 1) text)) (slice at e text) l.good w ∙ ap (λ (i : ℕ). refused i n) (sym (ap (fault_in {A = Unit {0}}) q))
     line_refused x (shaped form w q g) =
         onwards-line
         ∙ (reads-faulty n (declared_of (take e text) d) (program_of m) (lines (drop (e + 1) text)) (slice at e text) l.good form w (λ y. some-number x (q ∙ y))
         ∙ ap (λ (i : ℕ). refused i n) (sym q))
 
-    module _ {s : Step} (form : Form) (w : whole (line (slice at e text)) ≡ some form) (z : 0 ≡ fault (declared_of (take e text) d) (length (program_of m)) form) (g : GoodStep (take e text) d (program_of m) n form s) where
-      goes-on : after (bytes "(ask ") (slice at e text) ≡ none → onwards text at n d m ≡ onwards text (e + 1) (n + 1) s.declared s.model
+    module _ {d' : Declared} {m' : Model} (form : Form) (w : whole (line (slice at e text)) ≡ some form) (z : 0 ≡ fault (declared_of (take e text) d) (length (program_of m)) form) (g : GoodStep (take e text) d (program_of m) n d' m' form) where
+      goes-on : after (bytes "(ask ") (slice at e text) ≡ none → onwards text at n d m ≡ onwards text (e + 1) (n + 1) d' m'
       unfolding onwards form_of
       goes-on a =
           let h = l.ends in
           onwards-line ∙ reads_on n (declared_of (take e text) d) (program_of m) (lines (drop (e + 1) text)) (slice at e text) l.good form (other-form (slice at e text) form a w) w (sym z)
-          ∙ rw (g.stored.program, declared-longer text s.declared e (e + 1) (omega arith) (omega arith) g.valid, g.declared, add-one, add-one)
+          ∙ rw (g.stored.program, declared-longer text d' e (e + 1) (omega arith) (omega arith) g.valid, g.declared, add-one, add-one)
 
-      goes : Aside m s.model → Reached text (e + 1) (n + 1) s.declared s.model
+      goes : Aside m m' → Reached text (e + 1) (n + 1) d' m'
       goes a =
           let h = l.ends in
           record {
             place = omega arith;
             number = (let k = rw l.read at so.number in omega arith);
             small = (let k = so.small in let b = l.begins in omega arith);
-            valid = valid-longer text s.declared e (e + 1) (omega arith) (omega arith) g.valid;
+            valid = valid-longer text d' e (e + 1) (omega arith) (omega arith) g.valid;
             limited = g.limited;
             holds = rw g.stored.program g.stored;
             stagecount = a.stagecount ∙ so.stagecount;
             stages = rw a.stages so.stages;
           }
 
-    pub onwards-on : {s : Step} → Stepped (take e text) d (program_of m) n (line (slice at e text)) (Ok s) → after (bytes "(ask ") (slice at e text) ≡ none → onwards text at n d m ≡ onwards text (e + 1) (n + 1) s.declared s.model
+    pub onwards-on : {d' : Declared} {m' : Model} → Stepped (take e text) d (program_of m) n (line (slice at e text)) (Ok tt) d' m' → after (bytes "(ask ") (slice at e text) ≡ none → onwards text at n d m ≡ onwards text (e + 1) (n + 1) d' m'
     onwards-on (unshaped w q) a = absurd (ok-err q)
     onwards-on (shaped form w z g) a = goes-on form w z g a
 
-    pub reached-on : {s : Step} → Stepped (take e text) d (program_of m) n (line (slice at e text)) (Ok s) → Aside m s.model → Reached text (e + 1) (n + 1) s.declared s.model
+    pub reached-on : {d' : Declared} {m' : Model} → Stepped (take e text) d (program_of m) n (line (slice at e text)) (Ok tt) d' m' → Aside m m' → Reached text (e + 1) (n + 1) d' m'
     reached-on (unshaped w q) a = absurd (ok-err q)
     reached-on (shaped form w z g) a = goes form w z g a
 
@@ -127,16 +128,32 @@ pub onwards-end : (text : List ℕ) (at n : ℕ) (d : Declared) (m : Model) → 
 unfolding onwards read_lines
 onwards-end text at n d m h = rw (nothing text at h)
 
--- THE SIZE of the text: row 1
-module _ (text : List ℕ) where
-  pub outcome-empty : length text ≡ 0 → outcome text ≡ refused 1 0
-  unfolding outcome
-  outcome-empty z = rw (eq-eqb (length text) 0 z)
+-- THE SIZE of the text: row 1 comes first
+or_second : (a b : Bool) → a || b ≡ false → b ≡ false
+or_second true b e = absurd (true≢false e)
+or_second false b e = e
 
-  pub outcome-long : limit.text < length text → outcome text ≡ refused 1 0
-  unfolding outcome
-  outcome-long h = rw (ne_eqb (length text) 0 (λ z. absurd (omega arith)), lt-ltb limit.text (length text) h)
+sized : (b short long : Bool) → ◌≡◌ {A = ℕ} (cond b 1 (cond short 12 (cond long 14 0))) 0 → b ≡ false
+sized true short long e = absurd (omega arith)
+sized false short long e = refl
 
-  pub outcome-lines : (length text ≡ 0 → ⊥) → length text ≤ limit.text → outcome text ≡ read_lines 1 [] [] (lines text)
+module _ (text : List ℕ) (short long : Bool) (e : early (length text) short long ≡ 0) where
+  right-size : (eqb (length text) 0 || ltb limit.text (length text)) ≡ false
+  unfolding early
+  right-size = sized (eqb (length text) 0 || ltb limit.text (length text)) short long e
+
+  pub called-small : length text ≤ limit.text
+  called-small = ltb-false limit.text (length text) (or_second (eqb (length text) 0) (ltb limit.text (length text)) right-size)
+
+  pub called-read : called text short long ≡ read_lines 1 [] [] (lines text)
   unfolding outcome
-  outcome-lines z h = rw (ne_eqb (length text) 0 z, le-ltb limit.text (length text) h)
+  called-read = called-lines text short long e ∙ rw right-size refl
+
+-- a call that lends nothing
+pub called-plain : (text : List ℕ) → called text false false ≡ outcome text
+unfolding called early outcome
+called-plain text = go (eqb (length text) 0 || ltb limit.text (length text))
+  where
+    go : (b : Bool) → cond (eqb (cond b 1 0) 0) (cond b (refused 1 0) (read_lines 1 [] [] (lines text))) (refused (cond b 1 0) 0) ≡ cond b (refused 1 0) (read_lines 1 [] [] (lines text))
+    go true = refl
+    go false = refl

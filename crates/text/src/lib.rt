@@ -6,16 +6,16 @@ ghost use Rattle.limits.specs.Limits as limit;
 ghost use Rattle.grammar.specs.Bytes.{lines};
 ghost use Rattle.grammar.specs.Texts.{read_lines, outcome};
 ghost use Rattle.calls.specs.Calls.{called};
-ghost use Rattle.text.specs.Reading.{Reads};
+ghost use Rattle.text_opening.specs.Openings.{blank};
+ghost use Rattle.text.specs.Reading.{Fills, Reads};
 ghost use Rattle.text.specs.Reached.{Reached, onwards, AskLine};
 
-use limits::TEXT;
 use model::Model;
 use rows::{Refusal, Row};
 use text_names::Declared;
 
 // A refusal by its row and line.
-fn refusal(row: Row, line: u32) -> Result<Model, Refusal>
+fn refusal(row: Row, line: u32) -> Result<(), Refusal>
     ensures { result ≡ Err (record { row = row; line = line }) }
 {
     Err(Refusal { row, line })
@@ -27,31 +27,28 @@ fn read_question(
     at: usize,
     e: usize,
     d: Declared,
-    m: Model,
+    m: &mut Model,
     line: u32,
-) -> Result<Model, Refusal>
-    requires { (length text.now ≤ limit.text) × Reached text.now at line d m × AskLine text.now at e }
-    ensures { Reads (onwards text.now at line d m) text.now result }
+) -> Result<(), Refusal>
+    requires { (length text.now ≤ limit.text) × Reached text.now at line d m.old × AskLine text.now at e }
+    ensures { Fills (onwards text.now at line d m.old) text.now result m.new }
 {
-    let f = text_opening::fit(m, d, line);
-    match text_ask::read_ask(&text[..e], d, at + 5, f) {
-        Err(row) => refusal(row, line),
-        Ok(model) => {
-            if e + 1 < text.len() {
-                return refusal(Row::End, line + 1);
-            }
-            Ok(model)
-        }
+    text_opening::fit(m, d, line);
+    if let Err(row) = text_ask::read_ask(&text[..e], d, at + 5, m) {
+        return refusal(row, line);
     }
+    if e + 1 < text.len() {
+        return refusal(Row::End, line + 1);
+    }
+    Ok(())
 }
 
-// Line by line, up to the first refusal or the `ask` line.
-fn read_lines(text: &[u8]) -> Result<Model, Refusal>
-    requires { length text.now ≤ limit.text }
-    ensures { Reads (read_lines 1 [] [] (lines text.now)) text.now result }
+// Line by line, up to the first refusal or the `ask` line, into a blank record.
+fn read_lines(text: &[u8], m: &mut Model) -> Result<(), Refusal>
+    requires { (length text.now ≤ limit.text) × (m.old ≡ blank) }
+    ensures { Fills (read_lines 1 [] [] (lines text.now)) text.now result m.new }
 {
     let mut d = text_names::none();
-    let mut m = text_opening::blank();
     let mut at = 0;
     let mut line: u32 = 1;
     // The loop stays a `while`: names keep their place in the whole text, so that the place of a line is needed beside its bytes.
@@ -62,38 +59,29 @@ fn read_lines(text: &[u8]) -> Result<Model, Refusal>
         if text_scan::at_bytes(&text[..e], at, b"(ask ") {
             return read_question(text, at, e, d, m, line);
         }
-        let step = text_lines::read_line(&text[..e], at, d, m, line);
-        let s = match step {
-            Ok(s) => s,
-            Err(row) => return refusal(row, line),
-        };
-        let declared = s.declared;
-        let model = s.model;
-        d = declared;
-        m = model;
+        if let Err(row) = text_lines::read_line(&text[..e], at, &mut d, m, line) {
+            return refusal(row, line);
+        }
         at = e + 1;
         line += 1;
     }
     refusal(Row::End, line)
 }
 
-// Reads a text: its size, then its lines.
-pub fn read(text: &[u8]) -> Result<Model, Refusal>
-    ensures { Reads (outcome text.now) text.now result }
-{
-    if text.len() == 0 {
-        return refusal(Row::Size, 0);
-    }
-    if TEXT < text.len() {
-        return refusal(Row::Size, 0);
-    }
-    read_lines(text)
-}
-
 // Reads a text for a call, which may be refused before the lines: by a lent buffer that is too short, or by a run that is too long.
+// The two flags stay: calls lend different buffers, and each tests its own.
 pub fn accept(text: &[u8], short: bool, long: bool) -> Result<Model, Refusal>
     ensures { Reads (called text.now short long) text.now result }
 {
     calls::early(text.len(), short, long)?;
-    read(text)
+    let mut m = text_opening::blank();
+    read_lines(text, &mut m)?;
+    Ok(m)
+}
+
+// Reads a text, for a call that lends nothing.
+pub fn read(text: &[u8]) -> Result<Model, Refusal>
+    ensures { Reads (outcome text.now) text.now result }
+{
+    accept(text, false, false)
 }

@@ -25,7 +25,8 @@ use Rattle.rows.proofs.Laws.{some-number}
 use Rattle.text_faults.specs.Faults.{shaped}
 use Rattle.acceptance.proofs.Questions.{ask_words, carriers-words}
 use Rattle.text_literals.proofs.Adding.{body-bound}
-use Rattle.text_bodies.specs.declared.Body.{Body}
+use Rattle.text_rows.specs.declared.Taken.{Taken}
+use Rattle.text_literals.specs.Frames.{Framed}
 use Rattle.text_clauses.proofs.Laws.{row-bound, whole-all, whole_part}
 use Rattle.text_carried.specs.Asking as asking
 use Rattle.text_carried.specs.Asking.{marked}
@@ -35,10 +36,8 @@ use Rattle.text_scope.specs.declared.Scope.{Scope}
 use Rattle.text_bodies.proofs.Laws.{empty-scope}
 use Rattle.text_carried.proofs.Stages.{marked-carried}
 use Rattle.text_stages.specs.Questions.{Empty, Stored, Asked, Holds, Added}
-use Rattle.text_stages.specs.declared.Asking.{Asking}
 use Rattle.text_bodies.specs.Bodies.{StageEnd}
-use Rattle.text_ask.specs.Asks.{StagesEnd, carrying, carrying_cells, finished, Asks, AskEnd}
-use Rattle.text_ask.specs.declared.Stages.{Stages}
+use Rattle.text_ask.specs.Asks.{StagesEnd, carrying, cells_of, finished, Asks, AskEnd}
 
 -- NO STAGES
 unmarked : (n i : ℕ) → (get_or (replicate n blank) i blank).marked ≡ false
@@ -64,7 +63,6 @@ module _ {text : List ℕ} {D : Declared} {t : Scope limit.asked} {m : Model} (e
     longer = omega arith;
     relations = refl;
     names = refl;
-    lengths = refl;
     clauses = refl;
     clausecount = refl;
     lines = refl;
@@ -76,7 +74,7 @@ module _ {text : List ℕ} {D : Declared} {t : Scope limit.asked} {m : Model} (e
     stages = empty.stages;
   }
 
-  pub none-held : Holds text D m [] (Ok (record { table = t; model = m }))
+  pub none-held : Holds text D m [] (Ok t) m
   unfolding stages_fault
   none-held = record { number = refl; stored = none-stored }
 
@@ -87,14 +85,17 @@ stages-bound D [] = omega arith
 stages-bound D (q ∷ qs) = lower-bound (lower (body_fault D q) (scope_fault [] q)) (stages_fault D qs) 9
     (lower-bound (body_fault D q) (scope_fault [] q) 9 (let u = body-bound D q in omega arith) (row-bound 9 (not (supported [] q && few [] q)) (omega arith))) (stages-bound D qs)
 
--- THE END
-module _ (text : List ℕ) (D : Declared) (m₀ : Model) (qs : List (List forms.Literal)) (empty : Empty m₀) (short : length qs ≤ 4) where
-  asks : {a : Asking} → Stored text D m₀ qs a.table a.model → stages_fault D qs ≡ 0 → Asks D m₀ qs (carrying a.model (padded limit.carried (marked a.table)))
+-- THE END: the record with the cells, or a row and any record
+abbrev pub AskJudged : Declared → Model → Model → Read forms.Form → Result (List ℕ) Row → Type 0
+AskJudged D m₀ m read (Err x) = (m' : Model) → AskEnd D m₀ read (Err x) m'
+AskJudged D m₀ m read (Ok cells) = AskEnd D m₀ read (Ok tt) (carrying m cells)
+
+module _ (text : List ℕ) (D : Declared) (m₀ m : Model) (qs : List (List forms.Literal)) (empty : Empty m₀) (short : length qs ≤ 4) where
+  asks : {t : Scope limit.asked} → Stored text D m₀ qs t m → stages_fault D qs ≡ 0 → Asks D m₀ qs (carrying m (padded limit.carried (marked t)))
   unfolding model.question_of
-  asks st z = record {
+  asks {t} st z = record {
     relations = st.relations;
     names = st.names;
-    lengths = st.lengths;
     lines = st.lines;
     clauses = st.clauses;
     clausecount = st.clausecount;
@@ -118,50 +119,50 @@ module _ (text : List ℕ) (D : Declared) (m₀ : Model) (qs : List (List forms.
   high false = inl refl
 
   module _ (read : Read forms.Form) (w : whole read ≡ some (forms.ask_form qs)) where
-    refused : (r : Row) → number_of r ≡ stages_fault D qs → AskEnd D m₀ read (Err r)
+    refused : (r : Row) (m' : Model) → number_of r ≡ stages_fault D qs → AskEnd D m₀ read (Err r) m'
     unfolding fault
-    refused r e = shaped (forms.ask_form qs) w (λ clauses. e ∙ sym (lower-under (stages_fault D qs) (row 11 (carries_many qs)) (λ z. some-number r (e ∙ z)) (high (carries_many qs)))) tt
+    refused r m' e = shaped (forms.ask_form qs) w (λ clauses. e ∙ sym (lower-under (stages_fault D qs) (row 11 (carries_many qs)) (λ z. some-number r (e ∙ z)) (high (carries_many qs)))) tt
 
-    module _ (a : Asking) (so : Holds text D m₀ qs (Ok a)) where
-      many-carried : ltb limit.carried (length (marked a.table)) ≡ carries_many qs
+    module _ (t : Scope limit.asked) (so : Holds text D m₀ qs (Ok t) m) where
+      many-carried : ltb limit.carried (length (marked t)) ≡ carries_many qs
       many-carried = rw (marked-carried qs so.stored.table, length-map (carried qs (ask_words qs)) (place (ask_words qs)))
 
       eleven : (b : Bool) → carries_many qs ≡ b → (clauses : ℕ) → row 11 b ≡ fault D clauses (forms.ask_form qs)
       unfolding fault
       eleven b q clauses = sym (lower-first (stages_fault D qs) (row 11 (carries_many qs)) (sym so.number) ∙ ap (row 11) q)
 
-      ended : (b : Bool) → carries_many qs ≡ b → AskEnd D m₀ read (carrying_cells a.model (cond b None (Some (padded limit.carried (marked a.table)))))
-      ended true q = shaped (forms.ask_form qs) w (eleven true q) tt
+      ended : (b : Bool) → carries_many qs ≡ b → AskJudged D m₀ m read (cells_of (cond b None (Some (padded limit.carried (marked t)))))
+      ended true q = λ m'. shaped (forms.ask_form qs) w (eleven true q) tt
       ended false q = shaped (forms.ask_form qs) w (eleven false q) (qs, refl, asks so.stored (sym so.number))
 
-      accepted : AskEnd D m₀ read (finished (Ok a))
-      accepted = ended (ltb limit.carried (length (marked a.table))) (sym many-carried)
+      accepted : AskJudged D m₀ m read (finished (Ok t))
+      accepted = ended (ltb limit.carried (length (marked t))) (sym many-carried)
 
-    pub finished-judged : (s : Asked) → Holds text D m₀ qs s → AskEnd D m₀ read (finished s)
-    finished-judged (Err r) so = refused r so.number
-    finished-judged (Ok a) so = accepted a so
+    pub finished-judged : (s : Asked) → Holds text D m₀ qs s m → AskJudged D m₀ m read (finished s)
+    finished-judged (Err r) so = λ m'. refused r m' so.number
+    finished-judged (Ok t) so = accepted t so
 
 -- THE LINE
 pub ask-unopened : (text : List ℕ) (at : ℕ) → stage (drop at text) ≡ none → whole (ask_rest (drop at text)) ≡ none
 unfolding ask_rest
 ask-unopened text at h = rw h
 
-module _ (text : List ℕ) (at : ℕ) {D : Declared} {b : Body} (first : StageEnd text D at b) where
+module _ (text : List ℕ) (at : ℕ) {D : Declared} {b : Taken Framed} (first : StageEnd text D at b) where
   pub ask-unread : rest stage 3 (drop b.end text) ≡ none → whole (ask_rest (drop at text)) ≡ none
   unfolding ask_rest
   ask-unread h = rw (first.read, h)
 
-  module _ {m : Model} {s f : Asked} {r : Stages} (start : Holds text D m [] s) (ad : Added text s b f) (others : StagesEnd text D b.end 3 f r) where
-    first-held : Holds text D m (first.q ∷ []) f
+  module _ {m u v : Model} {s f : Asked} {r : Taken Asked} (start : Holds text D m [] s m) (ad : Added text s m b f u) (others : StagesEnd text D b.end 3 f u r v) where
+    first-held : Holds text D m (first.q ∷ []) f u
     first-held = ad.added D m [] first.q (omega arith) start first.holds
 
     pub ask-unended : (r.end ≡ length text → ⊥) → whole (ask_rest (drop at text)) ≡ none
     unfolding ask_rest
     ask-unended z = rw (first.read, others.read) (whole_part (forms.ask_form (first.q ∷ others.more)) text r.end (let y = others.ends in omega arith))
 
-    pub ask-ended : {g : Result Model Row} → Empty m → r.end ≡ length text → g ≡ finished r.asking → AskEnd D m (ask_rest (drop at text)) g
+    pub ask-ended : {g : Result (List ℕ) Row} → Empty m → r.end ≡ length text → g ≡ finished r.kept → AskJudged D m v (ask_rest (drop at text)) g
     unfolding ask_rest
     ask-ended empty z e =
         let l = others.few in
-        rw e (finished-judged text D m (first.q ∷ others.more) empty (omega arith) (ask_rest (drop at text)) (rw (first.read, others.read) (whole-all (forms.ask_form (first.q ∷ others.more)) text r.end (omega arith)))
-        r.asking (others.holds m (first.q ∷ []) (omega arith) first-held))
+        rw e (finished-judged text D m v (first.q ∷ others.more) empty (omega arith) (ask_rest (drop at text)) (rw (first.read, others.read) (whole-all (forms.ask_form (first.q ∷ others.more)) text r.end (omega arith)))
+        r.kept (others.holds m (first.q ∷ []) (omega arith) first-held))

@@ -11,44 +11,45 @@ use Rattle.grammar.specs.Forms as forms
 use Rattle.grammar.specs.Shapes.{after, stage}
 use Rattle.grammar.specs.Declarations.{Declared}
 use Rattle.grammar.proofs.Reading.{Reading, reading-start, reading-more, reading-closed}
-use Rattle.text_bodies.specs.declared.Body.{Body}
+use Rattle.text_rows.specs.declared.Taken.{Taken}
+use Rattle.text_literals.specs.Frames.{Framed}
 use Rattle.text_stages.specs.Questions as questions
 use Rattle.text_stages.specs.Questions.{Asked, Addable, Added}
 use Rattle.text_bodies.specs.Bodies.{StageEnd}
 use Rattle.text_ask.specs.Asks.{Extends, StagesEnd}
 
 -- READING STAGES
-pub record StagesSo (text : List ℕ) (D : Declared) (at n : ℕ) (s g : Asked) (i k : ℕ) : Type 0 where
+pub record StagesSo (text : List ℕ) (D : Declared) (at n : ℕ) (s : Asked) (m : Model) (g : Asked) (h : Model) (i k : ℕ) : Type 0 where
   pub more : List (List forms.Literal)
   pub reading : Reading stage text at n more i k
-  pub holds : Extends text D s more g
+  pub holds : Extends text D s m more g h
 
-pub stages-start : {text : List ℕ} {D : Declared} {at n : ℕ} {s : Asked} → at ≤ length text → StagesSo text D at n s s at n
-stages-start h = record { more = []; reading = reading-start h; holds = λ m qs l so. rw (append-nil qs) so }
+pub stages-start : {text : List ℕ} {D : Declared} {at n : ℕ} {s : Asked} {m : Model} → at ≤ length text → StagesSo text D at n s m s m at n
+stages-start h = record { more = []; reading = reading-start h; holds = λ m₀ qs l so. rw (append-nil qs) so }
 
-module _ {text : List ℕ} {D : Declared} {at n : ℕ} {s g : Asked} {i k : ℕ} (so : StagesSo text D at n s g i k) where
-  pub stages-addable : {b : Body} {j : ℕ} → 0 < k → ((m : Model) × (qs : List (List forms.Literal)) × (length qs + n ≤ 4) × questions.Holds text D m qs s) → StageEnd text D j b → Addable text g b
-  stages-addable h (m, qs, l, o) e =
+module _ {text : List ℕ} {D : Declared} {at n : ℕ} {s g : Asked} {m u : Model} {i k : ℕ} (so : StagesSo text D at n s m g u i k) where
+  pub stages-addable : {b : Taken Framed} {j : ℕ} → 0 < k → ((m₀ : Model) × (qs : List (List forms.Literal)) × (length qs + n ≤ 4) × questions.Holds text D m₀ qs s m) → StageEnd text D j b → Addable text g u b
+  stages-addable h (m₀, qs, l, o) e =
       let c = so.reading.count in
       record {
         D = D;
-        m₀ = m;
+        m₀ = m₀;
         qs = qs ++ so.more;
         q = e.q;
         few = omega (arith, length-append qs so.more);
-        holds = so.holds m qs (omega arith) o;
+        holds = so.holds m₀ qs (omega arith) o;
         frame = e.holds;
       }
 
-  pub stages-more : {b : Body} {r : Asked} {j : ℕ} → j + 1 ≡ k → after (bytes ")") (drop i text) ≡ none → after (bytes " ") (drop i text) ≡ some (drop (i + 1) text)
-      → StageEnd text D (i + 1) b → Added text g b r → StagesSo text D at n s r b.end j
+  pub stages-more : {b : Taken Framed} {r : Asked} {v : Model} {j : ℕ} → j + 1 ≡ k → after (bytes ")") (drop i text) ≡ none → after (bytes " ") (drop i text) ≡ some (drop (i + 1) text)
+      → StageEnd text D (i + 1) b → Added text g u b r v → StagesSo text D at n s m r v b.end j
   stages-more {b} {j = j} h p q e ad = record {
     more = so.more ++ (e.q ∷ []);
     reading = let z : k - 1 ≡ j = omega arith in subst (Reading stage text at n (so.more ++ (e.q ∷ [])) b.end) z (reading-more so.reading (omega arith) p q e.begins e.ends e.read);
-    holds = λ m qs l o. let c = length-append so.more (e.q ∷ []) in rw (← append_assoc) (ad.added D m (qs ++ so.more) e.q (omega (arith, length-append qs so.more)) (so.holds m qs (omega arith) o) e.holds);
+    holds = λ m₀ qs l o. let c = length-append so.more (e.q ∷ []) in rw (← append_assoc) (ad.added D m₀ (qs ++ so.more) e.q (omega (arith, length-append qs so.more)) (so.holds m₀ qs (omega arith) o) e.holds);
   }
 
-  pub stages-closed : i < length text → after (bytes ")") (drop i text) ≡ some (drop (i + 1) text) → StagesEnd text D at n s (record { asking = g; end = i + 1 })
+  pub stages-closed : i < length text → after (bytes ")") (drop i text) ≡ some (drop (i + 1) text) → StagesEnd text D at n s m (record { kept = g; end = i + 1 }) u
   stages-closed h p = record {
     more = so.more;
     ends = omega arith;

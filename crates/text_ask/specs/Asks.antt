@@ -18,26 +18,25 @@ use Rattle.acceptance.specs.Represents.{HoldsStage}
 use Rattle.acceptance.specs.Growing.{Keeps}
 use Rattle.text_carried.specs.Asking.{carriers_of}
 use Rattle.text_stages.specs.Questions as questions
-use Rattle.text_ask.specs.declared.Stages.{Stages}
+use Rattle.text_rows.specs.declared.Taken.{Taken}
 
--- r holds what s holds and the stages more
-abbrev pub Extends : List ℕ → Declared → questions.Asked → List (List forms.Literal) → questions.Asked → Type 0
-Extends text D s more r = (m : Model) (qs : List (List forms.Literal)) → length qs + length more ≤ limit.stages → questions.Holds text D m qs s → questions.Holds text D m (qs ++ more) r
+-- r and m' hold what s and m hold and the stages more
+abbrev pub Extends : List ℕ → Declared → questions.Asked → Model → List (List forms.Literal) → questions.Asked → Model → Type 0
+Extends text D s m more r m' = (m₀ : Model) (qs : List (List forms.Literal)) → length qs + length more ≤ limit.stages → questions.Holds text D m₀ qs s m → questions.Holds text D m₀ (qs ++ more) r m'
 
--- at most n stages, added to those of s
-pub record StagesEnd (text : List ℕ) (D : Declared) (at n : ℕ) (s : questions.Asked) (r : Stages) : Type 0 where
+-- at most n stages, added to those of s and m
+pub record StagesEnd (text : List ℕ) (D : Declared) (at n : ℕ) (s : questions.Asked) (m : Model) (r : Taken questions.Asked) (m' : Model) : Type 0 where
   pub more : List (List forms.Literal)
   pub ends : r.end ≤ length text
   pub few : length more ≤ n
   pub read : rest stage n (drop at text) ≡ some (more, drop r.end text)
-  pub holds : Extends text D s more r.asking
+  pub holds : Extends text D s m more r.kept m'
 
 -- the record with the carried variables in their cells
 abbrev pub carrying : Model → List ℕ → Model
 carrying m cells = record {
   relations = m.relations;
   names = m.names;
-  lengths = m.lengths;
   clauses = m.clauses;
   clausecount = m.clausecount;
   literals = m.literals;
@@ -49,19 +48,18 @@ carrying m cells = record {
 }
 
 -- row 11 after rows 6 to 9
-abbrev pub carrying_cells : Model → Option (List ℕ) → Result Model Row
-carrying_cells m None = Err Carried
-carrying_cells m (Some cells) = Ok (carrying m cells)
+abbrev pub cells_of : Option (List ℕ) → Result (List ℕ) Row
+cells_of None = Err Carried
+cells_of (Some cells) = Ok cells
 
-abbrev pub finished : questions.Asked → Result Model Row
+abbrev pub finished : questions.Asked → Result (List ℕ) Row
 finished (Err r) = Err r
-finished (Ok a) = carrying_cells a.model (carriers_of a.table)
+finished (Ok t) = cells_of (carriers_of t)
 
 -- THE RECORD m of a text whose `ask` line has the stages qs, where it was m₀ before that line
 pub record Asks (D : Declared) (m₀ : Model) (qs : List (List forms.Literal)) (m : Model) : Type 0 where
   pub relations : m.relations ≡ m₀.relations
   pub names : m.names ≡ m₀.names
-  pub lengths : m.lengths ≡ m₀.lengths
   pub lines : m.lines ≡ m₀.lines
   pub clauses : m.clauses ≡ m₀.clauses
   pub clausecount : m.clausecount ≡ m₀.clausecount
@@ -78,6 +76,6 @@ pub record Asks (D : Declared) (m₀ : Model) (qs : List (List forms.Literal)) (
 abbrev pub GoodAsk : Declared → Model → forms.Form → Model → Type 0
 GoodAsk D m₀ form m = (qs : List (List forms.Literal)) × (form ≡ forms.ask_form qs) × Asks D m₀ qs m
 
--- the `ask` line that is read, after the declarations D
-abbrev pub AskEnd : Declared → Model → Read forms.Form → Result Model Row → Type 0
-AskEnd D m₀ read r = Judged read (λ form n. (clauses : ℕ) → n ≡ fault D clauses form) (GoodAsk D m₀) r
+-- the `ask` line that is read, after the declarations D, and the record m after it
+abbrev pub AskEnd : Declared → Model → Read forms.Form → Result (Unit {0}) Row → Model → Type 0
+AskEnd D m₀ read r m = Judged read (λ form n. (clauses : ℕ) → n ≡ fault D clauses form) (λ form _. GoodAsk D m₀ form m) r

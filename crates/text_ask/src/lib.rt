@@ -11,81 +11,85 @@ ghost use Rattle.model.specs.declared.Model as models;
 ghost use Rattle.text_stages.specs.Questions as questions;
 ghost use Rattle.text_ask.specs.Asks.{StagesEnd, finished, AskEnd};
 
-use limits::STAGES;
+use limits::{ASKED, CARRIED, STAGES};
 use model::Model;
 use rows::Row;
 use text_names::Declared;
-use text_stages::Asking;
+use text_rows::Taken;
+use text_scope::Scope;
 
 // The stages of a question behind its first.
 const FURTHER: usize = STAGES - 1;
 
-// The stages or their lowest row, and where they end.
-#[derive(Clone, Copy)]
-pub struct Stages {
-    pub asking: Result<Asking, Row>,
-    pub end: usize,
-}
+// The variables of the stages or their lowest row, and where the stages end.
+type Stages = Taken<Result<Scope<ASKED>, Row>>;
 
 // At most n stages, each after a space, up to the closing bracket, are added to those before.
+// The loop stays beside `text_rows::read_row`: a stage is written to the record that is lent, and with it as a parameter of that loop's trait the readers of names and literals would be lent a record that they do not use.
 fn read_stages(
     text: &[u8],
     d: Declared,
     at: usize,
-    s: Result<Asking, Row>,
+    s: Result<Scope<ASKED>, Row>,
     n: usize,
+    m: &mut Model,
 ) -> Option<Stages>
     requires { (at ≤ length text.now) × (length text.now < 4294967296) × names.Valid text.now d
-        × ((m : models.Model) × (qs : List (List forms.Literal)) × (length qs + n ≤ limit.stages) × questions.Holds text.now (names.declared_of text.now d) m qs s) }
-    ensures { MatchOption result (rest stage n (drop at text.now) ≡ none) (StagesEnd text.now (names.declared_of text.now d) at n s) }
+        × ((m₀ : models.Model) × (qs : List (List forms.Literal)) × (length qs + n ≤ limit.stages) × questions.Holds text.now (names.declared_of text.now d) m₀ qs s m.old) }
+    ensures { MatchOption result (rest stage n (drop at text.now) ≡ none) (λ r. StagesEnd text.now (names.declared_of text.now d) at n s m.old r m.new) }
 {
-    let mut asking = s;
+    let mut table = s;
     let mut i = at;
     for _ in 0..n {
         if text_scan::at_byte(text, i, b')') {
-            return Some(Stages { asking, end: i + 1 });
+            return Some(Taken {
+                kept: table,
+                end: i + 1,
+            });
         }
         if !text_scan::at_byte(text, i, b' ') {
             return None;
         }
         let b = text_bodies::read_stage(text, d, i + 1)?;
-        asking = text_stages::add(text, asking, b);
+        table = text_stages::add(text, table, b, m);
         i = b.end;
     }
     if !text_scan::at_byte(text, i, b')') {
         return None;
     }
-    Some(Stages { asking, end: i + 1 })
+    Some(Taken {
+        kept: table,
+        end: i + 1,
+    })
 }
 
-// The record with the carried variables, or its row: 11 after 6 to 9.
-fn finish(s: Result<Asking, Row>) -> Result<Model, Row>
+// The cells of the carried variables, or the row of the line: 11 after 6 to 9.
+fn finish(s: Result<Scope<ASKED>, Row>) -> Result<[u32; CARRIED], Row>
     ensures { result ≡ finished s }
 {
-    let asking = s?;
-    let Some(cells) = text_carried::carried(asking.table) else {
+    let table = s?;
+    let Some(cells) = text_carried::carried(table) else {
         return Err(Row::Carried);
     };
-    let mut m = asking.model;
-    m.carried = cells;
-    Ok(m)
+    Ok(cells)
 }
 
 // `(ask (L ..) (L ..))`, in a record without stages.
-pub fn read_ask(text: &[u8], d: Declared, at: usize, m: Model) -> Result<Model, Row>
-    requires { (at ≤ length text.now) × (0 < at) × (length text.now < 4294967296) × names.Valid text.now d × questions.Empty m }
-    ensures { AskEnd (names.declared_of text.now d) m (ask_rest (drop at text.now)) result }
+pub fn read_ask(text: &[u8], d: Declared, at: usize, m: &mut Model) -> Result<(), Row>
+    requires { (at ≤ length text.now) × (0 < at) × (length text.now < 4294967296) × names.Valid text.now d × questions.Empty m.old }
+    ensures { AskEnd (names.declared_of text.now d) m.old (ask_rest (drop at text.now)) result m.new }
 {
     let Some(b) = text_bodies::read_stage(text, d, at) else {
         return Err(Row::Shape);
     };
-    let table = text_scope::empty();
-    let f = text_stages::add(text, Ok(Asking { table, model: m }), b);
-    let Some(r) = read_stages(text, d, b.end, f, FURTHER) else {
+    let s = text_scope::empty();
+    let f = text_stages::add(text, Ok(s), b, m);
+    let Some(r) = read_stages(text, d, b.end, f, FURTHER, m) else {
         return Err(Row::Shape);
     };
     if r.end != text.len() {
         return Err(Row::Shape);
     }
-    finish(r.asking)
+    m.carried = finish(r.kept)?;
+    Ok(())
 }

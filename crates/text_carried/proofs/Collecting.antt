@@ -8,11 +8,11 @@ use native.Mathlib.Nat.{zero-add, add-zero, suc-add}
 use native.Mathlib.Omega.{arith}
 use lib.ListN.{length, set, replicate, length-append}
 use borrow.Author.Tests.{lt-ltb, le-ltb}
+use Rattle.std.proofs.lemmas.Bool.{cases_Bool}
 use Rattle.std.specs.Prelude.{Some, None}
 use Rattle.limits.specs.Limits as limit
 use Rattle.semantics.specs.Models.{only}
 use Rattle.model.specs.Records.{up_from, padded}
-use Rattle.grammar.proofs.Tests.{either}
 use Rattle.text_carried.specs.Asking.{marked, carriers_of}
 use Rattle.text_scope.specs.Scopes as scopes
 use Rattle.text_scope.specs.declared.Scope.{Scope}
@@ -27,7 +27,7 @@ padded-more (suc n) (y ∷ xs) x h = ap {B = List ℕ} (λ (l : List ℕ). y ∷
 only_parts : (f : ℕ → Bool) (k a b : ℕ) → only f (up_from k (a + b)) ≡ only f (up_from k a) ++ only f (up_from (k + a) b)
 only_parts f k zero b = rw (zero-add, add-zero)
 only_parts f k (suc a) b = let z : suc k + a ≡ k + suc a = omega arith in
-    rw (suc-add, only_parts f (suc k) a b, z) (⊎_elim (λ (q : f k ≡ true). rw q) (λ (q : f k ≡ false). rw q) (either (f k)))
+    rw (suc-add, only_parts f (suc k) a b, z) (⊎_elim (λ (q : f k ≡ true). rw q) (λ (q : f k ≡ false). rw q) (cases_Bool (f k)))
 
 only_none : (f : ℕ → Bool) (k n : ℕ) → ((i : ℕ) → k ≤ i → f i ≡ false) → only f (up_from k n) ≡ []
 only_none f k zero h = refl

@@ -15,7 +15,6 @@ use Rattle.text_names.proofs.Laws.{length-list_of}
 use Rattle.text_scope.specs.Scopes as scopes
 use Rattle.text_scope.specs.declared.Scope.{Scope}
 use Rattle.text_carried.specs.Asking.{Holds, Met, Numbers}
-use Rattle.text_carried.specs.declared.Entry.{Entry}
 use Rattle.limits.specs.Limits as limit
 
 -- the first j variables of the scope s are entered in the table t
@@ -32,18 +31,18 @@ module _ {text : List ℕ} {t : Scope limit.asked} {s : Scope limit.variables} {
   pub numbered-valid : ((ws : List Word) × Holds text t ws) → scopes.Valid text u
   numbered-valid (ws, h) = (so.holds ws h).valid
 
-  pub numbered_more : {r : Entry} → scopes.Valid text s → j < s.count → Met text u (scopes.variable_at s j).start (scopes.variable_at s j).end r → NumberedSo text t s r.table (set numbers j r.number) (j + 1)
-  numbered_more {r} v h m = record {
+  pub numbered_more : {u' : Scope limit.asked} {n : ℕ} → scopes.Valid text s → j < s.count → Met text u (scopes.variable_at s j).start (scopes.variable_at s j).end u' n → NumberedSo text t s u' (set numbers j n) (j + 1)
+  numbered_more {n = n} v h m = record {
     few = let d = so.few in let y = m.few in omega arith;
     holds = λ ws o. rw (add-one, ← append_assoc) (m.holds (ws ++ list_of j f) (so.holds ws o));
-    numbers = λ ws o. rw add-one (take-suc-set numbers j r.number (let g = v.count in let y = so.room in omega arith) ∙ go ws o);
-    room = length-set numbers j r.number ∙ so.room;
+    numbers = λ ws o. rw add-one (take-suc-set numbers j n (let g = v.count in let y = so.room in omega arith) ∙ go ws o);
+    room = length-set numbers j n ∙ so.room;
   }
     where
       f : ℕ → Word
       f = scopes.variable text s
 
-      go : (ws : List Word) → Holds text t ws → take j numbers ++ (r.number ∷ []) ≡ map (place (extend [] (ws ++ (list_of j f ++ (f j ∷ []))))) (list_of j f ++ (f j ∷ []))
+      go : (ws : List Word) → Holds text t ws → take j numbers ++ (n ∷ []) ≡ map (place (extend [] (ws ++ (list_of j f ++ (f j ∷ []))))) (list_of j f ++ (f j ∷ []))
       go ws o =
           let vs = extend [] (ws ++ list_of j f) in
           let w : extend [] (ws ++ (list_of j f ++ (f j ∷ []))) ≡ extend vs (f j ∷ []) = (rw (← append_assoc) (extend-append [] (ws ++ list_of j f) (f j ∷ []))) in
@@ -57,7 +56,7 @@ module _ {text : List ℕ} {t : Scope limit.asked} {s : Scope limit.variables} {
             (so.holds ws o).known,
           )
 
-  pub numbered-all : j ≡ s.count → Numbers text t (scopes.known_of text s) (record { table = u; numbers = numbers })
+  pub numbered-all : j ≡ s.count → Numbers text t (scopes.known_of text s) u numbers
   unfolding scopes.known_of
   numbered-all e = record {
     few = rw (length-list_of s.count (scopes.variable text s)) (rw e at so.few);

@@ -9,11 +9,11 @@ use lib.Dec.{eqb}
 use lib.ListN.{length}
 use lib.Seq.{slice}
 use borrow.Author.Tests.{eqb-true, eqb-false}
+use Rattle.std.proofs.lemmas.Bool.{cases_Bool}
 use Rattle.limits.specs.Limits as limit
 use Rattle.semantics.specs.Models.{elem}
 use Rattle.grammar.specs.Bytes.{Word, same}
 use Rattle.grammar.specs.Declarations.{member, extend, place}
-use Rattle.grammar.proofs.Tests.{either}
 use Rattle.grammar.proofs.Words.{same-eq, place_none, place-below, extend-append, extend-old}
 use Rattle.grammar.proofs.Bodies.{numbers-stable}
 use Rattle.acceptance.proofs.Scopes.{elem-mapped}
@@ -30,7 +30,7 @@ repeated-append seen [] ys = refl
 repeated-append seen (x ∷ xs) ys = ⊎_elim
     (λ (q : member x seen ≡ true). rw q (ap {B = List Word} (λ (l : List Word). x ∷ l) (repeated-append seen xs ys)))
     (λ (q : member x seen ≡ false). rw q (repeated-append (seen ++ (x ∷ [])) xs ys))
-    (either (member x seen))
+    (cases_Bool (member x seen))
 
 pub repeated-within : (x : Word) (seen ws : List Word) → member x (repeated seen ws) ≡ true → member x (extend seen ws) ≡ true
 unfolding extend
@@ -39,9 +39,9 @@ repeated-within x seen (w ∷ ws) e = ⊎_elim
     (λ (q : member w seen ≡ true). rw q (⊎_elim
     (λ (p : same x w ≡ true). extend-old x seen ws (subst (λ (y : Word). member y seen ≡ true) (sym (same-eq x w p)) q))
     (λ (p : same x w ≡ false). repeated-within x seen ws (rw (q, p) at e))
-    (either (same x w))))
+    (cases_Bool (same x w))))
     (λ (q : member w seen ≡ false). rw q (repeated-within x (seen ++ (w ∷ [])) ws (rw q at e)))
-    (either (member w seen))
+    (cases_Bool (member w seen))
 
 elem-last : (x : ℕ) (xs : List ℕ) (y : ℕ) → elem x (xs ++ (y ∷ [])) ≡ (elem x xs || eqb x y)
 elem-last x [] y = or-false (eqb x y)
@@ -61,7 +61,7 @@ module _ {text : List ℕ} {t : Scope limit.asked} {ws : List Word} (so : Holds 
   beyond i l = ⊎_elim
       (λ (q : elem i (map (place vs) (repeated [] ws)) ≡ true). absurd (let w = elem-mapped (place vs) i (repeated [] ws) q in let b = place-below w.0 vs (repeated-within w.0 [] ws w.1) in omega (arith, w.2, counted)))
       (λ (q : elem i (map (place vs) (repeated [] ws)) ≡ false). q)
-      (either (elem i (map (place vs) (repeated [] ws))))
+      (cases_Bool (elem i (map (place vs) (repeated [] ws))))
 
   module _ (w : Word) where
     words_more : extend [] (ws ++ (w ∷ [])) ≡ extend vs (w ∷ [])
@@ -84,7 +84,7 @@ module _ {text : List ℕ} {t : Scope limit.asked} {ws : List Word} (so : Holds 
       again-old j = rw (repeated-more, k.known, map-append (place (extend [] (ws ++ (w ∷ [])))) (repeated [] ws) (w ∷ []), numbers-kept, words-old, ← k.number, elem-last j (map (place vs) (repeated [] ws)) i) (⊎_elim
           (λ (q : eqb j i ≡ true). subst (λ (n : ℕ). scopes.mark (scopes.marking t i) n ≡ true) (sym (eqb-true j i q)) (mark-same t i l) ∙ rw q (sym (or-true (elem j (map (place vs) (repeated [] ws))))))
           (λ (q : eqb j i ≡ false). mark-other t i j (eqb-false j i q) ∙ so.again j ∙ rw q (sym (or-false (elem j (map (place vs) (repeated [] ws))))))
-          (either (eqb j i)))
+          (cases_Bool (eqb j i)))
 
       met-old : Holds text (scopes.marking t i) (ws ++ (w ∷ []))
       met-old = record {
@@ -106,7 +106,7 @@ module _ {text : List ℕ} {t : Scope limit.asked} {ws : List Word} (so : Holds 
       again-new a e room j = rw (repeated-new, numbers-kept) (⊎_elim
           (λ (q : eqb j t.count ≡ true). let z = eqb-true j t.count q in subst (λ (n : ℕ). scopes.mark (scopes.added t a e false) n ≡ false) (sym z) (mark-added t a e false so.valid room) ∙ sym (beyond j (omega arith)))
           (λ (q : eqb j t.count ≡ false). mark-kept t a e false so.valid room j (eqb-false j t.count q) ∙ so.again j)
-          (either (eqb j t.count)))
+          (cases_Bool (eqb j t.count)))
 
   met-new : {a e : ℕ} → member (slice a e text) vs ≡ false → t.count < limit.asked → a ≤ e → e ≤ length text → Holds text (scopes.added t a e false) (ws ++ (slice a e text ∷ []))
   met-new {a} {e} m room h k = record {
@@ -125,7 +125,7 @@ module _ (text : List ℕ) (t : Scope limit.asked) (a e : ℕ) (v : scopes.Valid
     pub met-below : i < t.count
     met-below = omega (arith, k.number, place-below (slice a e text) (scopes.known_of text t) k.known, long)
 
-    pub met-known : Met text t a e (record { table = scopes.marking t i; number = i })
+    pub met-known : Met text t a e (scopes.marking t i) i
     met-known = record {
       few = omega arith;
       small = omega (arith, met-below);
@@ -133,7 +133,7 @@ module _ (text : List ℕ) (t : Scope limit.asked) (a e : ℕ) (v : scopes.Valid
       holds = λ ws so. met-old so (slice a e text) (subst (λ (us : List Word). scopes.Known us (slice a e text) i) so.known k) (omega (arith, met-below, v.count, v.variables));
     }
 
-  pub met-fresh : member (slice a e text) (scopes.known_of text t) ≡ false → t.count < limit.asked → a ≤ e → e ≤ length text → Met text t a e (record { table = scopes.added t a e false; number = t.count })
+  pub met-fresh : member (slice a e text) (scopes.known_of text t) ≡ false → t.count < limit.asked → a ≤ e → e ≤ length text → Met text t a e (scopes.added t a e false) t.count
   met-fresh m room h k = record {
     few = omega arith;
     small = omega arith;

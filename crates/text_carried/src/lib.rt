@@ -10,55 +10,37 @@ ghost use Rattle.text_carried.specs.Asking.{Met, Holds, Numbers, carriers_of};
 use limits::{ASKED, CARRIED, NONE, VARIABLES};
 use text_scope::Scope;
 
-// A variable's number, and the variables of the line with it.
-#[derive(Clone, Copy)]
-struct Entry {
-    table: Scope<ASKED>,
-    number: usize,
-}
-
-// The variables of the line with those of a stage, and the numbers of the stage's. A variable is marked where it stands in a second stage.
-#[derive(Clone, Copy)]
-pub struct Numbering {
-    pub table: Scope<ASKED>,
-    pub numbers: [u32; VARIABLES],
-}
-
-// The variable from a to e stands in one stage more.
-fn meet(text: &[u8], t: Scope<ASKED>, a: usize, e: usize) -> Entry
-    requires { scopes.Valid text.now t × (a ≤ e) × (e ≤ length text.now) × (t.count < limit.asked) }
-    ensures { Met text.now t a e result }
+// The variable from a to e stands in one stage more; its number.
+// It stays beside the same of a literal: there a fourth variable is refused, and `not` says which variables are marked, so that one function for both would take two flags and an answer that is never none here.
+fn meet(text: &[u8], t: &mut Scope<ASKED>, a: usize, e: usize) -> usize
+    requires { scopes.Valid text.now t.old × (a ≤ e) × (e ≤ length text.now) × (t.old.count < limit.asked) }
+    ensures { Met text.now t.old a e t.new result }
 {
-    if let Some(number) = text_scope::find(text, t, a, e) {
-        let table = text_scope::mark(t, number);
-        return Entry { table, number };
+    if let Some(number) = text_scope::find(text, *t, a, e) {
+        *t = text_scope::mark(*t, number);
+        return number;
     }
-    let table = text_scope::add(t, a, e, false);
-    Entry {
-        table,
-        number: t.count,
-    }
+    let number = t.count;
+    *t = text_scope::add(*t, a, e, false);
+    number
 }
 
-// The variables of one stage more.
-pub fn number(text: &[u8], t: Scope<ASKED>, s: Scope<VARIABLES>) -> Numbering
-    requires { scopes.Valid text.now s × (t.count + s.count ≤ limit.asked) × ((ws : List Word) × Holds text.now t ws) }
-    ensures { Numbers text.now t (scopes.known_of text.now s) result }
+// The variables of one stage more are entered, and numbered. A variable is marked where it stands in a second stage.
+pub fn number(text: &[u8], t: &mut Scope<ASKED>, s: Scope<VARIABLES>) -> [u32; VARIABLES]
+    requires { scopes.Valid text.now s × (t.old.count + s.count ≤ limit.asked) × ((ws : List Word) × Holds text.now t.old ws) }
+    ensures { Numbers text.now t.old (scopes.known_of text.now s) t.new result }
 {
-    let mut u = t;
     let mut numbers = [0u32; VARIABLES];
     for j in 0..s.count {
         let v = s.variables[j];
-        let r = meet(text, u, v.start, v.end);
-        let table = r.table;
-        u = table;
-        numbers[j] = r.number as u32;
+        numbers[j] = meet(text, t, v.start, v.end) as u32;
     }
-    Numbering { table: u, numbers }
+    numbers
 }
 
 // The cells of the variables that stand in a second stage, 255 in one that has none; none if there are more than cells. The variables are numbered by first appearance, so they rise in that order.
 // 255 stays for no variable: it is the number of none, so that a cell is compared with a stage's numbers as it stands.
+// The count of cells stays: `enumerate` of a `filter` would give it, but a loop over that chain knows its items by the calls of `next` alone, and that three of them are one too many was left unproved.
 pub fn carried(t: Scope<ASKED>) -> Option<[u32; CARRIED]>
     ensures { result ≡ carriers_of t }
 {

@@ -12,6 +12,7 @@ use lib.Dec.{eqb, leb}
 use lib.ListN.{length, drop, get_or, set}
 use lib.Seq.{slice, get_or-set_same, get_or-set_other}
 use borrow.Author.Tests.{eqb-true, eqb-false, eq-eqb, ne_eqb, le-leb, lt-leb, leb-false}
+use Rattle.std.proofs.lemmas.Bool.{cases_Bool}
 use Rattle.limits.specs.Limits as limit
 use Rattle.grammar.specs.Bytes.{bytes, Word}
 use Rattle.grammar.specs.Forms as forms
@@ -20,18 +21,17 @@ use Rattle.grammar.specs.Models.{declare}
 use Rattle.grammar.specs.Declarations as grammar
 use Rattle.grammar.specs.Declarations.{lookup, count}
 use Rattle.grammar.specs.Rows.{lower, row, again, fault}
-use Rattle.grammar.proofs.Tests.{either}
 use Rattle.std.specs.Prelude.{Ok, Err}
 use Rattle.rows.specs.Rows.{number_of}
 use Rattle.rows.specs.declared.Row.{Row}
 use Rattle.text_faults.specs.Faults.{shaped}
-use Rattle.text_scan.proofs.Laws.{next, nothing}
+use Rattle.text_scan.proofs.Laws.{nothing}
 use Rattle.text_names.specs.Names.{blank, declared_of, Valid, tally, added}
 use Rattle.text_names.specs.declared.Name.{Name}
 use Rattle.text_names.specs.declared.Declared.{Declared}
 use Rattle.text_names.proofs.Laws.{declared-added, valid-added, tally-count}
 use Rattle.text_clauses.proofs.Laws.{whole-all, whole_part}
-use Rattle.text_declarations.specs.Declares.{Limited, state_number, rel_number, next_name, Entered, DeclarationEnd, ArityAt}
+use Rattle.text_declarations.specs.Declares.{Limited, state_number, rel_number, next_name, Entered, DeclarationEnd}
 
 -- NUMBERS
 crowded : (b : Bool) → lower 4 (row 5 b) ≡ 4
@@ -74,7 +74,7 @@ module _ (D : grammar.Declared) (w : Word) where
 pub tally-le : (k : ℕ) (names : List Name) (n : ℕ) → tally k names n ≤ n
 tally-le k names zero = omega arith
 tally-le k names (suc n) = let h = tally-le k names n in
-    ⊎_elim (λ (q : eqb ((get_or names n blank).code / 32) k ≡ true). rw q (omega arith)) (λ (q : eqb ((get_or names n blank).code / 32) k ≡ false). rw q (omega arith)) (either (eqb ((get_or names n blank).code / 32) k))
+    ⊎_elim (λ (q : eqb ((get_or names n blank).code / 32) k ≡ true). rw q (omega arith)) (λ (q : eqb ((get_or names n blank).code / 32) k ≡ false). rw q (omega arith)) (cases_Bool (eqb ((get_or names n blank).code / 32) k))
 
 -- each class is below its own limit, and so below 32
 tally-small : {d : Declared} → Limited d → (k : ℕ) → k < 4 → tally k d.names d.count < 32
@@ -128,7 +128,7 @@ bumps (suc (suc (suc (suc k)))) h = absurd (omega arith)
 tally-after : (names : List Name) (n k t start len j : ℕ) → n < length names → t < 32 → tally j (set names n (record { code = 32 * k + t; start = start; len = len })) (n + 1) ≡ tally j names n + bump k j
 tally-after names n k t start len j h small = ⊎_elim
     (λ (q : eqb k j ≡ true). let z = eqb-true k j q in rw (q, ← z) (tally-own names n k t start len h small))
-    (λ (q : eqb k j ≡ false). rw q (tally-other names n k t start len h small j (eqb-false k j q) ∙ sym (add-zero (tally j names n)))) (either (eqb k j))
+    (λ (q : eqb k j ≡ false). rw q (tally-other names n k t start len h small j (eqb-false k j q) ∙ sym (add-zero (tally j names n)))) (cases_Bool (eqb k j))
 
 module _ (d : Declared) (a e k : ℕ) (c : length d.names ≡ limit.declared) (l : Limited d) (few : d.count < limit.declared) where
   abbrev T : ℕ → ℕ
@@ -185,26 +185,12 @@ pub state-few : (text : List ℕ) (d : Declared) (u : Word) → state_number (de
 unfolding state_number
 state-few text d u z = ⊎_elim
     (λ (q : leb limit.states (count 0 (declared_of text d)) ≡ true). absurd (let y = rw (q, crowded (again (lookup u (declared_of text d)))) at z in omega arith))
-    (λ (q : leb limit.states (count 0 (declared_of text d)) ≡ false). let y = leb-false limit.states (count 0 (declared_of text d)) q in omega (arith, tally-count text d 0)) (either (leb limit.states (count 0 (declared_of text d))))
+    (λ (q : leb limit.states (count 0 (declared_of text d)) ≡ false). let y = leb-false limit.states (count 0 (declared_of text d)) q in omega (arith, tally-count text d 0)) (cases_Bool (leb limit.states (count 0 (declared_of text d))))
 
 -- THE ARITY
 module _ (text : List ℕ) (at : ℕ) where
   pub arity-past : length text ≤ at → arity (drop at text) ≡ none
   arity-past h = rw (nothing text at h)
-
-  module _ (h : at < length text) where
-    pub arity-low : get_or text at 0 < 48 → arity (drop at text) ≡ none
-    arity-low k = rw (next text at h, lt-leb 48 (get_or text at 0) k)
-
-    pub arity-high : 48 ≤ get_or text at 0 → 50 < get_or text at 0 → arity (drop at text) ≡ none
-    arity-high l k = rw (next text at h, le-leb 48 (get_or text at 0) l, lt-leb (get_or text at 0) 50 k)
-
-    pub arity-found : 48 ≤ get_or text at 0 → get_or text at 0 ≤ 50 → ArityAt text at (get_or text at 0 - 48)
-    arity-found k l = record {
-      small = omega arith;
-      within = h;
-      read = rw (next text at h, le-leb 48 (get_or text at 0) k, le-leb (get_or text at 0) 50 l);
-    }
 
 -- `rel`
 pub rel-few : (text : List ℕ) (d : Declared) (u : Word) (n : ℕ) → rel_number (declared_of text d) u n ≡ 0 → tally 1 d.names d.count + tally 2 d.names d.count + tally 3 d.names d.count < limit.rels
@@ -213,7 +199,7 @@ rel-few text d u n z =
     let D = declared_of text d in
     let s = count 1 D + count 2 D + count 3 D in
     ⊎_elim (λ (q : leb limit.rels s ≡ true). absurd (let y = rw (q, crowded (again (lookup u D))) at z in omega arith))
-    (λ (q : leb limit.rels s ≡ false). let y = leb-false limit.rels s q in omega (arith, tally-count text d 1, tally-count text d 2, tally-count text d 3)) (either (leb limit.rels s))
+    (λ (q : leb limit.rels s ≡ false). let y = leb-false limit.rels s q in omega (arith, tally-count text d 1, tally-count text d 2, tally-count text d 3)) (cases_Bool (leb limit.rels s))
 
 module _ (text : List ℕ) (d : Declared) (at e n : ℕ) (h : name (drop at text) ≡ some (slice at e text, drop e text)) (k : after (bytes " ") (drop e text) ≡ some (drop (e + 1) text))
     (a : arity (drop (e + 1) text) ≡ some (n, drop (e + 1 + 1) text)) where

@@ -50,6 +50,7 @@ fn rel_room(text: &[u8], d: Declared, a: usize, e: usize, n: u32) -> Result<(), 
 }
 
 // The name from a to e is declared with the next code of its class.
+// The class stays a number: it is 0 of a state relation, else the arity that was read and 1 more, and a code is 32 times it and an index, so that an enum would be made of a number and turned back into one.
 fn enter(d: Declared, a: usize, e: usize, class: u32) -> Declared
     requires { (d.count < limit.declared) × (length d.names ≡ limit.declared) × (a ≤ e) × (e < 4294967296) × (class < 4) }
     ensures { Entered d a e class result }

@@ -5,9 +5,9 @@ use mathlib.Core.Bool.{true, false}
 use mathlib.Core.Logic.{⊎_elim}
 use lib.Dec.{ltb}
 use borrow.Author.Tests.{ltb-true, ltb-false}
-use Rattle.grammar.proofs.Tests.{either}
 use Prim.Native.Nat.{◌≤◌}
 use native.Mathlib.Omega.{arith}
+use Rattle.std.proofs.lemmas.Bool.{cases_Bool}
 use Rattle.std.specs.Prelude.{Result, Ok, Err, IsErrAnd}
 use Rattle.grammar.proofs.Lower.{lower-first, lower-second, lower-both}
 use Rattle.rows.specs.Rows.{number_of}
@@ -20,7 +20,7 @@ use denote.Enum.Declared.{tag_of}
 use lib.IntN.{ℤ, pos}
 use lib.ListN.{get_or}
 use Rattle.rows.proofs.Laws.{some-number}
-use Rattle.text_faults.specs.Faults.{fault_in, Both}
+use Rattle.text_faults.specs.Faults.{Both}
 
 module _ {A B : Type 0} where
   pub both-ok : (x : A) (y : B) → Both (Ok x) (Ok y) (Ok (x, y))
@@ -37,11 +37,6 @@ module _ {A B : Type 0} where
 
   both-more : (x y : Row) → number_of y ≤ number_of x → Both {A = A} {B = B} (Err x) (Err y) (Err y)
   both-more x y h = record { number = let m = lower-both (number_of x) (number_of y) (some-number x) (some-number y) in omega arith; values = tt }
-
--- an answer without row has a value
-pub some-value : {A : Type 0} (r : Result A Row) → fault_in r ≡ 0 → (a : A) × (r ≡ Ok a)
-some-value (Ok a) z = (a, refl)
-some-value (Err x) z = absurd (some-number x z)
 
 -- what `?` passes on
 pub passed : {A B : Type 0} {r : Result A Row} {x : Result B Row} {e : Row} → r ≡ Err e → IsErrAnd x (λ y. y ≡ e) → (y : Row) × (x ≡ Err y) × (r ≡ Err y)
@@ -88,5 +83,5 @@ module _ {A B : Type 0} (x y : Row) where
       (λ (q : ltb (number_of y) (number_of x) ≡ false). ⊎_elim
       (λ (p : ltb (number_of x) (number_of y) ≡ true). rw (e, ordered y x, q, p) (both-less x y (ltb-false _ _ q)))
       (λ (p : ltb (number_of x) (number_of y) ≡ false). rw (e, ordered y x, q, p) (both-less x y (ltb-false _ _ q)))
-      (either (ltb (number_of x) (number_of y))))
-      (either (ltb (number_of y) (number_of x)))
+      (cases_Bool (ltb (number_of x) (number_of y))))
+      (cases_Bool (ltb (number_of y) (number_of x)))

@@ -7,6 +7,7 @@ use Prim.Native.Nat.{ℕ}
 use native.Mathlib.Omega.{arith}
 use lib.Dec.{eqb}
 use borrow.Author.Tests.{eqb-true, eqb-false}
+use Rattle.std.proofs.lemmas.Bool.{cases_Bool}
 use Rattle.std.specs.Prelude.{Result, Err}
 use Rattle.std.proofs.Math.Option as math
 use Rattle.grammar.specs.Bytes.{Word}
@@ -15,7 +16,6 @@ use Rattle.grammar.specs.Forms.{Literal, plain, negated, Form, state_form, rel_f
 use Rattle.grammar.specs.Rows.{lower, row, again, name_fault, list_fault, head_fault, plain_fault, negated_fault, literal_fault, body_fault, stages_fault, fault}
 use Rattle.grammar.specs.Shapes.{Read, whole}
 use Rattle.grammar.proofs.Lower.{lower-first, lower-second, lower-both}
-use Rattle.grammar.proofs.Tests.{either}
 use Rattle.rows.specs.declared.Row.{Row}
 use Rattle.rows.specs.declared.Row.TheVariants.{Shape}
 use Rattle.text_faults.specs.Faults.{fault_in, Judged, unshaped, shaped}
@@ -31,10 +31,10 @@ lower-other a b p q e = ⊎_elim
     (λ (y : eqb b 0 ≡ true). p (sym (lower-second a b (eqb-true b 0 y)) ∙ e))
     (λ (y : eqb b 0 ≡ false). let m = lower-both a b (eqb-false a 0 z) (eqb-false b 0 y) in ⊎_elim
     (λ (x : eqb a 3 ≡ true). p (eqb-true a 3 x))
-    (λ (x : eqb a 3 ≡ false). ⊎_elim (λ (w : eqb b 3 ≡ true). q (eqb-true b 3 w)) (λ (w : eqb b 3 ≡ false). let s = eqb-false a 3 x in let t = eqb-false b 3 w in omega arith) (either (eqb b 3)))
-    (either (eqb a 3)))
-    (either (eqb b 0)))
-    (either (eqb a 0))
+    (λ (x : eqb a 3 ≡ false). ⊎_elim (λ (w : eqb b 3 ≡ true). q (eqb-true b 3 w)) (λ (w : eqb b 3 ≡ false). let s = eqb-false a 3 x in let t = eqb-false b 3 w in omega arith) (cases_Bool (eqb b 3)))
+    (cases_Bool (eqb a 3)))
+    (cases_Bool (eqb b 0)))
+    (cases_Bool (eqb a 0))
 
 row-other : (n : ℕ) (b : Bool) → Other n → Other (row n b)
 row-other n true h e = h e

@@ -11,20 +11,17 @@ use Rattle.grammar.specs.Shapes.{Read, ◌>>=◌, after, whether, name, arity, a
 some-form : {f g : Form} → ◌≡◌ {A = Option Form} (some f) (some g) → f ≡ g
 some-form e = cc
 
-pub no-option : {A B : Type 0} {x : B} → ◌≡◌ {A = Option B} none (some x) → A
-no-option e = absurd (let z : ◌≡◌ {A = ℕ} 0 1 = cc in omega arith)
-
 -- whatever is read as a whole is so
 abbrev pub Only : (Form → Type 0) → Read Form → Type 0
 Only Q r = (f : Form) → whole r ≡ some f → Q f
 
 module _ (Q : Form → Type 0) where
   pub only_none : Only Q none
-  only_none f e = no-option e
+  only_none f e = cc
 
   pub only_one : (g : Form) → Q g → (u : List ℕ) → Only Q (some (g, u))
   only_one g h [] f e = subst Q (some-form e) h
-  only_one g h (b ∷ u) f e = no-option e
+  only_one g h (b ∷ u) f e = cc
 
   pub only_then : {A : Type 0} (o : Option A) (k : A → Read Form) → ((x : A) → Only Q (k x)) → Only Q (o >>= k)
   only_then none k h = only_none

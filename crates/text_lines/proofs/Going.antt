@@ -10,6 +10,7 @@ use lib.Dec.{eqb}
 use lib.ListN.{length, take}
 use lib.Seq.{length-take-le}
 use borrow.Author.Tests.{eqb-true, eq-eqb, ne_eqb}
+use Rattle.std.proofs.lemmas.Bool.{cases_Bool}
 use Rattle.semantics.specs.Models.{Program}
 use Rattle.grammar.specs.Bytes.{bytes, every, allowed, Line, ended}
 use Rattle.grammar.specs.Forms.{Literal, Form, state_form, rel_form, rule_form, new_form, next_form, ask_form}
@@ -18,11 +19,10 @@ use Rattle.grammar.specs.Declarations as grammar
 use Rattle.grammar.specs.Rows.{fault}
 use Rattle.grammar.specs.Models.{declare, clause, question_of}
 use Rattle.grammar.specs.Texts.{Outcome, accepted, refused, bad, judge, Step, wrong, adds, asks, effect, step, finish, read_lines}
-use Rattle.grammar.proofs.Tests.{either}
 use Rattle.text_names.specs.Names.{name_at, begin, end, entry, declared_of, Valid}
 use Rattle.text_names.specs.declared.Declared.{Declared}
 use Rattle.text_names.proofs.Laws.{list_of-same, slice-prefix}
-use Rattle.text_lines.proofs.Forms.{no-option, Only, only_none, only-either, state-only, rel-only, rule-only, new-only, next-only}
+use Rattle.text_lines.proofs.Forms.{Only, only_none, only-either, state-only, rel-only, rule-only, new-only, next-only}
 
 -- LONGER PARTS OF THE TEXT
 module _ (text : List ℕ) (d : Declared) (a b : ℕ) (h : a ≤ b) (k : b ≤ length text) (v : Valid (take a text) d) where
@@ -123,12 +123,12 @@ other-form s f h e = no-ask s h f e
 -- one that begins with it begins with no other word
 other_word : (a b c : ℕ) (v w s : List ℕ) {r : List ℕ} → (c ≡ b → ⊥) → after (a ∷ b ∷ v) s ≡ some r → after (a ∷ c ∷ w) s ≡ none
 other_word a b c v w [] d e = refl
-other_word a b c v w (x ∷ []) d e = ⊎_elim (λ (q : eqb a x ≡ true). rw q) (λ (q : eqb a x ≡ false). rw q) (either (eqb a x))
+other_word a b c v w (x ∷ []) d e = ⊎_elim (λ (q : eqb a x ≡ true). rw q) (λ (q : eqb a x ≡ false). rw q) (cases_Bool (eqb a x))
 other_word a b c v w (x ∷ y ∷ s) d e = ⊎_elim
     (λ (q : eqb a x ≡ true). rw q (⊎_elim
     (λ (p : eqb b y ≡ true). rw (ne_eqb c y (λ z. d (z ∙ sym (eqb-true b y p)))))
-    (λ (p : eqb b y ≡ false). no-option (rw (q, p) at e)) (either (eqb b y))))
-    (λ (q : eqb a x ≡ false). rw q) (either (eqb a x))
+    (λ (p : eqb b y ≡ false). cc (rw (q, p) at e)) (cases_Bool (eqb b y))))
+    (λ (q : eqb a x ≡ false). rw q) (cases_Bool (eqb a x))
 
 pub ask-line : (s : List ℕ) {r : List ℕ} → after (bytes "(ask ") s ≡ some r → form_of s ≡ whole (ask_rest r)
 unfolding form_of line

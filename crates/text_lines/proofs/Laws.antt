@@ -4,11 +4,13 @@ use mathlib.Core.Logic.{⊎_elim}
 use mathlib.Core.Bool.{true, false}
 use mathlib.Core.List.{List, [], ◌∷◌, append-nil}
 use mathlib.Core.Option.{none, some}
-use Prim.Native.Nat.{ℕ, ◌<◌}
+use Prim.Native.Nat.{ℕ, ◌+◌, ◌≤◌, ◌<◌}
 use native.Mathlib.Omega.{arith}
 use lib.Dec.{leb}
 use lib.ListN.{length, drop}
 use borrow.Author.Tests.{leb-false}
+use Rattle.std.proofs.lemmas.Bool.{cases_Bool}
+use Rattle.limits.specs.Limits as limit
 use Rattle.semantics.specs.Models as meaning
 use Rattle.semantics.specs.Models.{Program}
 use Rattle.model.specs.Records.{line_of}
@@ -20,11 +22,9 @@ use Rattle.grammar.specs.Shapes.{Read, after, line, state_rest, rel_rest, rule_r
 use Rattle.grammar.specs.Rows.{row, many_clauses, fault}
 use Rattle.grammar.specs.Declarations as grammar
 use Rattle.grammar.specs.Models.{declare, clause}
-use Rattle.grammar.proofs.Tests.{either}
 use Rattle.grammar.proofs.Lower.{lower-none}
 use Rattle.std.specs.Prelude.{Result, Ok, Err, IfErr}
 use Rattle.rows.specs.declared.Row.{Row}
-use Rattle.rows.specs.declared.Row.TheVariants.{Shape}
 use Rattle.rows.proofs.Laws.{some-number}
 use Rattle.text_faults.specs.Faults.{fault_in, unshaped, shaped}
 use Rattle.text_names.specs.Names.{Valid, declared_of}
@@ -36,8 +36,7 @@ use Rattle.text_clauses.specs.declared.Reading.{Reading}
 use Rattle.text_record.specs.Stored as stored
 use Rattle.text_record.specs.Stored.{with_clause}
 use Rattle.text_record.proofs.Laws.{stored-room, stored as stored-law}
-use Rattle.text_lines.specs.Lines.{declaring, GoodStep, Stepped, Aside, Storable, LineEnd}
-use Rattle.text_lines.specs.declared.Step.{Step}
+use Rattle.text_lines.specs.Lines.{GoodStep, Stepped, Aside, ClauseRead, LineEnd}
 use Rattle.text_lines.proofs.Forms.{Only, state-only, rel-only}
 
 -- ANSWERS
@@ -48,20 +47,18 @@ row-same : {A : Type 0} {x y : Row} → ◌≡◌ {A = Result A Row} (Err x) (Er
 row-same {A} {x} q = subst (λ (r : Result A Row). IfErr r (λ z. x ≡ z)) q refl
 
 -- A FORM THAT ADDS A CLAUSE leaves the declarations, and there was room for it
-none-some : {A B : Type 0} {x : A} {xs : List A} → ◌≡◌ {A = List A} [] (x ∷ xs) → B
-none-some e = absurd (let z : ◌≡◌ {A = ℕ} 0 1 = cc in omega arith)
 
 row-four : (k : ℕ) → row 4 (many_clauses k) ≡ 0 → k < 64
-row-four k e = ⊎_elim (λ (q : leb 64 k ≡ true). absurd (let g = rw q at e in omega arith)) (λ (q : leb 64 k ≡ false). leb-false 64 k q) (either (leb 64 k))
+row-four k e = ⊎_elim (λ (q : leb 64 k ≡ true). absurd (let g = rw q at e in omega arith)) (λ (q : leb 64 k ≡ false). leb-false 64 k q) (cases_Bool (leb 64 k))
 
 clause-form : (D : grammar.Declared) (k n : ℕ) (l : meaning.Line) (f : Form) → fault D k f ≡ 0 → clause D n f ≡ (n, l) ∷ [] → (k < 64) × (declare D f ≡ D)
 unfolding fault clause declare
-clause-form D k n l (state_form w) e c = none-some c
-clause-form D k n l (rel_form w a) e c = none-some c
+clause-form D k n l (state_form w) e c = cc
+clause-form D k n l (rel_form w a) e c = cc
 clause-form D k n l (rule_form h b) e c = (row-four k (lower-none (row 4 (many_clauses k)) _ e).0, refl)
 clause-form D k n l (new_form w b) e c = (row-four k (lower-none (row 4 (many_clauses k)) _ e).0, refl)
 clause-form D k n l (next_form x p q b) e c = (row-four k (lower-none (row 4 (many_clauses k)) _ e).0, refl)
-clause-form D k n l (ask_form qs) e c = none-some c
+clause-form D k n l (ask_form qs) e c = cc
 
 -- the clause of a good form is stored
 module _ {text : List ℕ} {d : Declared} {m : Model} {P : Program} (n : ℕ) {form : Form} {r : Reading} (so : stored.Holds m P) (v : Valid text d) (li : Limited d)
@@ -69,10 +66,10 @@ module _ {text : List ℕ} {d : Declared} {m : Model} {P : Program} (n : ℕ) {f
   few : (m.clausecount < 64) × (declare (declared_of text d) form ≡ declared_of text d)
   few = clause-form (declared_of text d) m.clausecount n (line_of r.action (body_in r.frame)) form (sym z) (c.says n)
 
-  clause-room : Storable m r
-  clause-room = record { clauses = few.0; literals = stored-room m P n r.action r.frame so few.0 c.size c.codes; size = c.size; count = c.count }
+  clause-room : (m.clausecount < limit.clauses) × (m.literalcount + r.frame.size ≤ limit.literals) × (r.frame.size ≤ limit.body) × (r.frame.scope.count ≤ limit.variables)
+  clause-room = (few.0, stored-room m P n r.action r.frame so few.0 c.size c.codes, c.size, c.count)
 
-  clause-good : GoodStep text d P n form (record { declared = d; model = with_clause m n r.action r.frame })
+  clause-good : GoodStep text d P n d (with_clause m n r.action r.frame) form
   clause-good = record {
     valid = v;
     limited = li;
@@ -81,32 +78,32 @@ module _ {text : List ℕ} {d : Declared} {m : Model} {P : Program} (n : ℕ) {f
   }
 
 module _ {text : List ℕ} {d : Declared} {m : Model} {P : Program} (n : ℕ) {read : Read Form} (so : stored.Holds m P) (v : Valid text d) (li : Limited d) where
-  pub clause-storable : {r : Reading} → ClauseEnd (declared_of text d) m.clausecount read (Ok r) → Storable m r
+  clause-storable : {r : Reading} → ClauseEnd (declared_of text d) m.clausecount read (Ok r) → (m.clausecount < limit.clauses) × (m.literalcount + r.frame.size ≤ limit.literals) × (r.frame.size ≤ limit.body) × (r.frame.scope.count ≤ limit.variables)
   clause-storable (unshaped w q) = absurd (ok-err q)
   clause-storable (shaped form w q g) = clause-room n so v li g q
 
-  pub clause-refused : (x : Row) → ClauseEnd (declared_of text d) m.clausecount read (Err x) → Stepped text d P n read (Err x)
-  clause-refused x (unshaped w q) = unshaped w (ap Err (row-same q))
-  clause-refused x (shaped form w q g) = shaped form w (q ∙ ap (λ (k : ℕ). fault (declared_of text d) k form) so.count) tt
+  clause-refused : (x : Row) (d' : Declared) (m' : Model) → ClauseEnd (declared_of text d) m.clausecount read (Err x) → Stepped text d P n read (Err x) d' m'
+  clause-refused x d' m' (unshaped w q) = unshaped w (ap Err (row-same q))
+  clause-refused x d' m' (shaped form w q g) = shaped form w (q ∙ ap (λ (k : ℕ). fault (declared_of text d) k form) so.count) tt
 
-  pub clause-accepted : {r : Reading} → ClauseEnd (declared_of text d) m.clausecount read (Ok r) → Stepped text d P n read (Ok (record { declared = d; model = with_clause m n r.action r.frame }))
+  clause-accepted : {r : Reading} → ClauseEnd (declared_of text d) m.clausecount read (Ok r) → Stepped text d P n read (Ok tt) d (with_clause m n r.action r.frame)
   clause-accepted (unshaped w q) = absurd (ok-err q)
   clause-accepted (shaped form w q g) = shaped form w (q ∙ ap (λ (k : ℕ). fault (declared_of text d) k form) so.count) (clause-good n so v li g q)
 
 -- A RECORD with one clause more, or none, keeps the rest
-pub none-aside : {m : Model} → Aside m m
-none-aside = record { relations = refl; names = refl; lengths = refl; stages = refl; stagecount = refl; carried = refl; lines = refl }
+none-aside : {m : Model} → Aside m m
+none-aside = record { relations = refl; names = refl; stages = refl; stagecount = refl; carried = refl; lines = refl }
 
-pub clause-aside : {m : Model} (n : ℕ) (action : Action) (f : Frame) → Aside m (with_clause m n action f)
-clause-aside n action f = record { relations = refl; names = refl; lengths = refl; stages = refl; stagecount = refl; carried = refl; lines = refl }
+clause-aside : {m : Model} (n : ℕ) (action : Action) (f : Frame) → Aside m (with_clause m n action f)
+clause-aside n action f = record { relations = refl; names = refl; stages = refl; stagecount = refl; carried = refl; lines = refl }
 
 -- A DECLARATION leaves the program
 module _ {text : List ℕ} {d : Declared} {m : Model} {P : Program} {n : ℕ} {read : Read Form} (so : stored.Holds m P) (h : Only (λ f. clause (declared_of text d) n f ≡ []) read) where
-  pub declaration-refused : (x : Row) → DeclarationEnd text d read (Err x) → Stepped text d P n read (Err x)
-  declaration-refused x (unshaped w q) = unshaped w (ap Err (row-same q))
-  declaration-refused x (shaped form w q g) = shaped form w (q (length P)) tt
+  declaration-refused : (x : Row) (d' : Declared) (m' : Model) → DeclarationEnd text d read (Err x) → Stepped text d P n read (Err x) d' m'
+  declaration-refused x d' m' (unshaped w q) = unshaped w (ap Err (row-same q))
+  declaration-refused x d' m' (shaped form w q g) = shaped form w (q (length P)) tt
 
-  pub declaration-step : {r : Declared} → DeclarationEnd text d read (Ok r) → Stepped text d P n read (Ok (declaring m r))
+  declaration-step : {r : Declared} → DeclarationEnd text d read (Ok r) → Stepped text d P n read (Ok tt) r m
   declaration-step (unshaped w q) = absurd (ok-err q)
   declaration-step (shaped form w q g) = shaped form w (q (length P)) (record { valid = g.valid; limited = g.limited; declared = g.declared; stored = rw (h form w, append-nil P) so })
 
@@ -150,14 +147,21 @@ pub line-none : (s : List ℕ) → after (bytes "(state ") s ≡ none → after 
 unfolding line
 line-none s a b c d e f = rw (a, b, c, d, e, f)
 
--- the line with another word is judged by what follows the word
-pub line-refused : {text : List ℕ} {at : ℕ} {d : Declared} {m : Model} {n : ℕ} (x : Row) (read : Read Form) → line (drop at text) ≡ read
-    → ((P : Program) → stored.Holds m P → Stepped text d P n read (Err x)) → LineEnd text at d m n (Err x)
-line-refused x read h k = record { steps = λ y P so. rw h (k P so); aside = tt }
+-- THE LINE. One that declares
+module _ {text : List ℕ} {at : ℕ} {d : Declared} {m : Model} {n : ℕ} (read : Read Form) (only : Only (λ f. clause (declared_of text d) n f ≡ []) read) (h : line (drop at text) ≡ read) where
+  pub line-undeclared : (x : Row) (d' : Declared) (m' : Model) → DeclarationEnd text d read (Err x) → LineEnd text at d m n (Err x) d' m'
+  line-undeclared x d' m' e = record { steps = λ y P so. rw h (declaration-refused so only x d' m' e); aside = tt }
 
-pub line-steps : {text : List ℕ} {at : ℕ} {d : Declared} {m : Model} {n : ℕ} {r : Step} (read : Read Form) → line (drop at text) ≡ read
-    → ((P : Program) → stored.Holds m P → Stepped text d P n read (Ok r)) → Aside m r.model → LineEnd text at d m n (Ok r)
-line-steps read h k a = record { steps = λ y P so. rw h (k P so); aside = a }
+  pub line-declared : {r : Declared} → DeclarationEnd text d read (Ok r) → LineEnd text at d m n (Ok tt) r m
+  line-declared e = record { steps = λ y P so. rw h (declaration-step so only e); aside = none-aside }
 
-pub line-unshaped : {text : List ℕ} {at : ℕ} {d : Declared} {m : Model} {n : ℕ} → (after (bytes "(ask ") (drop at text) ≡ none → line (drop at text) ≡ none) → LineEnd text at d m n (Err Shape)
-line-unshaped h = record { steps = λ y P so. unshaped (rw (h (y refl))) refl; aside = tt }
+-- one that has a clause
+module _ {text : List ℕ} (at : ℕ) {d : Declared} {m : Model} (n : ℕ) (v : Valid text d) (li : Limited d) where
+  pub line-refused : (x : Row) (d' : Declared) (m' : Model) → ClauseRead text at d m.clausecount (Err x) → LineEnd text at d m n (Err x) d' m'
+  line-refused x d' m' e = record { steps = λ y P so. clause-refused n so v li x d' m' (e (λ q. y (ap Err (row-same q)))); aside = tt }
+
+  pub line-stored : {r : Reading} → ClauseRead text at d m.clausecount (Ok r) → LineEnd text at d m n (Ok tt) d (with_clause m n r.action r.frame)
+  line-stored {r} e = record { steps = λ y P so. clause-accepted n so v li (e ok-err); aside = clause-aside n r.action r.frame }
+
+  pub line-storable : {r : Reading} {P : Program} → stored.Holds m P → ClauseRead text at d m.clausecount (Ok r) → (m.clausecount < limit.clauses) × (m.literalcount + r.frame.size ≤ limit.literals) × (r.frame.size ≤ limit.body) × (r.frame.scope.count ≤ limit.variables)
+  line-storable so e = clause-storable n so v li (e ok-err)

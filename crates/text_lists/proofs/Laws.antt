@@ -1,5 +1,7 @@
 -- Laws of lists.
-use mathlib.Core.Path.{◌≡◌, refl, sym, ap, subst, ◌∙◌}
+use mathlib.Core.Path.{◌≡◌, refl, sym, ap, ◌∙◌}
+use Rattle.std.proofs.lemmas.Nat.{one_shl}
+use Rattle.std.proofs.lemmas.Bool.{cases_Bool}
 use Rattle.std.specs.Prelude.{Option, Some, None, Result, Ok, Err, MatchOption}
 use mathlib.Core.Logic.{⊎_elim}
 use mathlib.Core.Bool.{true, false, ◌||◌, or_assoc}
@@ -25,14 +27,15 @@ use Rattle.grammar.specs.Declarations.{is_state, Declared, lookup}
 use Rattle.grammar.specs.Rows.{lower, name_fault, list_fault}
 use Rattle.grammar.specs.Models.{code_of, codes}
 use Rattle.grammar.proofs.Lower.{lower-second, lower-assoc}
-use Rattle.grammar.proofs.Tests.{either}
-use Rattle.grammar.proofs.Reading.{Reading, reading-start, reading-more, reading-closed}
 use Rattle.rows.specs.declared.Row.{Row}
 use Rattle.text_scan.specs.Found.{NameEnd}
 use Rattle.text_names.specs.Names.{found}
 use Rattle.text_faults.specs.Faults.{fault_in, Both, Coded}
-use Rattle.text_lists.specs.Lists.{Chosen, Holds, Extends, NameAdded, RestEnd, ListEnd}
-use Rattle.text_lists.specs.declared.List.{List}
+use Rattle.text_lists.specs.Lists.{Chosen, Holds, NameAdded, Keeps, ListEnd}
+use Rattle.text_names.specs.declared.Declared as names
+use Rattle.text_names.specs.Names.{declared_of, Valid}
+use Rattle.text_rows.specs.declared.Taken.{Taken}
+use Rattle.text_rows.specs.Rows.{ItemEnd, RowEnd}
 
 -- ONE NAME MORE
 fault-more : (D : Declared) (ws : seq.List Word) (w : Word) → list_fault D (ws ++ (w ∷ [])) ≡ lower (list_fault D ws) (name_fault (lookup w D))
@@ -56,10 +59,6 @@ map_more : {A B : Type 0} (f : A → B) (a : seq.List A) (x : A) → map f (a ++
 map_more f [] x = refl
 map_more f (y ∷ a) x = ap (λ (l : seq.List _). f y ∷ l) (map_more f a x)
 
--- the code's `1 << c`
-bit-of : (c : ℕ) → c < 32 → (1 * 2 ^ c) % 4294967296 ≡ 2 ^ c
-bit-of c h = let p : 2 ^ c < 2 ^ 32 = pow-lt h in rw (one-mul (2 ^ c), mod-eq_of_lt p)
-
 module _ (text : seq.List ℕ) (D : Declared) (a e : ℕ) {s : Chosen} {o : Option ℕ} {code : Chosen} {r : Result (ℕ × ℕ) Row}
     (f : lookup (slice a e text) D ≡ found o) (k : Coded (name_fault (found o)) o code) (t : Both s code r) where
   -- the row of the names with the one more
@@ -77,7 +76,7 @@ module _ (text : seq.List ℕ) (D : Declared) (a e : ℕ) {s : Chosen} {o : Opti
     coded = rw (parts.1) at k.value
 
     small : c < 32
-    small = ⊎_elim (λ (y : is_state c ≡ true). ltb-true c 32 y) (λ (y : is_state c ≡ false). absurd (let z = rw (parts.1, coded, y) at k.row in omega arith)) (either (is_state c))
+    small = ⊎_elim (λ (y : is_state c ≡ true). ltb-true c 32 y) (λ (y : is_state c ≡ false). absurd (let z = rw (parts.1, coded, y) at k.row in omega arith)) (cases_Bool (is_state c))
 
     pub name-added : NameAdded text D s a e (Ok (bit_or set ((1 * 2 ^ c) % 4294967296)))
     unfolding union
@@ -88,36 +87,13 @@ module _ (text : seq.List ℕ) (D : Declared) (a e : ℕ) {s : Chosen} {o : Opti
               let z : set ≡ set_of (codes D ws) = (rw (parts.0) at so.set) in
               record {
                 number = ap fault_in (sym q) ∙ number-more so;
-                set = ap (bit_or set) (bit-of c small) ∙ rw (z, map_more (code_of D) ws (slice a e text), set_more (codes D ws) (code_of D (slice a e text)), g);
+                set = ap (bit_or set) (one_shl c 32 small) ∙ rw (z, map_more (code_of D) ws (slice a e text), set_more (codes D ws) (code_of D (slice a e text)), g);
               };
         }
 
--- READING NAMES
-pub record NamesSo (text : seq.List ℕ) (D : Declared) (at n : ℕ) (s t : Chosen) (i k : ℕ) : Type 0 where
-  pub more : seq.List Word
-  pub reading : Reading name text at n more i k
-  pub holds : Extends D s more t
-
-pub names-start : {text : seq.List ℕ} {D : Declared} {at n : ℕ} {s : Chosen} → at ≤ length text → NamesSo text D at n s s at n
-names-start h = record { more = []; reading = reading-start h; holds = λ ws so. rw (append-nil ws) so }
-
-module _ {text : seq.List ℕ} {D : Declared} {at n : ℕ} {s t : Chosen} {i k : ℕ} (so : NamesSo text D at n s t i k) where
-  pub names_more : {r : Chosen} {e j : ℕ} → j + 1 ≡ k → after (bytes ")") (drop i text) ≡ none → after (bytes " ") (drop i text) ≡ some (drop (i + 1) text)
-      → NameEnd text (i + 1) e → NameAdded text D t (i + 1) e r → NamesSo text D at n s r e j
-  names_more {r} {e} {j} h p q w ad = record {
-    more = so.more ++ (slice (i + 1) e text ∷ []);
-    reading = let z : k - 1 ≡ j = omega arith in subst (Reading name text at n (so.more ++ (slice (i + 1) e text ∷ [])) e) z (reading-more so.reading (omega arith) p q w.begins w.ends w.read);
-    holds = λ ws f. rw (← append_assoc) (ad.added (ws ++ so.more) (so.holds ws f));
-  }
-
-  pub names-closed : i < length text → after (bytes ")") (drop i text) ≡ some (drop (i + 1) text) → RestEnd text D at n s (record { chosen = t; end = i + 1 })
-  names-closed h p = record {
-    more = so.more;
-    begins = omega (arith, so.reading.begins);
-    ends = omega arith;
-    read = reading-closed so.reading p;
-    holds = so.holds;
-  }
+-- A NAME OF A LIST
+pub listed : {text : seq.List ℕ} {d : names.Declared} {at e : ℕ} {s r : Chosen} → NameEnd text at e → NameAdded text (declared_of text d) s at e r → ItemEnd name (Keeps text d) text at s (record { kept = r; end = e })
+listed {text} {at = at} {e} n ad = record { value = slice at e text; begins = n.begins; ends = n.ends; found = n.read; holds = λ c ws so. (so.0, ad.added ws so.1) }
 
 -- LISTS
 pub empty-list : (D : Declared) → Holds D [] (Ok 0)
@@ -125,7 +101,7 @@ unfolding list_fault set_of
 empty-list D = record { number = refl; set = refl }
 
 module _ (text : seq.List ℕ) (at : ℕ) where
-  pub list-empty : {D : Declared} → at + 2 ≤ length text → after (bytes "()") (drop at text) ≡ some (drop (at + 2) text) → ListEnd text D at (record { chosen = Ok 0; end = at + 2 })
+  pub list-empty : {D : Declared} → at + 2 ≤ length text → after (bytes "()") (drop at text) ≡ some (drop (at + 2) text) → ListEnd text D at (record { kept = Ok 0; end = at + 2 })
   unfolding list
   list-empty {D} h p = record { ws = []; begins = omega arith; ends = h; read = rw p; holds = empty-list D }
 
@@ -144,17 +120,18 @@ module _ (text : seq.List ℕ) (at : ℕ) where
         unfolding list bracket
         list-unended v = rw (p, q, m.read, v)
 
-        list-found : {D : Declared} {t : Chosen} {r : List} → NameAdded text D (Ok 0) (at + 1) e t → RestEnd text D e (limit.list - 1) t r → ListEnd text D at r
-        unfolding list bracket
-        list-found {D} ad v = record {
-          ws = slice (at + 1) e text ∷ v.more;
-          begins = let a = m.begins in omega (arith, v.begins);
-          ends = v.ends;
-          read = rw (p, q, m.read, v.read);
-          holds = v.holds (slice (at + 1) e text ∷ []) (ad.added [] (empty-list D));
-        }
+        module _ {d : names.Declared} (valid : Valid text d) where
+          list-found : {t : Chosen} {r : Taken Chosen} → NameAdded text (declared_of text d) (Ok 0) (at + 1) e t → RowEnd name (Keeps text d) text e (limit.list - 1) t r → ListEnd text (declared_of text d) at r
+          unfolding list bracket
+          list-found ad v = record {
+            ws = slice (at + 1) e text ∷ v.more;
+            begins = let a = m.begins in omega (arith, v.begins);
+            ends = v.ends;
+            read = rw (p, q, m.read, v.found);
+            holds = (v.holds tt (slice (at + 1) e text ∷ []) (valid, ad.added [] (empty-list (declared_of text d)))).1;
+          }
 
-        pub list-read : {D : Declared} {t : Chosen} (r : Option List) → NameAdded text D (Ok 0) (at + 1) e t
-            → MatchOption r (rest name (limit.list - 1) (drop e text) ≡ none) (RestEnd text D e (limit.list - 1) t) → MatchOption r (list (drop at text) ≡ none) (ListEnd text D at)
-        list-read None ad v = list-unended v
-        list-read (Some r) ad v = list-found ad v
+          pub list-read : {t : Chosen} (r : Option (Taken Chosen)) → NameAdded text (declared_of text d) (Ok 0) (at + 1) e t
+              → MatchOption r (rest name (limit.list - 1) (drop e text) ≡ none) (RowEnd name (Keeps text d) text e (limit.list - 1) t) → MatchOption r (list (drop at text) ≡ none) (ListEnd text (declared_of text d) at)
+          list-read None ad v = list-unended v
+          list-read (Some r) ad v = list-found ad v

@@ -1,17 +1,19 @@
 -- What the readers of lists find.
-use Rattle.std.specs.Prelude.{◌≡◌, [], ◌∷◌, ◌++◌, ℕ, ◌≤◌, ◌<◌, length, drop, Result, IfOk}
+use Rattle.std.specs.Prelude.{◌≡◌, [], ◌∷◌, ◌++◌, ℕ, ◌≤◌, ◌<◌, length, drop, Result, IfOk, ⊤}
 use mathlib.Core.List as seq
 use Rattle.std.proofs.Math.Option.{some}
 use Rattle.std.proofs.Math.Seq.{slice}
 use Rattle.semantics.specs.Labels.{set_of}
 use Rattle.grammar.specs.Bytes.{Word}
-use Rattle.grammar.specs.Shapes.{name, rest, list}
+use Rattle.grammar.specs.Shapes.{list}
 use Rattle.grammar.specs.Declarations.{Declared}
 use Rattle.grammar.specs.Rows.{list_fault}
 use Rattle.grammar.specs.Models.{codes}
 use Rattle.rows.specs.declared.Row.{Row}
 use Rattle.text_faults.specs.Faults.{fault_in}
-use Rattle.text_lists.specs.declared.List.{List}
+use Rattle.text_names.specs.declared.Declared as names
+use Rattle.text_names.specs.Names.{declared_of, Valid}
+use Rattle.text_rows.specs.declared.Taken.{Taken}
 
 -- the set of the relations so far, or a row
 abbrev pub Chosen : Type 0
@@ -29,18 +31,14 @@ Extends D s more r = (ws : seq.List Word) → Holds D ws s → Holds D (ws ++ mo
 pub record NameAdded (text : seq.List ℕ) (D : Declared) (s : Chosen) (a e : ℕ) (r : Chosen) : Type 0 where
   pub added : Extends D s (slice a e text ∷ []) r
 
--- at most n names, added to those of s
-pub record RestEnd (text : seq.List ℕ) (D : Declared) (at n : ℕ) (s : Chosen) (r : List) : Type 0 where
-  pub more : seq.List Word
-  pub begins : at < r.end
-  pub ends : r.end ≤ length text
-  pub read : rest name n (drop at text) ≡ some (more, drop r.end text)
-  pub holds : Extends D s more r.chosen
+-- what is kept of the names of a list
+abbrev pub Keeps : seq.List ℕ → names.Declared → ⊤ → seq.List Word → Chosen → Type 0
+Keeps text d c ws s = Valid text d × Holds (declared_of text d) ws s
 
 -- the list that is next
-pub record ListEnd (text : seq.List ℕ) (D : Declared) (at : ℕ) (r : List) : Type 0 where
+pub record ListEnd (text : seq.List ℕ) (D : Declared) (at : ℕ) (r : Taken Chosen) : Type 0 where
   pub ws : seq.List Word
   pub begins : at < r.end
   pub ends : r.end ≤ length text
   pub read : list (drop at text) ≡ some (ws, drop r.end text)
-  pub holds : Holds D ws r.chosen
+  pub holds : Holds D ws r.kept

@@ -1,28 +1,27 @@
 -- Laws of the table of declared names.
-use mathlib.Core.Path.{◌≡◌, refl, ap, ◌∙◌, subst}
+use mathlib.Core.Path.{◌≡◌, refl, sym, ◌∙◌, subst}
 use mathlib.Core.Logic.{⊎_elim}
-use mathlib.Core.Bool.{true, false, cond}
+use mathlib.Core.Bool.{Bool, true, false, cond}
 use mathlib.Core.List.{List, [], ◌∷◌, ◌++◌}
 use mathlib.Core.Option.{none, some}
-use Prim.Native.Nat.{ℕ, zero, suc, ◌+◌, ◌-◌, ◌/◌, ◌≤◌, ◌<◌}
+use Prim.Native.Nat.{ℕ, zero, suc, ◌+◌, ◌/◌, ◌≤◌, ◌<◌}
 use native.Mathlib.Numerals.{add-one}
 use native.Mathlib.Omega.{arith}
 use lib.Dec.{eqb}
-use lib.ListN.{length, take, drop, get_or, length-set, length-append, get_or-append}
+use lib.ListN.{length, take, get_or, length-set, length-append, get_or-append}
 use lib.Seq.{slice, get_or_at, get_or-set_same, get_or-set_other, take-take}
-use borrow.Author.Tests.{eqb-true, eqb-false, eq-eqb, ne_eqb}
+use borrow.Author.Tests.{eqb-true, eqb-false}
+use Rattle.std.proofs.lemmas.Bool.{cases_Bool}
+use Rattle.std.specs.List.{count_by}
+use Rattle.std.proofs.lemmas.List.Sums.{count_by_more_yes, count_by_more_no}
 use Rattle.limits.specs.Limits as limit
 use Rattle.grammar.specs.Bytes.{Word, same}
 use Rattle.grammar.specs.Declarations as grammar
 use Rattle.grammar.specs.Declarations.{lookup, count, class}
-use Rattle.grammar.proofs.Tests.{either}
-use Rattle.text_scan.proofs.Laws.{slice-part}
 use Rattle.text_names.specs.Rows.{list_of}
-use Rattle.text_names.specs.Names.{blank, name_at, begin, end, entry, declared_of, Valid, found, tally, added}
+use Rattle.text_names.specs.Names.{blank, name_at, begin, end, entry, declared_of, Valid, tally, added}
 use Rattle.text_names.specs.declared.Name.{Name}
 use Rattle.text_names.specs.declared.Declared.{Declared}
-use Rattle.std.specs.Prelude as prelude
-use Rattle.std.specs.Prelude.{IfSome}
 
 -- ROWS
 pub list_of-same : {A : Type 0} (n : ℕ) (f g : ℕ → A) → ((i : ℕ) → i < n → f i ≡ g i) → list_of n f ≡ list_of n g
@@ -38,39 +37,40 @@ get_or-list_of zero f j d h = absurd (omega arith)
 get_or-list_of (suc n) f j d h = ⊎_elim
     (λ (q : eqb j n ≡ true). rw (eqb-true j n q) (get_or_at (list_of n f) (f n) [] d n (length-list_of n f)))
     (λ (q : eqb j n ≡ false). let k : j < n = (let z = eqb-false j n q in omega arith) in
-    get_or-append (list_of n f) (f n ∷ []) d j (omega (arith, length-list_of n f)) ∙ get_or-list_of n f j d k) (either (eqb j n))
+    get_or-append (list_of n f) (f n ∷ []) d j (omega (arith, length-list_of n f)) ∙ get_or-list_of n f j d k) (cases_Bool (eqb j n))
 
 -- LOOKING UP
 module _ (w : Word) where
   lookup-some : (D E : grammar.Declared) (c : ℕ) → lookup w D ≡ some c → lookup w (D ++ E) ≡ some c
   unfolding lookup
   lookup-some [] E c e = absurd (let z : ◌≡◌ {A = ℕ} 0 1 = cc in omega arith)
-  lookup-some (d ∷ D) E c e = ⊎_elim (λ (q : same w d.0 ≡ true). rw q (rw q at e)) (λ (q : same w d.0 ≡ false). rw q (lookup-some D E c (rw q at e))) (either (same w d.0))
+  lookup-some (d ∷ D) E c e = ⊎_elim (λ (q : same w d.0 ≡ true). rw q (rw q at e)) (λ (q : same w d.0 ≡ false). rw q (lookup-some D E c (rw q at e))) (cases_Bool (same w d.0))
 
   lookup-none : (D E : grammar.Declared) → lookup w D ≡ none → lookup w (D ++ E) ≡ lookup w E
   unfolding lookup
   lookup-none [] E e = refl
-  lookup-none (d ∷ D) E e = ⊎_elim (λ (q : same w d.0 ≡ true). absurd (let e' = rw q at e in let z : ◌≡◌ {A = ℕ} 0 1 = cc in omega arith)) (λ (q : same w d.0 ≡ false). rw q (lookup-none D E (rw q at e))) (either (same w d.0))
+  lookup-none (d ∷ D) E e = ⊎_elim (λ (q : same w d.0 ≡ true). absurd (let e' = rw q at e in let z : ◌≡◌ {A = ℕ} 0 1 = cc in omega arith)) (λ (q : same w d.0 ≡ false). rw q (lookup-none D E (rw q at e))) (cases_Bool (same w d.0))
 
   module _ (f : ℕ → Word × ℕ) where
-    pub lookup-more : (i : ℕ) → lookup w (list_of i f) ≡ none → same w (f i).0 ≡ false → lookup w (list_of (i + 1) f) ≡ none
+    pub lookup-misses : (m : ℕ) → ((k : ℕ) → k < m → same w (f k).0 ≡ false) → lookup w (list_of m f) ≡ none
     unfolding lookup
-    lookup-more i e q = rw add-one (lookup-none (list_of i f) (f i ∷ []) e ∙ rw q)
+    lookup-misses zero h = refl
+    lookup-misses (suc m) h = lookup-none (list_of m f) (f m ∷ []) (lookup-misses m (λ k l. h k (omega arith))) ∙ rw (h m (omega arith))
 
     pub lookup-hit : (n i : ℕ) → i < n → lookup w (list_of i f) ≡ none → same w (f i).0 ≡ true → lookup w (list_of n f) ≡ some (f i).1
     unfolding lookup
     lookup-hit zero i h e q = absurd (omega arith)
     lookup-hit (suc n) i h e q = ⊎_elim
         (λ (p : eqb i n ≡ true). subst (λ (m : ℕ). lookup w (list_of m f ++ (f m ∷ [])) ≡ some (f i).1) (eqb-true i n p) (lookup-none (list_of i f) (f i ∷ []) e ∙ rw q))
-        (λ (p : eqb i n ≡ false). lookup-some (list_of n f) (f n ∷ []) (f i).1 (lookup-hit n i (let z = eqb-false i n p in omega arith) e q)) (either (eqb i n))
+        (λ (p : eqb i n ≡ false). lookup-some (list_of n f) (f n ∷ []) (f i).1 (lookup-hit n i (let z = eqb-false i n p in omega arith) e q)) (cases_Bool (eqb i n))
 
 -- COUNTING
 count-append : (k : ℕ) (D : grammar.Declared) (d : Word × ℕ) → count k (D ++ (d ∷ [])) ≡ cond (eqb (class d.1) k) (suc (count k D)) (count k D)
 unfolding count
 count-append k [] d = refl
 count-append k (e ∷ D) d = ⊎_elim
-    (λ (q : eqb (class e.1) k ≡ true). rw (q, count-append k D d) (⊎_elim (λ (p : eqb (class d.1) k ≡ true). rw p) (λ (p : eqb (class d.1) k ≡ false). rw p) (either (eqb (class d.1) k))))
-    (λ (q : eqb (class e.1) k ≡ false). rw (q, count-append k D d)) (either (eqb (class e.1) k))
+    (λ (q : eqb (class e.1) k ≡ true). rw (q, count-append k D d) (⊎_elim (λ (p : eqb (class d.1) k ≡ true). rw p) (λ (p : eqb (class d.1) k ≡ false). rw p) (cases_Bool (eqb (class d.1) k))))
+    (λ (q : eqb (class e.1) k ≡ false). rw (q, count-append k D d)) (cases_Bool (eqb (class e.1) k))
 
 pub tally-count : (text : List ℕ) (d : Declared) (k : ℕ) → count k (declared_of text d) ≡ tally k d.names d.count
 unfolding declared_of count
@@ -98,11 +98,11 @@ module _ {text : List ℕ} {d : Declared} (v : Valid text d) (h : d.count < limi
     within = λ i l. ⊎_elim
         (λ (z : eqb i d.count ≡ true). let e = eqb-true i d.count z in rw (e, get_or-set_same d.names d.count name blank (omega (arith, v.names))) p)
         (λ (z : eqb i d.count ≡ false). let e = eqb-false i d.count z in rw (get_or-set_other d.names d.count i name blank e) (v.within i (omega arith)))
-        (either (eqb i d.count));
+        (cases_Bool (eqb i d.count));
     coded = λ i l. ⊎_elim
         (λ (z : eqb i d.count ≡ true). let e = eqb-true i d.count z in rw (e, get_or-set_same d.names d.count name blank (omega (arith, v.names))) q)
         (λ (z : eqb i d.count ≡ false). let e = eqb-false i d.count z in rw (get_or-set_other d.names d.count i name blank e) (v.coded i (omega arith)))
-        (either (eqb i d.count));
+        (cases_Bool (eqb i d.count));
   }
 
 -- THE TEXT UP TO A PLACE
@@ -110,30 +110,30 @@ pub slice-prefix : (text : List ℕ) (a b e : ℕ) → b ≤ e → slice a b (ta
 slice-prefix text a b e h = rw (take-take b e text h)
 
 -- FINDING A NAME
-module _ (text : List ℕ) (d : Declared) (a e i : ℕ) (v : Valid text d) (h : a ≤ e) (k : i < d.count)
-    (so : lookup (slice a e text) (list_of i (entry text d)) ≡ none) where
-  abbrev pub n : Name
-  n = name_at d i
+module _ (text : List ℕ) (d : Declared) (w : Word) where
+  -- whether name k is w
+  abbrev pub Named : Bool → ℕ → Type 0
+  Named b k = same w (entry text d k).0 ≡ b
 
-  same-entry : same (slice a e text) (entry text d i).0 ≡ same (take (e - a) (drop a text)) (take (end n - begin n) (drop (begin n) text))
-  same-entry = rw (slice-part text a e h, slice-part text (begin n) (end n) (omega arith))
-
-  pub find-more : same (take (e - a) (drop a text)) (take (end n - begin n) (drop (begin n) text)) ≡ false → lookup (slice a e text) (list_of (i + 1) (entry text d)) ≡ none
-  find-more q = lookup-more (slice a e text) (entry text d) i so (same-entry ∙ q)
-
-  pub find-hit : same (take (e - a) (drop a text)) (take (end n - begin n) (drop (begin n) text)) ≡ true
-      → IfSome (prelude.Some n.code) (λ c. c < 128) × (lookup (slice a e text) (declared_of text d) ≡ found (prelude.Some n.code))
+  pub find_none : ((k : ℕ) → 0 ≤ k → k < d.count → Named false k) → lookup w (declared_of text d) ≡ none
   unfolding declared_of
-  find-hit q = (v.coded i k, lookup-hit (slice a e text) (entry text d) d.count i k so (same-entry ∙ q))
+  find_none h = lookup-misses w (entry text d) d.count (λ k l. h k (omega arith) l)
 
-pub find_none : (text : List ℕ) (d : Declared) (w : Word) (i : ℕ) → i ≤ d.count → d.count ≤ i → lookup w (list_of i (entry text d)) ≡ none → lookup w (declared_of text d) ≡ none
-unfolding declared_of
-find_none text d w i h k so = let z : d.count ≡ i = omega arith in rw z so
+  pub find-hit : {i : ℕ} → Valid text d → (0 ≤ i) × (i < d.count) × Named true i × ((k : ℕ) → 0 ≤ k → k < i → Named false k) → ((name_at d i).code < 128) × (lookup w (declared_of text d) ≡ some (name_at d i).code)
+  unfolding declared_of
+  find-hit {i} v h = (v.coded i h.1, lookup-hit w (entry text d) d.count i h.1 (lookup-misses w (entry text d) i (λ k l. h.3 k (omega arith) l)) h.2)
 
--- COUNTING ON
-module _ (k : ℕ) (names : List Name) (i sum : ℕ) (so : sum ≡ tally k names i) where
-  pub tally-hit : (get_or names i blank).code / 32 ≡ k → sum + 1 ≡ tally k names (i + 1)
-  tally-hit e = rw (add-one, add-one, eq-eqb ((get_or names i blank).code / 32) k e) (ap suc so)
+-- COUNTING by `filter` and `count`
+abbrev pub of_class : ℕ → Name → Bool
+of_class k x = eqb (x.code / 32) k
 
-  pub tally-miss : ((get_or names i blank).code / 32 ≡ k → ⊥) → sum ≡ tally k names (i + 1)
-  tally-miss e = rw (add-one, ne_eqb ((get_or names i blank).code / 32) k e) so
+pub tally-by : (k : ℕ) (names : List Name) (m : ℕ) → m ≤ length names → tally k names m ≡ count_by (of_class k) (take m names)
+tally-by k names zero h = refl
+tally-by k names (suc m) h = ⊎_elim
+    (λ (q : of_class k (get_or names m blank) ≡ true).
+    let t : count_by (of_class k) (take (m + 1) names) ≡ count_by (of_class k) (take m names) + 1 = count_by_more_yes (of_class k) names m blank (omega arith) q in
+    rw (q, tally-by k names m (omega arith)) (sym (rw (add-one, add-one) at t)))
+    (λ (q : of_class k (get_or names m blank) ≡ false).
+    let t : count_by (of_class k) (take (m + 1) names) ≡ count_by (of_class k) (take m names) = count_by_more_no (of_class k) names m blank (omega arith) q in
+    rw (q, tally-by k names m (omega arith)) (sym (rw add-one at t)))
+    (cases_Bool (of_class k (get_or names m blank)))

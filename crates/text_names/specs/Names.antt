@@ -1,5 +1,5 @@
 -- The declarations that a table of declared names stands for.
-use Rattle.std.specs.Prelude.{◌≡◌, cond, List, ℕ, zero, suc, ◌+◌, ◌/◌, ◌≤◌, ◌<◌, eqb, length, get_or, set}
+use Rattle.std.specs.Prelude.{◌≡◌, if◌then◌else◌, List, ℕ, zero, suc, ◌+◌, ◌/◌, ◌≤◌, ◌<◌, ◌==◌, length, slice_index_or, set}
 use Rattle.std.specs.Prelude as prelude
 use Rattle.std.proofs.Math.Option.{Option, none, some}
 use Rattle.std.proofs.Math.Seq.{slice}
@@ -15,7 +15,7 @@ abbrev pub blank : Name
 blank = record { code = 0; start = 0; len = 0 }
 
 abbrev pub name_at : Declared → ℕ → Name
-name_at d i = get_or d.names i blank
+name_at d i = slice_index_or d.names i blank
 
 -- where a name begins and ends
 abbrev pub begin : Name → ℕ
@@ -46,7 +46,7 @@ found (prelude.Some c) = some c
 -- how many of the first n names are of class k
 abbrev pub tally : ℕ → List Name → ℕ → ℕ
 tally k names zero = 0
-tally k names (suc n) = cond (eqb ((get_or names n blank).code / 32) k) (suc (tally k names n)) (tally k names n)
+tally k names (suc n) = if (slice_index_or names n blank).code / 32 == k then suc (tally k names n) else tally k names n
 
 -- one name more
 abbrev pub added : Declared → Name → Declared

@@ -5,7 +5,8 @@ ghost use Rattle.std.specs.Prelude.{◌≡◌, ◌+◌, ◌≤◌, ◌<◌, leng
 ghost use Rattle.std.proofs.Math.Seq.{slice};
 ghost use Rattle.limits.specs.Limits as limit;
 ghost use Rattle.grammar.specs.Declarations.{lookup};
-ghost use Rattle.text_names.specs.Names.{declared_of, Valid, found, tally, added};
+ghost use Rattle.grammar.specs.Bytes.{same};
+ghost use Rattle.text_names.specs.Names.{begin, end, declared_of, Valid, found, tally, added};
 
 use limits::DECLARED;
 
@@ -25,20 +26,23 @@ pub struct Declared {
     pub count: usize,
 }
 
+// Whether a name has those bytes.
+fn is_named(text: &[u8], n: Name, word: &[u8]) -> bool
+    requires { end n ≤ length text.now }
+    ensures { result ≡ same word.now (slice (begin n) (end n) text.now) }
+{
+    let s = n.start as usize;
+    let t = s + n.len as usize;
+    text_scan::same_words(word, &text[s..t])
+}
+
 // The code of the name from a to e, if it is declared.
 pub fn find(text: &[u8], d: Declared, a: usize, e: usize) -> Option<u32>
     requires { Valid text.now d × (a ≤ e) × (e ≤ length text.now) }
     ensures { IfSome result (λ c. c < 128) × (lookup (slice a e text.now) (declared_of text.now d) ≡ found result) }
 {
-    for i in 0..d.count {
-        let n = d.names[i];
-        let s = n.start as usize;
-        let t = s + n.len as usize;
-        if text_scan::same_words(&text[a..e], &text[s..t]) {
-            return Some(n.code);
-        }
-    }
-    None
+    let i = (0..d.count).find(|i| is_named(text, d.names[*i], &text[a..e]))?;
+    Some(d.names[i].code)
 }
 
 // How many relations of class k are declared.
@@ -46,13 +50,10 @@ pub fn tally_of(d: Declared, k: u32) -> usize
     requires { (d.count ≤ limit.declared) × (length d.names ≡ limit.declared) }
     ensures { result ≡ tally k d.names d.count }
 {
-    let mut sum: usize = 0;
-    for i in 0..d.count {
-        if d.names[i].code / 32 == k {
-            sum += 1;
-        }
-    }
-    sum
+    d.names[..d.count]
+        .iter()
+        .filter(|n| n.code / 32 == k)
+        .count()
 }
 
 // One name more.

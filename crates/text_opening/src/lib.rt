@@ -5,7 +5,7 @@ ghost use Rattle.std.specs.Prelude.{◌≡◌};
 ghost use Rattle.text_opening.specs.Openings.{blank as blank_record, fitted};
 
 use limits::{CARRIED, CLAUSES, DECLARED, LITERALS, NONE, STAGES, VARIABLES};
-use model::{Action, Clause, Model, Relations, Stage};
+use model::{Action, Clause, Model, Name, Relations, Stage};
 use text_names::Declared;
 
 // A record without clauses and stages.
@@ -29,10 +29,10 @@ pub fn blank() -> Model
         codes: [0u32; DECLARED],
         count: 0,
     };
+    let name = Name { start: 0, len: 0 };
     Model {
         relations,
-        names: [0u32; DECLARED],
-        lengths: [0u32; DECLARED],
+        names: [name; DECLARED],
         clauses: [clause; CLAUSES],
         clausecount: 0,
         literals: [0u32; LITERALS],
@@ -44,26 +44,22 @@ pub fn blank() -> Model
     }
 }
 
-// The record with the declared names and the number of lines.
-pub fn fit(mut m: Model, d: Declared, n: u32) -> Model
-    ensures { result ≡ fitted m d n }
+// The record gets the declared names and the number of lines.
+pub fn fit(m: &mut Model, d: Declared, n: u32)
+    ensures { m.new ≡ fitted m.old d n }
 {
-    let mut codes = [0u32; DECLARED];
-    let mut names = [0u32; DECLARED];
-    let mut lengths = [0u32; DECLARED];
-    for i in 0..DECLARED {
-        let name = d.names[i];
-        codes[i] = name.code;
-        names[i] = name.start;
-        lengths[i] = name.len;
-    }
-    let relations = Relations {
-        codes,
+    m.relations = Relations {
+        codes: [0u32; DECLARED],
         count: d.count,
     };
-    m.relations = relations;
-    m.names = names;
-    m.lengths = lengths;
+    m.names = [Name { start: 0, len: 0 }; DECLARED];
     m.lines = n;
-    m
+    for i in 0..DECLARED {
+        let name = d.names[i];
+        m.relations.codes[i] = name.code;
+        m.names[i] = Name {
+            start: name.start,
+            len: name.len,
+        };
+    }
 }

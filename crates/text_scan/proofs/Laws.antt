@@ -1,26 +1,30 @@
 -- Laws of places in a text, words and lines.
 use mathlib.Core.Path.{◌≡◌, refl, sym, ap, ◌∙◌}
 use mathlib.Core.Logic.{⊎_elim, ◌⊎◌}
-use mathlib.Core.Bool.{Bool, true, false, ◌&&◌, ◌||◌, and-true, and-false, or-true}
+use mathlib.Core.Bool.{Bool, true, false, not, ◌&&◌, ◌||◌, and-true, and-false, or-true}
+use Rattle.std.proofs.lemmas.Bool.{cases_Bool}
 use Rattle.std.specs.Prelude.{MatchOption}
 use Rattle.std.specs.Bool.{then_some}
+use Rattle.std.specs.List.{position}
+use Rattle.std.specs.Option.{unwrap_or}
+use Rattle.std.proofs.lemmas.List.Recursion.{is_position_or_len}
 use Rattle.std.specs.Char.{is_ascii_alphanumeric}
 use Rattle.std.specs.Cmp.Lexicographic.{pointwise}
-use mathlib.Core.List.{List, [], ◌∷◌, ◌++◌, append-nil, append_assoc}
+use mathlib.Core.List.{List, [], ◌∷◌, ◌++◌, append-nil}
 use mathlib.Core.Option.{none, some}
 use Prim.Native.Nat.{ℕ, zero, suc, ◌+◌, ◌-◌, ◌≤◌, ◌<◌}
 use native.Mathlib.Nat.{sub-zero, suc-sub-suc, le_of_suc-le-suc}
-use native.Mathlib.Numerals.{add-one}
+use native.Mathlib.Numerals.{add-one, one-add}
 use native.Mathlib.Omega.{arith}
-use lib.Dec.{eqb, leb}
+use lib.Dec.{eqb, leb, ltb}
 use lib.ListN.{length, take, drop, get_or, length-drop, drop_of_length-le}
 use lib.Seq.{slice, slice_empty, slice-cons, drop-drop, drop-cons, take-suc, length-take-le, drop-append-le, take-nil}
-use borrow.Author.Tests.{lt-leb, le-leb, eqb-true, eqb-false, eq-eqb, ne_eqb}
+use borrow.Author.Tests.{ltb-false, lt-leb, le-leb, eqb-true, eqb-false, eq-eqb, ne_eqb}
 use Rattle.grammar.specs.Bytes.{bytes, letter, alphanumeric, allowed, every, Line, ended, unended, in_front, lines, Word, same, is_name}
 use Rattle.grammar.specs.Shapes.{after, word, after_word, name}
 use Rattle.grammar.specs.Texts.{judge, bad}
-use Rattle.grammar.proofs.Tests.{either, clash, and_left, and_right, and_both}
-use Rattle.text_scan.specs.Found.{NextByte, NextBytes, WordEnd, NameEnd, BadLine, LineEnd}
+use Rattle.grammar.proofs.Tests.{clash, and_left, and_right, and_both}
+use Rattle.text_scan.specs.Found.{NextBytes, WordEnd, NameEnd, BadLine, LineEnd}
 
 -- PLACES
 module _ (text : List ℕ) (i : ℕ) where
@@ -56,14 +60,6 @@ pub alphanumeric-ascii : (b : ℕ) → is_ascii_alphanumeric b ≡ alphanumeric 
 unfolding alphanumeric
 alphanumeric-ascii b = or_turn (leb 65 b && leb b 90) (leb 97 b && leb b 122) (leb 48 b && leb b 57)
 
--- THE NEXT BYTES
-module _ {text : List ℕ} {at b : ℕ} where
-  pub byte-none : length text ≤ at → NextByte text at b false
-  byte-none h = record { found = λ q. clash q refl; missing = λ q. rw (nothing text at h) }
-
-  pub byte-some : at < length text → NextByte text at b (eqb b (get_or text at 0))
-  byte-some h = record { found = λ q. (h, rw (next text at h, q)); missing = λ q. rw (next text at h, q) }
-
 -- what std's test of a beginning says
 after-starts : (w s : List ℕ) → pointwise eqb w (take (length w) s) ≡ true → (length w ≤ length s) × (after w s ≡ some (drop (length w) s))
 after-starts [] s h = (omega arith, refl)
@@ -76,7 +72,7 @@ after-starts (b ∷ w) (c ∷ s) h =
 after-other : (w s : List ℕ) → pointwise eqb w (take (length w) s) ≡ false → after w s ≡ none
 after-other [] s h = clash refl h
 after-other (b ∷ w) [] h = refl
-after-other (b ∷ w) (c ∷ s) h = ⊎_elim (λ (q : eqb b c ≡ true). rw q (after-other w s (rw q at h))) (λ (q : eqb b c ≡ false). rw q) (either (eqb b c))
+after-other (b ∷ w) (c ∷ s) h = ⊎_elim (λ (q : eqb b c ≡ true). rw q (after-other w s (rw q at h))) (λ (q : eqb b c ≡ false). rw q) (cases_Bool (eqb b c))
 
 pub bytes_next : {text : List ℕ} {at : ℕ} {w : List ℕ} {r : Bool} → at ≤ length text → r ≡ pointwise eqb w (take (length w) (drop at text)) → NextBytes text at w r
 bytes_next {text} {at} {w} h e = record {
@@ -85,37 +81,41 @@ bytes_next {text} {at} {w} h e = record {
 }
 
 -- WORDS
--- the bytes from at to i belong to the word
-pub record WordSo (text : List ℕ) (at i : ℕ) : Type 0 where
-  pub begins : at ≤ i
-  pub ends : i ≤ length text
-  pub read : word (drop at text) ≡ slice at i text ++ word (drop i text)
-  pub left : after_word (drop at text) ≡ after_word (drop i text)
+word-within : (s : List ℕ) → length (word s) ≤ length s
+word-within [] = omega arith
+word-within (b ∷ s) = ⊎_elim (λ (q : alphanumeric b ≡ true). rw q (omega (arith, word-within s))) (λ (q : alphanumeric b ≡ false). rw q (omega arith)) (cases_Bool (alphanumeric b))
 
-pub word-start : {text : List ℕ} {at : ℕ} → at ≤ length text → WordSo text at at
-word-start {text} {at} h = record { begins = omega arith; ends = h; read = rw (slice_empty at text); left = refl }
+word-taken : (s : List ℕ) → word s ≡ take (length (word s)) s
+word-taken [] = refl
+word-taken (b ∷ s) = ⊎_elim (λ (q : alphanumeric b ≡ true). rw q (ap (λ (w : Word). b ∷ w) (word-taken s))) (λ (q : alphanumeric b ≡ false). rw q) (cases_Bool (alphanumeric b))
 
-module _ {text : List ℕ} {at i : ℕ} (so : WordSo text at i) where
-  pub word_more : i < length text → alphanumeric (get_or text i 0) ≡ true → WordSo text at (i + 1)
-  word_more h a = record {
-    begins = omega arith;
-    ends = omega arith;
-    read = so.read ∙ rw (next text i h, a, slice-more text i at so.begins h) (sym (append_assoc (slice at i text) (get_or text i 0 ∷ []) (word (drop (i + 1) text))));
-    left = so.left ∙ rw (next text i h, a);
-  }
+word-left : (s : List ℕ) → after_word s ≡ drop (length (word s)) s
+word-left [] = refl
+word-left (b ∷ s) = ⊎_elim (λ (q : alphanumeric b ≡ true). rw q (word-left s)) (λ (q : alphanumeric b ≡ false). rw q) (cases_Bool (alphanumeric b))
 
-  word-stop : word (drop i text) ≡ [] → after_word (drop i text) ≡ drop i text → WordEnd text at i
-  word-stop p q = record { begins = so.begins; ends = so.ends; read = so.read ∙ rw (p, append-nil); left = so.left ∙ q }
+-- `position` of a byte that is neither a letter nor a digit, or the length
+pub word-position : (s : List ℕ) → unwrap_or (position (λ b. not (alphanumeric b)) s) (length s) ≡ length (word s)
+word-position s =
+    let e = is_position_or_len (λ w. length (word w)) (λ b. not (alphanumeric b)) refl (λ y ys. ⊎_elim (λ (q : alphanumeric y ≡ true). rw q (sym (one-add (length (word ys))))) (λ (q : alphanumeric y ≡ false). rw q) (cases_Bool (alphanumeric y))) s in
+    rw (← e) (⊎_elim
+    (λ (q : ltb (length (word s)) (length s) ≡ true). rw q)
+    (λ (q : ltb (length (word s)) (length s) ≡ false). rw q (omega (arith, word-within s, ltb-false (length (word s)) (length s) q)))
+    (cases_Bool (ltb (length (word s)) (length s))))
 
-  pub word-other : i < length text → alphanumeric (get_or text i 0) ≡ false → WordEnd text at i
-  word-other h a = word-stop (rw (next text i h, a)) (rw (next text i h, a))
-
-  pub word-all : length text ≤ i → WordEnd text at i
-  word-all h = word-stop (rw (nothing text i h)) (rw (nothing text i h))
+pub word_end : (text : List ℕ) (at : ℕ) {n : ℕ} → at ≤ length text → n ≡ length (word (drop at text)) → WordEnd text at (at + n)
+word_end text at {n} h e =
+    let s = drop at text in
+    let z : at + n - at ≡ length (word s) = omega (arith, e) in
+    record {
+      begins = omega arith;
+      ends = omega (arith, e, word-within s, length-drop at text);
+      read = rw (slice-part text at (at + n) (omega arith), z) (word-taken s);
+      left = rw (e, ← drop-drop) (word-left s);
+    }
 
 pub every-word : (s : List ℕ) → every alphanumeric (word s) ≡ true
 every-word [] = refl
-every-word (b ∷ s) = ⊎_elim (λ (q : alphanumeric b ≡ true). rw (q, q) (every-word s)) (λ (q : alphanumeric b ≡ false). rw q) (either (alphanumeric b))
+every-word (b ∷ s) = ⊎_elim (λ (q : alphanumeric b ≡ true). rw (q, q) (every-word s)) (λ (q : alphanumeric b ≡ false). rw q) (cases_Bool (alphanumeric b))
 
 -- NAMES
 -- a word of letters and digits is a name by its first byte, its length and what it is not
@@ -137,7 +137,7 @@ module _ {text : List ℕ} {at e : ℕ} (end : WordEnd text at e) where
 
   some_word : is_name (slice at e text) ≡ true → at < e
   unfolding is_name
-  some_word h = ⊎_elim (λ (q : eqb at e ≡ true). clash h (rw (← eqb-true at e q, slice_empty at text))) (λ (q : eqb at e ≡ false). let z = eqb-false at e q in omega (arith, end.begins)) (either (eqb at e))
+  some_word h = ⊎_elim (λ (q : eqb at e ≡ true). clash h (rw (← eqb-true at e q, slice_empty at text))) (λ (q : eqb at e ≡ false). let z = eqb-false at e q in omega (arith, end.begins)) (cases_Bool (eqb at e))
 
   no_name : is_name (slice at e text) ≡ false → name (drop at text) ≡ none
   unfolding name

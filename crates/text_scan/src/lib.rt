@@ -4,7 +4,7 @@
 ghost use Rattle.std.specs.Prelude.{◌≡◌, ◌<◌, ◌≤◌, length, drop, true, MatchOption};
 ghost use Rattle.std.proofs.Math.Option.{none};
 ghost use Rattle.grammar.specs.Bytes.{alphanumeric, allowed, every, same, is_name};
-ghost use Rattle.grammar.specs.Shapes.{name};
+ghost use Rattle.grammar.specs.Shapes.{word, name};
 ghost use Rattle.text_scan.specs.Found.{NextByte, NextBytes, WordEnd, NameEnd, BadLine, LineEnd};
 
 use limits::NAME;
@@ -48,18 +48,22 @@ pub fn same_words(a: &[u8], b: &[u8]) -> bool
     a == b
 }
 
+// How many letters and digits there are at the front.
+fn word_len(left: &[u8]) -> usize
+    ensures { result ≡ length (word left.now) }
+{
+    left.iter()
+        .position(|b| !is_alphanumeric(*b))
+        .unwrap_or(left.len())
+}
+
 // Where the word that is next ends.
 // The text and the place stay apart, as in `at_bytes`.
 pub fn word_end(text: &[u8], at: usize) -> usize
     requires { at ≤ length text.now }
     ensures { WordEnd text.now at result }
 {
-    for i in at..text.len() {
-        if !is_alphanumeric(text[i]) {
-            return i;
-        }
-    }
-    text.len()
+    at + word_len(&text[at..])
 }
 
 // Where the line that is next ends, if row 2 does not refuse it.

@@ -1,22 +1,25 @@
 -- Laws of the table of variables.
 use mathlib.Core.Path.{◌≡◌, refl, sym, ap, ◌∙◌, subst}
 use mathlib.Core.Logic.{⊎_elim}
-use mathlib.Core.Bool.{Bool, true, false, cond, ◌&&◌, or-false, or-true, and-true, and-false, and_assoc}
+use mathlib.Core.Bool.{Bool, true, false, cond, ◌&&◌, or-false, or-true, and-true, and_assoc}
 use mathlib.Core.List.{List, [], ◌∷◌, ◌++◌}
-use Prim.Native.Nat.{ℕ, zero, suc, ◌+◌, ◌-◌, ◌≤◌, ◌<◌}
+use Prim.Native.Nat.{ℕ, zero, suc, ◌≤◌, ◌<◌}
 use native.Mathlib.Nat.{add-zero}
 use native.Mathlib.Numerals.{add-one}
 use native.Mathlib.Omega.{arith}
 use lib.Dec.{eqb}
-use lib.ListN.{length, take, drop, set, length-set}
-use lib.Seq.{slice, get_or-set_same, get_or-set_other, ext_get_or}
+use lib.ListN.{length, take, get_or, set, length-set}
+use lib.Seq.{slice, get_or-set_same, get_or-set_other, ext_get_or, take-suc}
 use borrow.Author.Tests.{eqb-true, eqb-false}
+use Rattle.std.proofs.lemmas.Bool.{cases_Bool}
+use Rattle.std.specs.Prelude.{Option, Some, None, MatchOption}
+use Rattle.std.specs.List.{list_all}
+use Rattle.std.proofs.lemmas.List.Folds.{list_all-append}
 use Rattle.grammar.specs.Bytes.{Word, same}
 use Rattle.grammar.specs.Declarations.{member, extend, place}
 use Rattle.grammar.specs.Words.{Distinct, all_marked}
-use Rattle.grammar.proofs.Tests.{either, clash}
+use Rattle.grammar.proofs.Tests.{clash}
 use Rattle.grammar.proofs.Words.{same-eq, member-append, member-last, member-left, place-hit, place-miss, place_none, place-below, marks-new, marks-old, marks-append}
-use Rattle.text_scan.proofs.Laws.{slice-part}
 use Rattle.text_names.specs.Rows.{list_of}
 use Rattle.text_names.proofs.Laws.{list_of-same, length-list_of, get_or-list_of}
 use Rattle.text_scope.specs.Scopes.{blank, variable_at, variable, known_of, mark, marks_of, Valid, Known, marking, added, Holds}
@@ -25,14 +28,15 @@ use Rattle.text_scope.specs.declared.Scope.{Scope}
 
 -- PLACES IN A ROW
 module _ (w : Word) (f : ℕ → Word) where
-  pub member-more : (i : ℕ) → member w (list_of i f) ≡ false → same w (f i) ≡ false → member w (list_of (i + 1) f) ≡ false
-  member-more i e q = rw (add-one, member-append w (list_of i f) (f i ∷ []), e, q)
+  member-misses : (n : ℕ) → ((k : ℕ) → k < n → same w (f k) ≡ false) → member w (list_of n f) ≡ false
+  member-misses zero h = refl
+  member-misses (suc n) h = member-append w (list_of n f) (f n ∷ []) ∙ rw (member-misses n (λ k l. h k (omega arith)), h n (omega arith))
 
   pub member-list_of : (n i : ℕ) → i < n → same w (f i) ≡ true → member w (list_of n f) ≡ true
   member-list_of zero i h q = absurd (omega arith)
   member-list_of (suc n) i h q = ⊎_elim
       (λ (p : eqb i n ≡ true). member-append w (list_of n f) (f n ∷ []) ∙ rw (← eqb-true i n p, q) (or-true (member w (list_of i f))))
-      (λ (p : eqb i n ≡ false). member-left w (list_of n f) (f n ∷ []) (member-list_of n i (let z = eqb-false i n p in omega arith) q)) (either (eqb i n))
+      (λ (p : eqb i n ≡ false). member-left w (list_of n f) (f n ∷ []) (member-list_of n i (let z = eqb-false i n p in omega arith) q)) (cases_Bool (eqb i n))
 
   pub place-list_of : (n i : ℕ) → i < n → member w (list_of i f) ≡ false → same w (f i) ≡ true → place (list_of n f) w ≡ i
   unfolding place
@@ -41,48 +45,33 @@ module _ (w : Word) (f : ℕ → Word) where
       (λ (p : eqb i n ≡ true). subst (λ (m : ℕ). place (list_of m f ++ (f m ∷ [])) w ≡ i) (eqb-true i n p)
       (place-miss w (list_of i f) (f i ∷ []) e ∙ rw (q, length-list_of i f, add-zero)))
       (λ (p : eqb i n ≡ false). let k : i < n = (let z = eqb-false i n p in omega arith) in
-      place-hit w (list_of n f) (f n ∷ []) (member-list_of n i k q) ∙ place-list_of n i k e q) (either (eqb i n))
+      place-hit w (list_of n f) (f n ∷ []) (member-list_of n i k q) ∙ place-list_of n i k e q) (cases_Bool (eqb i n))
 
 -- FINDING A VARIABLE
-module _ {N : ℕ} (text : List ℕ) (s : Scope N) (a e i : ℕ) (v : Valid text s) (h : a ≤ e) (k : i < s.count)
-    (so : member (slice a e text) (list_of i (variable text s)) ≡ false) where
-  abbrev begin : ℕ
-  begin = (variable_at s i).start
+module _ {N : ℕ} (text : List ℕ) (s : Scope N) (w : Word) where
+  -- whether variable k is w
+  abbrev pub Named : Bool → ℕ → Type 0
+  Named b k = same w (variable text s k) ≡ b
 
-  abbrev end : ℕ
-  end = (variable_at s i).end
-
-  same-variable : same (slice a e text) (variable text s i) ≡ same (take (e - a) (drop a text)) (take (end - begin) (drop begin text))
-  same-variable = rw (slice-part text a e h, slice-part text begin end (v.within i k).0)
-
-  pub find-more : same (take (e - a) (drop a text)) (take (end - begin) (drop begin text)) ≡ false → member (slice a e text) (list_of (i + 1) (variable text s)) ≡ false
-  find-more q = member-more (slice a e text) (variable text s) i so (same-variable ∙ q)
-
-  pub find-hit : same (take (e - a) (drop a text)) (take (end - begin) (drop begin text)) ≡ true → Known (known_of text s) (slice a e text) i
+  pub found_variable : (r : Option ℕ) → MatchOption r ((k : ℕ) → 0 ≤ k → k < s.count → Named false k) (λ i. (0 ≤ i) × (i < s.count) × Named true i × ((k : ℕ) → 0 ≤ k → k < i → Named false k))
+      → MatchOption r (member w (known_of text s) ≡ false) (Known (known_of text s) w)
   unfolding known_of
-  find-hit q = record {
-    known = member-list_of (slice a e text) (variable text s) s.count i k (same-variable ∙ q);
-    number = sym (place-list_of (slice a e text) (variable text s) s.count i k so (same-variable ∙ q));
+  found_variable None h = member-misses w (variable text s) s.count (λ k l. h k (omega arith) l)
+  found_variable (Some i) h = record {
+    known = member-list_of w (variable text s) s.count i h.1 h.2;
+    number = sym (place-list_of w (variable text s) s.count i h.1 (member-misses w (variable text s) i (λ k l. h.3 k (omega arith) l)) h.2);
   }
-
-pub find_none : {N : ℕ} (text : List ℕ) (s : Scope N) (w : Word) (i : ℕ) → i ≡ s.count → member w (list_of i (variable text s)) ≡ false → member w (known_of text s) ≡ false
-unfolding known_of
-find_none text s w i z so = rw (sym z) so
 
 -- MARKS IN A ROW
 all_marked-append : (a : List Bool) (m : Bool) → all_marked (a ++ (m ∷ [])) ≡ (all_marked a && m)
 all_marked-append [] m = and-true m
 all_marked-append (n ∷ a) m = rw (all_marked-append a m) (sym (and_assoc n (all_marked a) m))
 
-module _ (f : ℕ → Bool) where
-  pub marked_more : (i : ℕ) → all_marked (list_of i f) ≡ true → f i ≡ true → all_marked (list_of (i + 1) f) ≡ true
-  marked_more i e q = rw (add-one, all_marked-append (list_of i f) (f i), e, q)
-
-  pub marked-none : (n i : ℕ) → i < n → f i ≡ false → all_marked (list_of n f) ≡ false
-  marked-none zero i h q = absurd (omega arith)
-  marked-none (suc n) i h q = all_marked-append (list_of n f) (f n) ∙ ⊎_elim
-      (λ (p : eqb i n ≡ true). rw (← eqb-true i n p, q) (and-false (all_marked (list_of i f))))
-      (λ (p : eqb i n ≡ false). rw (marked-none n i (let z = eqb-false i n p in omega arith) q)) (either (eqb i n))
+pub marked-all : (vs : List Variable) (n : ℕ) → n ≤ length vs → all_marked (list_of n (λ i. (get_or vs i blank).marked)) ≡ list_all (λ v. v.marked) (take n vs)
+marked-all vs zero h = refl
+marked-all vs (suc n) h =
+    all_marked-append (list_of n (λ i. (get_or vs i blank).marked)) (get_or vs n blank).marked
+    ∙ rw (marked-all vs n (omega arith), take-suc vs n blank (omega arith), list_all-append (λ (v : Variable). v.marked) (take n vs) (get_or vs n blank ∷ []), and-true)
 
 -- A VARIABLE IS MARKED
 list_of-set : (f g : ℕ → Bool) (n i : ℕ) → i < n → g i ≡ true → ((j : ℕ) → (j ≡ i → ⊥) → g j ≡ f j) → list_of n g ≡ set (list_of n f) i true
@@ -92,7 +81,7 @@ list_of-set f g n i h at_i other = ext_get_or false _ _
     get_or-list_of n g j false l' ∙ ⊎_elim
     (λ (q : eqb j i ≡ true). rw (eqb-true j i q, at_i) (sym (get_or-set_same (list_of n f) i true false (omega (arith, length-list_of n f)))))
     (λ (q : eqb j i ≡ false). other j (eqb-false j i q) ∙ sym (get_or-set_other (list_of n f) i j true false (eqb-false j i q) ∙ get_or-list_of n f j false l'))
-    (either (eqb j i)))
+    (cases_Bool (eqb j i)))
 
 module _ {N : ℕ} (s : Scope N) (i : ℕ) where
   abbrev with_mark : Variable
@@ -109,7 +98,7 @@ module _ {N : ℕ} (s : Scope N) (i : ℕ) where
     place-kept j = ⊎_elim
         (λ (q : eqb j i ≡ true). rw (eqb-true j i q, get_or-set_same s.variables i with_mark blank l) (refl, refl))
         (λ (q : eqb j i ≡ false). rw (get_or-set_other s.variables i j with_mark blank (eqb-false j i q)) (refl, refl))
-        (either (eqb j i))
+        (cases_Bool (eqb j i))
 
     pub known-marking : (text : List ℕ) → known_of text (marking s i) ≡ known_of text s
     unfolding known_of
@@ -146,7 +135,7 @@ module _ {N : ℕ} {text : List ℕ} (s : Scope N) (a e : ℕ) (p : Bool) (v : V
     within = λ j q. ⊎_elim
         (λ (y : eqb j s.count ≡ true). rw (eqb-true j s.count y, last-added) (h, k))
         (λ (y : eqb j s.count ≡ false). let t = eqb-false j s.count y in rw (others-kept j t) (v.within j (omega arith)))
-        (either (eqb j s.count));
+        (cases_Bool (eqb j s.count));
   }
 
   pub known-added : known_of text (added s a e p) ≡ known_of text s ++ (slice a e text ∷ [])
@@ -170,7 +159,7 @@ module _ {N : ℕ} {text : List ℕ} {s : Scope N} {vs S : List Word} (so : Hold
 
     within_more : (vs' : List Word) → ((x : Word) → member x vs ≡ true → member x vs' ≡ true) → member w vs' ≡ true → (x : Word) → member x (S ++ (w ∷ [])) ≡ true → member x vs' ≡ true
     within_more vs' f g x q = ⊎_elim (λ (p : member x S ≡ true). f x (so.within x p))
-        (λ (p : member x S ≡ false). subst (λ (y : Word). member y vs' ≡ true) (sym (same-eq x w (last_one x p q))) g) (either (member x S))
+        (λ (p : member x S ≡ false). subst (λ (y : Word). member y vs' ≡ true) (sym (same-eq x w (last_one x p q))) g) (cases_Bool (member x S))
       where
         last_one : (x : Word) → member x S ≡ false → member x (S ++ (w ∷ [])) ≡ true → same x w ≡ true
         last_one x p q = sym (or-false (same x w)) ∙ (rw (member-append x S (w ∷ []), p) at q)
@@ -215,6 +204,6 @@ module _ {N : ℕ} {text : List ℕ} {s : Scope N} {vs S : List Word} (so : Hold
           go false = record {
             valid = valid-added s a e false so.valid room h k;
             known = known-added s a e false so.valid room ∙ rw so.known;
-            marks = marks-added s a e false so.valid room ∙ rw so.marks (sym (marks-append S vs (w ∷ []) ∙ rw (⊎_elim (λ (q : member w S ≡ true). clash (so.within w q) m) (λ q. q) (either (member w S)))));
+            marks = marks-added s a e false so.valid room ∙ rw so.marks (sym (marks-append S vs (w ∷ []) ∙ rw (⊎_elim (λ (q : member w S ≡ true). clash (so.within w q) m) (λ q. q) (cases_Bool (member w S)))));
             within = λ x q. member-left x vs (w ∷ []) (so.within x q);
           }

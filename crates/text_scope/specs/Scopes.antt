@@ -1,5 +1,5 @@
 -- The variables that a table of variables stands for.
-use Rattle.std.specs.Prelude.{◌≡◌, Bool, true, false, List, map, ℕ, ◌+◌, ◌≤◌, ◌<◌, length, get_or, set}
+use Rattle.std.specs.Prelude.{◌≡◌, Bool, true, false, List, map, ℕ, ◌+◌, ◌≤◌, ◌<◌, length, slice_index_or, set}
 use Rattle.std.proofs.Math.Seq.{slice}
 use Rattle.grammar.specs.Bytes.{Word}
 use Rattle.grammar.specs.Declarations.{member, place}
@@ -12,7 +12,7 @@ abbrev pub blank : Variable
 blank = record { start = 0; end = 0; marked = false }
 
 abbrev pub variable_at : {N : ℕ} → Scope N → ℕ → Variable
-variable_at s i = get_or s.variables i blank
+variable_at s i = slice_index_or s.variables i blank
 
 -- variable i
 abbrev pub variable : {N : ℕ} → List ℕ → Scope N → ℕ → Word

@@ -3,9 +3,10 @@
 
 ghost use Rattle.std.specs.Prelude.{◌≡◌, false, ◌≤◌, ◌<◌, length, replicate, MatchOption};
 ghost use Rattle.std.proofs.Math.Seq.{slice};
+ghost use Rattle.grammar.specs.Bytes.{same};
 ghost use Rattle.grammar.specs.Declarations.{member};
 ghost use Rattle.grammar.specs.Words.{all_marked};
-ghost use Rattle.text_scope.specs.Scopes.{blank, Valid, known_of, marks_of, Known, marking, added};
+ghost use Rattle.text_scope.specs.Scopes.{blank, variable, Valid, known_of, marks_of, Known, marking, added};
 
 // A variable: where it stands first, and whether it is marked.
 // The flag stays beside the place: both count, whether it is set or not.
@@ -39,18 +40,27 @@ pub fn empty<const N: usize>() -> Scope<N>
     }
 }
 
+// Whether variable i has those bytes.
+fn is_named<const N: usize>(text: &[u8], s: &Scope<N>, i: usize, word: &[u8]) -> bool
+    requires { Valid text.now s.now × (i < s.now.count) }
+    ensures { result ≡ same word.now (variable text.now s.now i) }
+{
+    let v = s.variables[i];
+    text_scan::same_words(word, &text[v.start..v.end])
+}
+
 // The number of the variable from a to e, if it is known.
 pub fn find<const N: usize>(text: &[u8], s: Scope<N>, a: usize, e: usize) -> Option<usize>
     requires { Valid text.now s × (a ≤ e) × (e ≤ length text.now) }
     ensures { MatchOption result (member (slice a e text.now) (known_of text.now s.entry) ≡ false) (Known (known_of text.now s.entry) (slice a e text.now)) }
 {
-    for i in 0..s.count {
-        let v = s.variables[i];
-        if text_scan::same_words(&text[a..e], &text[v.start..v.end]) {
-            return Some(i);
-        }
-    }
-    None
+    let word = &text[a..e];
+    (0..s.count).find(
+        |i|
+            requires { Valid text.now s × (i.now < s.count) }
+            ensures { result ≡ same word.entry.now (variable text.entry.now s i.now) }
+        { is_named(text, &s, *i, word) },
+    )
 }
 
 // Variable i is marked.
@@ -77,10 +87,5 @@ pub fn all_marked<const N: usize>(s: Scope<N>) -> bool
     requires { (s.count ≤ N) × (length s.variables ≡ N) }
     ensures { result ≡ all_marked (marks_of s.entry) }
 {
-    for i in 0..s.count {
-        if !s.variables[i].marked {
-            return false;
-        }
-    }
-    true
+    s.variables[..s.count].iter().all(|v| v.marked)
 }

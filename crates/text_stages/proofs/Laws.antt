@@ -10,6 +10,7 @@ use lib.Dec.{eqb}
 use lib.ListN.{length, take, length-set, length-append}
 use lib.Seq.{length-paste, take-set-le, get_or-set_same, take-take}
 use borrow.Author.Tests.{eqb-true, eqb-false}
+use Rattle.std.proofs.lemmas.Bool.{cases_Bool}
 use Rattle.semantics.specs.Models as meaning
 use Rattle.model.specs.Literals.{literal_of}
 use Rattle.model.specs.Records as model
@@ -20,7 +21,6 @@ use Rattle.grammar.specs.Forms as forms
 use Rattle.grammar.specs.Declarations.{Declared, member, extend, place, variables, all_variables}
 use Rattle.grammar.specs.Rows.{lower, body_fault, scope_fault, stages_fault}
 use Rattle.grammar.specs.Models.{body_of, question_of}
-use Rattle.grammar.proofs.Tests.{either}
 use Rattle.grammar.proofs.Words.{member-left, member_right, extend-append, extend-new}
 use Rattle.grammar.proofs.Lower.{lower-first, lower-second, lower-assoc}
 use Rattle.grammar.proofs.Bodies.{body-stable}
@@ -38,7 +38,6 @@ use Rattle.text_carried.specs.Asking as asking
 use Rattle.text_carried.specs.Asking.{own, each}
 use Rattle.text_scope.specs.declared.Scope.{Scope}
 use Rattle.limits.specs.Limits as limit
-use Rattle.text_carried.specs.declared.Numbering.{Numbering}
 use Rattle.text_carried.proofs.Stages.{each-words}
 use Rattle.text_stages.specs.Questions.{new_stage, with_stage, Stored}
 
@@ -72,11 +71,11 @@ module _ (q : List forms.Literal) where
       map-append (body_of D (ask_words (qs ++ (q ∷ [])))) qs (q ∷ []) ∙ ap (λ (l : List meaning.Body). l ++ (body_of D (ask_words (qs ++ (q ∷ []))) q ∷ [])) e
 
 -- ONE STAGE MORE in the record
-module _ {text : List ℕ} {D : Declared} {m₀ : Model} {qs : List (List forms.Literal)} {t : Scope limit.asked} {m : Model} {q : List forms.Literal} {f : Frame} {g : Numbering}
+module _ {text : List ℕ} {D : Declared} {m₀ : Model} {qs : List (List forms.Literal)} {t : Scope limit.asked} {m : Model} {q : List forms.Literal} {f : Frame} {t' : Scope limit.asked} {ns : List ℕ}
     (so : Stored text D m₀ qs t m) (few : length qs < 4) (faultless : body_fault D q ≡ 0) (body : frames.Body text D [] q f) (short : f.size ≤ 8)
-    (numbers : asking.Numbers text t (scopes.known_of text f.scope) g) where
+    (numbers : asking.Numbers text t (scopes.known_of text f.scope) t' ns) where
   m' : Model
-  m' = with_stage m f g.numbers
+  m' = with_stage m f ns
 
   vs : List Word
   vs = ask_words (qs ++ (q ∷ []))
@@ -91,23 +90,23 @@ module _ {text : List ℕ} {D : Declared} {m₀ : Model} {qs : List (List forms.
   unfolding m'
   keeps = record {
     clauses = refl;
-    stages = take-set-le m.stagecount m.stages m.stagecount (new_stage m f g.numbers) (omega arith);
+    stages = take-set-le m.stagecount m.stages m.stagecount (new_stage m f ns) (omega arith);
     literals = before m.literals f.codes m.literalcount f.size fits enough m.literalcount (omega arith);
     literalcount = omega arith;
   }
 
-  placed : stage_at m' m.stagecount ≡ new_stage m f g.numbers
+  placed : stage_at m' m.stagecount ≡ new_stage m f ns
   unfolding m'
-  placed = get_or-set_same m.stages m.stagecount (new_stage m f g.numbers) _ (omega (arith, so.stagecount, so.stages))
+  placed = get_or-set_same m.stages m.stagecount (new_stage m f ns) _ (omega (arith, so.stagecount, so.stages))
 
-  says : stage_body m'.literals (new_stage m f g.numbers) ≡ body_of D (line_words [] q) q
+  says : stage_body m'.literals (new_stage m f ns) ≡ body_of D (line_words [] q) q
   unfolding m'
   says = ap (map literal_of) (copied m.literals f.codes m.literalcount f.size fits enough) ∙ body.says
 
   counts : f.scope.count ≡ length (line_words [] q)
   counts = sym (counted body.scope)
 
-  numbered : take f.scope.count g.numbers ≡ map (place vs) (line_words [] q)
+  numbered : take f.scope.count ns ≡ map (place vs) (line_words [] q)
   unfolding vs
   numbered = rw (counts, sym (each-words [] (qs ++ (q ∷ []))), each_more q qs) (rw body.scope.known at (numbers.numbers (each qs) so.table))
 
@@ -115,24 +114,24 @@ module _ {text : List ℕ} {D : Declared} {m₀ : Model} {qs : List (List forms.
   unfolding vs
   inside x e = rw (words_more q qs) (extend-new x (ask_words qs) (variables q) e)
 
-  held : HoldsStage m' (new_stage m f g.numbers)
+  held : HoldsStage m' (new_stage m f ns)
   unfolding m'
-  held = holds-stage D m' vs (new_stage m f g.numbers) q faultless inside says counts numbered (omega arith) body.scope.valid.count numbers.room
+  held = holds-stage D m' vs (new_stage m f ns) q faultless inside says counts numbered (omega arith) body.scope.valid.count numbers.room
 
   question : model.question_of m' ≡ question_of D (qs ++ (q ∷ []))
   unfolding m' vs
   question =
-      question-more m m' keeps so.stage (add-one m.stagecount) (omega (arith, so.stagecount, so.stages, length-set m.stages m.stagecount (new_stage m f g.numbers)))
-      ∙ rw (placed, stage-said D m' vs (new_stage m f g.numbers) q faultless inside says counts numbered, so.question)
+      question-more m m' keeps so.stage (add-one m.stagecount) (omega (arith, so.stagecount, so.stages, length-set m.stages m.stagecount (new_stage m f ns)))
+      ∙ rw (placed, stage-said D m' vs (new_stage m f ns) q faultless inside says counts numbered, so.question)
       (sym (question-said q D qs))
 
   stages-held : (i : ℕ) → i < m.stagecount + 1 → HoldsStage m' (stage_at m' i)
   stages-held i h = ⊎_elim
       (λ (e : eqb i m.stagecount ≡ true). rw (eqb-true i m.stagecount e, placed) held)
       (λ (e : eqb i m.stagecount ≡ false). held_stage m m' keeps so.stage i (let z = eqb-false i m.stagecount e in omega arith))
-      (either (eqb i m.stagecount))
+      (cases_Bool (eqb i m.stagecount))
 
-  pub stored_more : Stored text D m₀ (qs ++ (q ∷ [])) g.table (with_stage m f g.numbers)
+  pub stored_more : Stored text D m₀ (qs ++ (q ∷ [])) t' (with_stage m f ns)
   unfolding m'
   stored_more =
       let n = length-append qs (q ∷ []) in
@@ -143,7 +142,6 @@ module _ {text : List ℕ} {D : Declared} {m₀ : Model} {qs : List (List forms.
         longer = let a = so.longer in omega arith;
         relations = so.relations;
         names = so.names;
-        lengths = so.lengths;
         clauses = so.clauses;
         clausecount = so.clausecount;
         lines = so.lines;
@@ -152,5 +150,5 @@ module _ {text : List ℕ} {D : Declared} {m₀ : Model} {qs : List (List forms.
         stage = stages-held;
         room = let a = so.room in omega arith;
         literals = length-paste m.literals m.literalcount f.codes f.size (let a = so.room in omega (arith, so.literals)) enough ∙ so.literals;
-        stages = length-set m.stages m.stagecount (new_stage m f g.numbers) ∙ so.stages;
+        stages = length-set m.stages m.stagecount (new_stage m f ns) ∙ so.stages;
       }

@@ -15,11 +15,10 @@ use Rattle.text_faults.specs.Faults.{fault_in}
 use Rattle.acceptance.specs.Represents.{HoldsStage}
 use Rattle.text_literals.specs.Frames as frames
 use Rattle.text_literals.specs.declared.Frame.{Frame}
-use Rattle.text_bodies.specs.declared.Body.{Body}
+use Rattle.text_rows.specs.declared.Taken.{Taken}
 use Rattle.text_carried.specs.Asking as asking
 use Rattle.text_carried.specs.Asking.{each}
 use Rattle.text_scope.specs.declared.Scope.{Scope}
-use Rattle.text_stages.specs.declared.Asking.{Asking}
 
 abbrev pub new_stage : Model → Frame → List ℕ → Stage
 new_stage m f numbers = record { first = m.literalcount; count = f.size; variables = f.scope.count; numbers = numbers }
@@ -28,7 +27,6 @@ abbrev pub with_stage : Model → Frame → List ℕ → Model
 with_stage m f numbers = record {
   relations = m.relations;
   names = m.names;
-  lengths = m.lengths;
   clauses = m.clauses;
   clausecount = m.clausecount;
   literals = paste m.literals m.literalcount f.codes f.size;
@@ -54,7 +52,6 @@ pub record Stored (text : List ℕ) (D : Declared) (m₀ : Model) (qs : List (Li
   pub longer : m₀.literalcount ≤ m.literalcount
   pub relations : m.relations ≡ m₀.relations
   pub names : m.names ≡ m₀.names
-  pub lengths : m.lengths ≡ m₀.lengths
   pub clauses : m.clauses ≡ m₀.clauses
   pub clausecount : m.clausecount ≡ m₀.clausecount
   pub lines : m.lines ≡ m₀.lines
@@ -65,25 +62,25 @@ pub record Stored (text : List ℕ) (D : Declared) (m₀ : Model) (qs : List (Li
   pub literals : length m.literals ≡ limit.literals
   pub stages : length m.stages ≡ limit.stages
 
--- the stages so far, or their lowest row
+-- the variables of the stages so far, or the lowest row of the stages
 abbrev pub Asked : Type 0
-Asked = Result Asking Row
+Asked = Result (Scope limit.asked) Row
 
--- rows 6 to 9 of the stages qs, and the record where there is no fault
-pub record Holds (text : List ℕ) (D : Declared) (m₀ : Model) (qs : List (List forms.Literal)) (s : Asked) : Type 0 where
+-- rows 6 to 9 of the stages qs, and the record m where there is no fault
+pub record Holds (text : List ℕ) (D : Declared) (m₀ : Model) (qs : List (List forms.Literal)) (s : Asked) (m : Model) : Type 0 where
   pub number : fault_in s ≡ stages_fault D qs
-  pub stored : IfOk s (λ a. Stored text D m₀ qs a.table a.model)
+  pub stored : IfOk s (λ t. Stored text D m₀ qs t m)
 
 -- some stages are held, and there is room for the one that was read
-pub record Addable (text : List ℕ) (s : Asked) (b : Body) : Type 0 where
+pub record Addable (text : List ℕ) (s : Asked) (m : Model) (b : Taken frames.Framed) : Type 0 where
   pub D : Declared
   pub m₀ : Model
   pub qs : List (List forms.Literal)
   pub q : List forms.Literal
   pub few : length qs < limit.stages
-  pub holds : Holds text D m₀ qs s
-  pub frame : frames.Holds text D [] 0 q b.frame
+  pub holds : Holds text D m₀ qs s m
+  pub frame : frames.Holds text D [] 0 q b.kept
 
-pub record Added (text : List ℕ) (s : Asked) (b : Body) (r : Asked) : Type 0 where
-  pub added : (D : Declared) (m₀ : Model) (qs : List (List forms.Literal)) (q : List forms.Literal) → length qs < limit.stages → Holds text D m₀ qs s → frames.Holds text D [] 0 q b.frame
-      → Holds text D m₀ (qs ++ (q ∷ [])) r
+pub record Added (text : List ℕ) (s : Asked) (m : Model) (b : Taken frames.Framed) (r : Asked) (m' : Model) : Type 0 where
+  pub added : (D : Declared) (m₀ : Model) (qs : List (List forms.Literal)) (q : List forms.Literal) → length qs < limit.stages → Holds text D m₀ qs s m → frames.Holds text D [] 0 q b.kept
+      → Holds text D m₀ (qs ++ (q ∷ [])) r m'

@@ -6,31 +6,18 @@ ghost use Rattle.limits.specs.Limits as limit;
 ghost use Rattle.witness_walk.specs.Walk.{Recorded, Sits};
 ghost use Rattle.witness.specs.Witness.{Shown};
 
-use limits::LISTED;
 use model::Model;
-use search_levels::LEVELS;
+use search_levels::{LEVELS, Pair};
 use search_states::States;
 use search_ways::{MATRIX, TABLE};
 use witness_meetings::Cast;
-use witness_walk::Pair;
 
 // The pair to which the carried objects walk: the first of level k, in the first row that has one.
 pub fn goal(rows: &[u8; LEVELS], k: usize) -> Pair
     requires { (k ≤ limit.stages) × ((e f : ℕ) × Sits rows.now k e f) }
     ensures { Sits rows.now k result.first result.second }
 {
-    for f in 0..LISTED {
-        let row = facts_bits::row(rows, LISTED * k + f);
-        if let Some(e) = facts_bits::first(&row, 0) {
-            if e < LISTED {
-                return Pair {
-                    first: e,
-                    second: f,
-                };
-            }
-        }
-    }
-    unreachable!()
+    search_levels::first_pair(rows, k).unwrap()
 }
 
 // Writes a run into the table: one object of each state is made, and the carried objects walk to a pair of the last level. Returns how many places it has.

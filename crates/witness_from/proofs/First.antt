@@ -7,9 +7,10 @@ use Prim.Native.Nat.{ℕ, suc, ◌-◌, ◌≤◌, ◌<◌}
 use native.Mathlib.Omega.{arith}
 use borrow.Author.Tests.{eqb-true, eqb-false}
 use lib.ListN.{length, get_or}
+use Rattle.std.proofs.lemmas.Bool.{cases_Bool}
 use Rattle.limits.specs.Limits as limit
 use Rattle.semantics.specs.Models.{elem, Question, vars, firsts, names, standing, only, shared, carriers}
-use Rattle.semantics.proofs.Tools.{either, clash}
+use Rattle.semantics.proofs.Tools.{clash}
 use Rattle.semantics.proofs.WalkersPaper.{stands-alone}
 use Rattle.model.specs.declared.Model.{Model}
 use Rattle.model.specs.Records.{up_from, number_in, question_of, stage_at, padded, carried_at}
@@ -21,19 +22,15 @@ use Rattle.witness_meetings.specs.Meetings.{first_variable}
 use Rattle.witness_meetings.proofs.Laws.{has-variable}
 use Rattle.witness_from.specs.From.{first_carried}
 
--- no list begins with nothing
-no-head : (x : ℕ) (xs : List ℕ) → [] ≡ x ∷ xs → ⊥
-no-head x xs e = absurd (let z = ap length e in omega arith)
-
 -- IN ORDER OF FIRST APPEARANCE the first variable of all comes first among those that a test leaves
 first-left : (f : ℕ → Bool) (x : ℕ) (xs l rest : List ℕ) → firsts [] l ≡ x ∷ xs → f x ≡ true → get_or (only f (firsts [] (l ++ rest))) 0 limit.none ≡ x
 unfolding firsts
-first-left f x xs [] rest e h = absurd (no-head x xs e)
+first-left f x xs [] rest e h = cc
 first-left f x xs (y ∷ l) rest e h = let same : y ≡ x = ap (λ (k : List ℕ). get_or k 0 limit.none) e in rw (same, h) refl
 
 carriers-head : (Q : Question) (x : ℕ) (xs : List ℕ) → names (get_or Q 0 []) ≡ x ∷ xs → shared Q x ≡ true → get_or (carriers Q) 0 limit.none ≡ x
 unfolding firsts
-carriers-head [] x xs e h = absurd (no-head x xs e)
+carriers-head [] x xs e h = cc
 carriers-head (b ∷ Q) x xs e h = first-left (shared (b ∷ Q)) x xs (vars b) (standing Q) e h
 
 module _ (m : Model) (wf : WellFormed m) (some-variable : 0 < (stage_at m 0).variables) where
@@ -72,4 +69,4 @@ module _ (m : Model) (wf : WellFormed m) (some-variable : 0 < (stage_at m 0).var
 
   -- and where it is not, it stands in no later stage
   pub stands-no-more : first_variable m ≢ carried_at m 0 → (k : ℕ) → 1 ≤ k → elem (first_variable m) (vars (get_or (question_of m) k [])) ≡ true → ⊥
-  stands-no-more n k l e = ⊎_elim (λ c. n (sym (carried_first c))) (λ c. clash e (stands-alone (question_of m) 0 k (first_variable m) c l first-stands)) (either (shared (question_of m) (first_variable m)))
+  stands-no-more n k l e = ⊎_elim (λ c. n (sym (carried_first c))) (λ c. clash e (stands-alone (question_of m) 0 k (first_variable m) c l first-stands)) (cases_Bool (shared (question_of m) (first_variable m)))

@@ -9,12 +9,13 @@ use native.Mathlib.Omega.{arith}
 use lib.Dec.{eqb}
 use borrow.Author.Tests.{eqb-true, eq-eqb, ne_eqb}
 use lib.ListN.{length, get_or, length-append, get_or-append}
+use Rattle.std.proofs.lemmas.Bool.{cases_Bool}
 use Rattle.semantics.specs.Models.{elem, vars, names, shared}
 use Rattle.semantics.specs.Facts.{Database, state, Meets}
 use Rattle.semantics.specs.Runs.{Place, meet}
 use Rattle.semantics.specs.Building.{places, with, follows}
 use Rattle.semantics.specs.Walkers.{follow, stood, Walking, but, acting, who}
-use Rattle.semantics.proofs.Tools.{either, same?, clash, no_none, firsts-among}
+use Rattle.semantics.proofs.Tools.{same?, clash, no_none, firsts-among}
 use Rattle.semantics.proofs.Leads.{leads-append}
 use Rattle.semantics.proofs.WalkersComplete.{some_same}
 use Rattle.semantics.proofs.WalkersBuild.{copy-behind}
@@ -43,13 +44,13 @@ follows-other : (x v y : ℕ) → y ≢ x → follows x v y ≡ none
 follows-other x v y n = rw (ne_eqb y x n) refl
 
 follows-only : (x v y o : ℕ) → follows x v y ≡ some o → (y ≡ x) × (o ≡ v)
-follows-only x v y o = ⊎_elim (λ (z : eqb y x ≡ true). rw z (λ q. (eqb-true y x z, sym (some_same v o q)))) (λ (z : eqb y x ≡ false). rw z (λ q. no_none q)) (either (eqb y x))
+follows-only x v y o = ⊎_elim (λ (z : eqb y x ≡ true). rw z (λ q. (eqb-true y x z, sym (some_same v o q)))) (λ (z : eqb y x ≡ false). rw z (λ q. no_none q)) (cases_Bool (eqb y x))
 
 follows-none : (x v w y : ℕ) → follows x v y ≡ none → follows x w y ≡ none
-follows-none x v w y = ⊎_elim (λ (z : eqb y x ≡ true). rw z (λ q. no_none (sym q))) (λ (z : eqb y x ≡ false). rw z (λ q. refl)) (either (eqb y x))
+follows-none x v w y = ⊎_elim (λ (z : eqb y x ≡ true). rw z (λ q. no_none (sym q))) (λ (z : eqb y x ≡ false). rw z (λ q. refl)) (cases_Bool (eqb y x))
 
 follows-but : (x v w : ℕ) → but (follows x v) x (some w) ≡ follows x w
-follows-but x v w = fun_ext (λ y. ⊎_elim (λ (z : eqb y x ≡ true). rw z refl) (λ (z : eqb y x ≡ false). rw z refl) (either (eqb y x)))
+follows-but x v w = fun_ext (λ y. ⊎_elim (λ (z : eqb y x ≡ true). rw z refl) (λ (z : eqb y x ≡ false). rw z refl) (cases_Bool (eqb y x)))
 
 -- who stands in stage 1 has the slot of a state
 pub ready_at : (m : Model) (s : States) → Proper s → (σ : ℕ → ℕ) → ((v : ℕ) → elem v (vars (get_or (question_of m) 0 [])) ≡ true → σ v < length (row s)) → (v e : ℕ) → (holder m v 0 ≡ true → σ (carried_at m v) ≡ e) → Ready m s (holder m v 0) false e e
@@ -98,7 +99,7 @@ module _ (m : Model) (w : List ℕ) (s : States) (known : Known m w s) (some-var
   pub begins : (a : ℕ) → state D p ≡ state (row s) a → Walking (D ++ row s) (follows x p) (D ++ row s) (follows x (state (row s) a)) (follows x p)
   begins a is = record {
     grown = omega arith;
-    each = λ y. ⊎_elim (λ (z : eqb y x ≡ true). rw z (rw length-append (omega (arith, old)), get_or-append D (row s) 0 p old ∙ is)) (λ (z : eqb y x ≡ false). rw z tt) (either (eqb y x));
+    each = λ y. ⊎_elim (λ (z : eqb y x ≡ true). rw z (rw length-append (omega (arith, old)), get_or-append D (row s) 0 p old ∙ is)) (λ (z : eqb y x ≡ false). rw z tt) (cases_Bool (eqb y x));
     apart = λ y z o n q r. n ((follows-only x p y o q).0 ∙ sym (follows-only x p z o r).0);
     stays = λ o l n. refl;
     old = λ y o q l. q;
@@ -162,12 +163,12 @@ module _ (m : Model) (w : List ℕ) (s : States) (known : Known m w s) (some-var
     stood-first : (y : ℕ) → y ≡ carried_at m 0 → there (holder m 0 0) (state (row s) e) ≡ stood (question_of m) (row s) (get_or (question_of m) 0 []) σ (follows x (state (row s) u)) y
     stood-first y q = rw q (⊎_elim
         (λ (z : holder m 0 0 ≡ true). rw (z, carried-own m known.model 0 0 z, seats.0 z) refl)
-        (λ (z : holder m 0 0 ≡ false). rw z (sym (follows-other x (state (row s) u) (carried_at m 0) (λ r. clash (subst (λ (v : ℕ). elem v (vars (get_or (question_of m) 0 [])) ≡ true) (sym r) (first-stands m known.model some-variable)) z)))) (either (holder m 0 0)))
+        (λ (z : holder m 0 0 ≡ false). rw z (sym (follows-other x (state (row s) u) (carried_at m 0) (λ r. clash (subst (λ (v : ℕ). elem v (vars (get_or (question_of m) 0 [])) ≡ true) (sym r) (first-stands m known.model some-variable)) z)))) (cases_Bool (holder m 0 0)))
 
     stood-second : (y : ℕ) → y ≡ carried_at m 1 → there (holder m 1 0) (state (row s) f) ≡ stood (question_of m) (row s) (get_or (question_of m) 0 []) σ (follows x (state (row s) u)) y
     stood-second y q = rw q (⊎_elim
         (λ (z : holder m 1 0 ≡ true). rw (z, carried-own m known.model 1 0 z, seats.1 z) refl)
-        (λ (z : holder m 1 0 ≡ false). rw z (sym (follows-other x (state (row s) u) (carried_at m 1) (λ r. not-second m known.model some-variable (sym r))))) (either (holder m 1 0)))
+        (λ (z : holder m 1 0 ≡ false). rw z (sym (follows-other x (state (row s) u) (carried_at m 1) (λ r. not-second m known.model some-variable (sym r))))) (cases_Bool (holder m 1 0)))
 
     -- and p
     stood-other : (y : ℕ) → y ≢ carried_at m 0 → y ≢ carried_at m 1 → follows x (state (row s) u) y ≡ stood (question_of m) (row s) (get_or (question_of m) 0 []) σ (follows x (state (row s) u)) y

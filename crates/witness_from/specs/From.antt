@@ -1,5 +1,5 @@
 -- THE SHOWN RUN FROM A DATABASE (document 02, R-7): all stages are met from there on, and the first variable of stage 1 stands for one of its objects.
-use Rattle.std.specs.Prelude.{◌≡◌, ◌⊎◌, ◌≢◌, Bool, true, false, cond, List, [], ◌∷◌, ◌++◌, map, ℕ, ◌+◌, ◌-◌, ◌≤◌, ◌<◌, eqb, length, take, drop, get_or}
+use Rattle.std.specs.Prelude.{◌≡◌, ◌⊎◌, ◌≢◌, Bool, true, false, if◌then◌else◌, List, [], ◌∷◌, ◌++◌, map, ℕ, ◌+◌, ◌-◌, ◌≤◌, ◌<◌, ◌==◌, length, take, drop, slice_index_or}
 use Rattle.std.proofs.Math.Option.{some}
 use Rattle.limits.specs.Limits as limit
 use Rattle.semantics.specs.Facts.{Database, state, Meets}
@@ -39,7 +39,7 @@ Openable m w s rows ways a = (e f : ℕ) → Sits rows 1 e f → (σ : ℕ → �
 
 -- the first variable of stage 1 is carried: it is the first carried one
 abbrev pub first_carried : Model → Bool
-first_carried m = eqb (first_variable m) (carried_at m 0)
+first_carried m = first_variable m == carried_at m 0
 
 -- THE CAST behind n objects, where there are k states: object p is there from the start if c says that its variable is carried
 abbrev pub cast_from : Bool → ℕ → ℕ → ℕ → Cast
@@ -52,12 +52,12 @@ Approach m s true o e ps = ps ≡ []
 Approach m s false o e ps = Errand m s o (holder m 0 0) false e e ps
 
 abbrev pub approached : Model → States → Bool → ℕ
-approached m s c = cond c 0 (effort s.count (holder m 0 0) false)
+approached m s c = if c then 0 else effort s.count (holder m 0 0) false
 
 -- THE OPENING: p is led from slot a to the slot of its variable, the objects of the carried variables are made, and stage 1 is met with the pair e f
 pub record Opening (m : Model) (s : States) (cast : Cast) (c : Bool) (p a e f : ℕ) (ps : List Place) : Type 0 where
   pub choice : ℕ → ℕ
-  pub meets : Meets (program_of m) (row s) choice (get_or (question_of m) 0 [])
+  pub meets : Meets (program_of m) (row s) choice (slice_index_or (question_of m) 0 [])
   pub seats : Seats m 0 choice e f
   pub way : List Place
   pub first : List Place

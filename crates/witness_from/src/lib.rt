@@ -101,7 +101,7 @@ fn open_with(
     let one = cast.first;
     let two = cast.second;
     let c = witness_meetings::opening(work, slots, m, s, ways, slot, first, second);
-    let to = c.first;
+    let to = c.first.unwrap();
     let met = witness_meetings::meet_first(run, m, s, cast, object, c, p.at);
     let then = witness_walk::errand(run, m, s, table, steps, 1, 0, second, second, two, met);
     let at = approach(run, m, s, table, steps, carried, first, one, then);

@@ -7,11 +7,12 @@ use Prim.Native.Nat.{ℕ, ◌+◌, ◌≤◌, ◌<◌}
 use native.Mathlib.Omega.{arith}
 use borrow.Author.Tests.{ltb-true, ltb-false}
 use lib.Dec.{ltb}
-use lib.ListN.{length, get_or, set, take, length-set, replicate, get_or-replicate, length-replicate, get_or-eq_default}
-use lib.Seq.{get_or-set_same, get_or-set_other, get_or-take, length-take-le}
+use lib.ListN.{length, get_or, take, replicate, get_or-replicate, length-replicate, get_or-eq_default}
+use lib.Seq.{get_or-take, length-take-le}
+use Rattle.std.proofs.lemmas.Bool.{cases_Bool}
 use Rattle.limits.specs.Limits as limit
 use Rattle.semantics.specs.Models.{line}
-use Rattle.semantics.proofs.Tools.{either, same?, clash}
+use Rattle.semantics.proofs.Tools.{same?, clash}
 use Rattle.model.specs.declared.Model.{Model}
 use Rattle.model.specs.Records.{clause_line, program_of, clause_at}
 use Rattle.model.specs.WellFormed.{WellFormed}
@@ -29,33 +30,6 @@ pub record Sofar (lines : List ℕ) (n ℓ : ℕ) (born born' : List Bool) : Typ
 module _ (lines : List ℕ) (ℓ : ℕ) (born : List Bool) where
   pub sofar-none : Sofar lines 0 ℓ born born
   sofar-none = record { notes = record { long = refl; noted = λ i l. absurd (omega arith) }; rest = λ i l. refl }
-
-  module _ (n : ℕ) (b : List Bool) (h : Sofar lines n ℓ born b) where
-    pub sofar-note : n < length born → get_or lines n 0 ≡ ℓ → Sofar lines (n + 1) ℓ born (set b n true)
-    sofar-note l q =
-        record {
-          notes = record {
-            long = simp length-set h.notes.long;
-            noted = λ i k. ⊎_elim
-                (λ (z : i ≡ n). ((λ _. inr (rw z q)), λ _. rw z (get_or-set_same b n true false (omega (arith, h.notes.long)))))
-                (λ (z : i ≢ n). rw (get_or-set_other b n i true false z) (h.notes.noted i (omega arith)))
-                (same? i n);
-          };
-          rest = λ i k. get_or-set_other b n i true false (λ z. omega arith) ∙ h.rest i (omega arith);
-        }
-
-    pub sofar-skip : (get_or lines n 0 ≢ ℓ) → Sofar lines (n + 1) ℓ born b
-    sofar-skip q =
-        record {
-          notes = record {
-            long = h.notes.long;
-            noted = λ i k. ⊎_elim
-                (λ (z : i ≡ n). ((λ x. inl (sym (h.rest i (omega arith)) ∙ x)), λ x. ⊎_elim (λ y. h.rest i (omega arith) ∙ y) (λ y. absurd (q (subst (λ (j : ℕ). get_or lines j 0 ≡ ℓ) z y))) x))
-                (λ (z : i ≢ n). h.notes.noted i (omega arith))
-                (same? i n);
-          };
-          rest = λ i k. h.rest i (omega arith);
-        }
 
 -- the first lines of a row
 pub notes-cut : (lines : List ℕ) (n ℓ : ℕ) (born born' : List Bool) → n ≤ length lines → Notes (take n lines) (length (take n lines)) ℓ born born' → Notes lines n ℓ born born'
@@ -77,7 +51,7 @@ module _ (m : Model) (s : States) where
       zero i = ⊎_elim
           (λ (z : ltb i limit.atomic ≡ true). get_or-replicate limit.atomic i false false (ltb-true i limit.atomic z))
           (λ (z : ltb i limit.atomic ≡ false). let e : length (replicate {A = Bool} limit.atomic false) ≤ i = rw length-replicate (ltb-false i limit.atomic z) in get_or-eq_default (replicate limit.atomic false) false e)
-          (either (ltb i limit.atomic))
+          (cases_Bool (ltb i limit.atomic))
 
   module _ (k : ℕ) (b : List Bool) (h : Early k b) where
     pub early-note : is_new (clause_line m.literals (clause_at m k)) ≡ true → (b' : List Bool) → Notes s.lines s.count (clause_at m k).line b b' → Early (k + 1) b'

@@ -6,6 +6,7 @@ use mathlib.Core.List.{List, [], ◌∷◌, ◌++◌, append_assoc, append-nil, 
 use Prim.Native.Nat.{ℕ, zero, suc, ◌+◌, ◌≤◌, ◌<◌}
 use native.Mathlib.Omega.{arith}
 use lib.ListN.{length, take, get_or, set, length-append, length-map}
+use Rattle.std.proofs.lemmas.Bool.{cases_Bool}
 use Rattle.limits.specs.Limits as limit
 use Rattle.semantics.specs.Models.{Line, rule, new, next, other, line}
 use Rattle.semantics.specs.Steps.{Pair}
@@ -13,7 +14,7 @@ use Rattle.semantics.specs.Runs.{step}
 use Rattle.semantics.specs.Tables.{From}
 use Rattle.semantics.specs.Building.{places, grown, lineage, with}
 use Rattle.semantics.specs.Walkers.{raise}
-use Rattle.semantics.proofs.Tools.{either, clash}
+use Rattle.semantics.proofs.Tools.{clash}
 use Rattle.model.specs.declared.Model.{Model}
 use Rattle.model.specs.declared.Place.TheVariants.{Step}
 use Rattle.model.specs.Records.{program_of}
@@ -93,7 +94,7 @@ module _ (m : Model) (wf : WellFormed m) (s : States) (proper : Proper s) (found
           (λ (e : is_new (line (program_of m) (by s i)) ≡ true). let a = (made_all e).0 in omega (arith, length-places o (lines_to m s state)))
           (λ (e : is_new (line (program_of m) (by s i)) ≡ false). let a = (made_more e).1 in
           omega (arith, a.index, ap length a.rest, length-append (lines_to m s (from s i)) a.lines))
-          (either (is_new (line (program_of m) (by s i))))
+          (cases_Bool (is_new (line (program_of m) (by s i))))
 
 -- the same, read from the rows
 module _ (m : Model) (s : States) (born : List Bool) (a : Ancestry m s born) where
@@ -115,7 +116,7 @@ module _ (m : Model) (s : States) (born : List Bool) (a : Ancestry m s born) whe
     pub trace-more : get_or born i false ≡ false → (from s i < i) × Made m s state o k run₀ (set run at (numeral (Step (by s i) o))) (from s i) (at + 1)
     trace-more e = rw number
         (made_more m a.model s a.proper a.found state o k run₀ run i at h
-        (⊎_elim (λ (q : is_new (line (program_of m) (by s i)) ≡ true). clash ((a.born.made i h.inside).1 q) e) (λ (q : is_new (line (program_of m) (by s i)) ≡ false). q) (either (is_new (line (program_of m) (by s i))))))
+        (⊎_elim (λ (q : is_new (line (program_of m) (by s i)) ≡ true). clash ((a.born.made i h.inside).1 q) e) (λ (q : is_new (line (program_of m) (by s i)) ≡ false). q) (cases_Bool (is_new (line (program_of m) (by s i))))))
 
 -- from index k on the table has the steps behind those that make the first n states, each behind b objects, and index `at` is the next
 pub record Built (m : Model) (s : States) (b k : ℕ) (run₀ run : List ℕ) (n at : ℕ) : Type 0 where

@@ -7,14 +7,16 @@ use mathlib.Core.Option.{Option, some}
 use Prim.Native.Nat.{ℕ, zero, suc, ◌+◌, ◌*◌, ◌≤◌, ◌<◌}
 use native.Mathlib.Omega.{arith}
 use borrow.Author.Tests.{eq-eqb, ne_eqb}
-use lib.ListN.{length, take, set, get_or, length-map}
+use lib.ListN.{set, get_or, length-map}
+use Rattle.std.proofs.lemmas.List.{get_or_default}
+use Rattle.std.proofs.lemmas.Bool.{cases_Bool}
 use Rattle.limits.specs.Limits as limit
 use Rattle.semantics.specs.Models.{elem, Body, vars, names, supported, Supported}
 use Rattle.semantics.specs.Facts.{In, Derived, Meets}
 use Rattle.semantics.specs.Runs.{Place, meet, nobody, named}
 use Rattle.semantics.specs.Tables.{Shows}
 use Rattle.semantics.specs.Walkers.{but, acting}
-use Rattle.semantics.proofs.Tools.{either, same?, named-own}
+use Rattle.semantics.proofs.Tools.{same?, clash, named-own}
 use Rattle.semantics.proofs.Bodies.{holds_agree, more-facts, supported-vars}
 use Rattle.model.specs.declared.Model.{Model}
 use Rattle.model.specs.declared.Stage.{Stage}
@@ -26,22 +28,19 @@ use Rattle.model.proofs.Numbering.{length-up_from}
 use Rattle.model.proofs.Renaming.{elem-of-map, elem-map, vars-renamed, supported-renamed, holds-renamed, named-renamed}
 use Rattle.model.proofs.Accepted.{stage-here, stage-vars, stage-different, stage-names, stage_body_lem}
 use Rattle.model.proofs.Carried.{carried-cells, carried-own, carried-differ}
-use Rattle.facts_bits.specs.Width as width
 use Rattle.facts_bits.specs.Bits.{in_row}
 use Rattle.facts_table.specs.Table.{table_of}
 use Rattle.facts_candidates.specs.declared.Choice.{Choice}
-use Rattle.facts_candidates.specs.Choices.{chosen, Own}
-use Rattle.facts_candidates.proofs.Choosing.{any-default}
+use Rattle.facts_candidates.specs.Choices.{element_of, chosen}
 use Rattle.std.specs.Prelude as prelude
-use Rattle.facts_find.specs.Bodies.{Fixed, Decides, Good}
+use Rattle.facts_find.specs.Bodies.{Fixed}
 use Rattle.search_states.specs.declared.States.{States}
 use Rattle.search_states.specs.States.{row}
 use Rattle.search_states.proofs.Laws.{length-row}
-use Rattle.facts_holds.specs.Shows.{Evaluable}
-use Rattle.facts_holds.proofs.Laws.{own-shows, shows-own}
+use Rattle.facts_holds.specs.Shows.{Evaluable, Seeks}
 use Rattle.witness_table.proofs.Laws.{set-backwards}
 use Rattle.witness_meetings.specs.declared.Cast.{Cast}
-use Rattle.witness_meetings.specs.Meetings.{Known, Written, Numbers, Names, NamesBoth, meeting, Seeks, Behind, pair, Seats, gathering, Takes, Chooses, Seating, first_variable, Opens}
+use Rattle.witness_meetings.specs.Meetings.{Known, Written, Numbers, Names, NamesBoth, meeting, Behind, pair, Seats, gathering, Takes, Chooses, Seating, first_variable, Opens}
 
 map_same : (f g : ℕ → ℕ) (k n : ℕ) → ((x : ℕ) → k ≤ x → x < k + n → f x ≡ g x) → map f (up_from k n) ≡ map g (up_from k n)
 map_same f g k zero h = refl
@@ -63,18 +62,13 @@ meeting-number k n a b d c h (ea, la) (eb, lb) (ed, ld) = rw (← ea, ← eb, �
     parts : (k a b d : ℕ) → k < limit.atomic → a < 256 → b < 256 → d < 256 → numeral (Meeting (k + 1) a b d) ≡ 2147483648 + suc k * 16777216 + a * 65536 + b * 256 + d
     parts k a b d h la lb ld = omega arith
 
--- what `find` says over states that are their own slots
-pub seeks : (slots : List ℕ) → Own width.slots slots → (n : ℕ) → n ≤ width.slots → (S : List ℕ) → length S ≡ n → (w : List ℕ) (b : Body) (v : ℕ) (fixed : Choice) (r : prelude.Option Choice) → Decides v (Good w (take n slots) S b v fixed) r → Seeks S w b v fixed r
-seeks slots own n few S same w b v fixed (prelude.Some c) d = (own-shows slots own n few S same w (chosen c) b d.good.0, d.good.1)
-seeks slots own n few S same w b v fixed prelude.None d = λ σ h f. d σ (shows-own slots own n few S same w σ b h, f)
-
 -- what is written is good in another way too
 pub written_as : (G H : List Place → Type 0) → ((ps : List Place) → G ps → H ps) → (most : ℕ) (run run' : List ℕ) (at at' : ℕ) → Written G most run at run' at' → Written H most run at run' at'
 written_as G H so most run run' at at' h = record { places = h.places; good = so h.places h.good; few = h.few; numerable = h.numerable; written = h.written; index = h.index }
 
 -- the carried variable that is read from a cell
 pub carried-read : (m : Model) → WellFormed m → (v : ℕ) → v < limit.carried → get_or m.carried v 0 ≡ carried_at m v
-carried-read m wf v l = any-default m.carried v 0 limit.none (omega (arith, carried-cells m wf))
+carried-read m wf v l = get_or_default m.carried v 0 limit.none (omega (arith, carried-cells m wf))
 
 -- STAGE k of a well-formed model, with names of its own for its variables
 module _ (m : Model) (wf : WellFormed m) (k : ℕ) (here : k < m.stagecount) where
@@ -103,7 +97,7 @@ module _ (m : Model) (wf : WellFormed m) (k : ℕ) (here : k < m.stagecount) whe
   variable-in v e = in-vars v (rw (stage-here m wf k here) at e)
 
   pub not-variable : (v : ℕ) → ((x : ℕ) → x < st.variables → number_in st x ≢ v) → elem v (vars (get_or (question_of m) k [])) ≡ false
-  not-variable v h = ⊎_elim (λ e. let t = variable-in v e in absurd (h t.0 t.1 (sym t.2))) (λ e. e) (either (elem v (vars (get_or (question_of m) k []))))
+  not-variable v h = ⊎_elim (λ e. let t = variable-in v e in absurd (h t.0 t.1 (sym t.2))) (λ e. e) (cases_Bool (elem v (vars (get_or (question_of m) k []))))
 
   -- a stage's numbers
   pub few-variables : st.variables ≤ 3
@@ -142,25 +136,31 @@ module _ (m : Model) (wf : WellFormed m) (k : ℕ) (here : k < m.stagecount) whe
 
   -- A VARIABLE v OF THE STAGE stands for element e in r, and the others stand as in c
   module _ (v e : ℕ) (c r : Choice) (h : Names st v e c r) where
-    names-own : (x : ℕ) → x < st.variables → number_in st x ≡ v → chosen r x ≡ e
+    names-own : (x : ℕ) → x < st.variables → number_in st x ≡ v → element_of r x ≡ prelude.Some e
     names-own x l q = h x l ∙ rw (eq-eqb (number_in st x) v q)
 
-    names-other : (x : ℕ) → x < st.variables → number_in st x ≢ v → chosen r x ≡ chosen c x
+    names-other : (x : ℕ) → x < st.variables → number_in st x ≢ v → element_of r x ≡ element_of c x
     names-other x l q = h x l ∙ rw (ne_eqb (number_in st x) v q)
+
+    own-chosen : (x : ℕ) → x < st.variables → number_in st x ≡ v → chosen r x ≡ e
+    own-chosen x l q = ap (λ (o : prelude.Option ℕ). prelude.unwrap_or o 255) (names-own x l q)
+
+    other-chosen : (x : ℕ) → x < st.variables → number_in st x ≢ v → chosen r x ≡ chosen c x
+    other-chosen x l q = ap (λ (o : prelude.Option ℕ). prelude.unwrap_or o 255) (names-other x l q)
 
     -- fixed elements
     names-fixed : (σ : ℕ → ℕ) → (elem v (vars (get_or (question_of m) k [])) ≡ true → σ v ≡ e) → Fixed st.variables c (λ x. σ (number_in st x)) → Fixed st.variables r (λ x. σ (number_in st x))
-    names-fixed σ own others x l n = ⊎_elim
-        (λ q. ap σ q ∙ own (has-variable v x l q) ∙ sym (names-own x l q))
-        (λ q. let same = names-other x l q in others x l (λ z. n (same ∙ z)) ∙ sym same) (same? (number_in st x) v)
+    names-fixed σ own others x l i n = ⊎_elim
+        (λ q. ap σ q ∙ own (has-variable v x l q) ∙ ap (λ (o : prelude.Option ℕ). prelude.unwrap_or o 255) (sym (names-own x l q) ∙ n))
+        (λ q. others x l i (sym (names-other x l q) ∙ n)) (same? (number_in st x) v)
 
     -- objects
     pub names-acting : (g : ℕ → ℕ) (w : ℕ → Option ℕ) (τ : ℕ → ℕ) → ((x : ℕ) → x < st.variables → acting g w τ (number_in st x) ≡ chosen c x)
         → (x : ℕ) → x < st.variables → acting g (but w v (some e)) τ (number_in st x) ≡ chosen r x
-    names-acting g w τ others x l = ⊎_elim (λ q. rw (eq-eqb (number_in st x) v q) (sym (names-own x l q))) (λ q. rw (ne_eqb (number_in st x) v q) (others x l ∙ sym (names-other x l q))) (same? (number_in st x) v)
+    names-acting g w τ others x l = ⊎_elim (λ q. rw (eq-eqb (number_in st x) v q) (sym (own-chosen x l q))) (λ q. rw (ne_eqb (number_in st x) v q) (others x l ∙ sym (other-chosen x l q))) (same? (number_in st x) v)
 
     pub names-below : (n : ℕ) → e < n → ((x : ℕ) → x < st.variables → chosen c x < n) → (x : ℕ) → x < st.variables → chosen r x < n
-    names-below n own others x l = ⊎_elim (λ q. omega (arith, names-own x l q)) (λ q. omega (arith, names-other x l q, others x l)) (same? (number_in st x) v)
+    names-below n own others x l = ⊎_elim (λ q. omega (arith, own-chosen x l q)) (λ q. omega (arith, other-chosen x l q, others x l)) (same? (number_in st x) v)
 
   -- the two carried variables are different
   carried-apart : elem (carried_at m 0) (vars (get_or (question_of m) k [])) ≡ true → carried_at m 0 ≢ carried_at m 1
@@ -168,13 +168,13 @@ module _ (m : Model) (wf : WellFormed m) (k : ℕ) (here : k < m.stagecount) whe
 
   -- elements for both carried variables
   module _ (e f : ℕ) (c r : Choice) (h : NamesBoth m k e f c r) where
-    both_first : elem (carried_at m 0) (vars (get_or (question_of m) k [])) ≡ true → (x : ℕ) → x < st.variables → number_in st x ≡ carried_at m 0 → chosen r x ≡ e
+    both_first : elem (carried_at m 0) (vars (get_or (question_of m) k [])) ≡ true → (x : ℕ) → x < st.variables → number_in st x ≡ carried_at m 0 → element_of r x ≡ prelude.Some e
     both_first here-v x l q = names-other (carried_at m 1) f h.0 r h.2 x l (λ z. carried-apart here-v (sym q ∙ z)) ∙ names-own (carried_at m 0) e c h.0 h.1 x l q
 
-    both-second : (x : ℕ) → x < st.variables → number_in st x ≡ carried_at m 1 → chosen r x ≡ f
+    both-second : (x : ℕ) → x < st.variables → number_in st x ≡ carried_at m 1 → element_of r x ≡ prelude.Some f
     both-second = names-own (carried_at m 1) f h.0 r h.2
 
-    both-neither : (x : ℕ) → x < st.variables → number_in st x ≢ carried_at m 0 → number_in st x ≢ carried_at m 1 → chosen r x ≡ chosen c x
+    both-neither : (x : ℕ) → x < st.variables → number_in st x ≢ carried_at m 0 → number_in st x ≢ carried_at m 1 → element_of r x ≡ element_of c x
     both-neither x l n o = names-other (carried_at m 1) f h.0 r h.2 x l o ∙ names-other (carried_at m 0) e c h.0 h.1 x l n
 
     both-fixed : (σ : ℕ → ℕ) → Seats m k σ e f → Fixed st.variables c (λ x. σ (number_in st x)) → Fixed st.variables r (λ x. σ (number_in st x))
@@ -233,20 +233,18 @@ module _ (m : Model) (w : List ℕ) (s : States) (known : Known m w s) (k : ℕ)
   -- A CHOICE WITH FIXED SLOTS for the carried variables, where σ has them too
   module _ (e f : ℕ) (σ : ℕ → ℕ) (seated : Seating m w s k e f σ) (others fixed : Choice) (fixes : NamesBoth m k e f others fixed) where
     -- a variable of the stage that is fixed to a slot has it in each choice that is found
-    fixed-seat : (v e : ℕ) → ((x : ℕ) → x < (stage_at m k).variables → number_in (stage_at m k) x ≡ v → chosen fixed x ≡ e) → (elem v (vars (get_or (question_of m) k [])) ≡ true → σ v ≡ e)
+    fixed-seat : (v e : ℕ) → ((x : ℕ) → x < (stage_at m k).variables → number_in (stage_at m k) x ≡ v → element_of fixed x ≡ prelude.Some e)
         → (c : Choice) → Fixed (stage_at m k).variables fixed (chosen c) → elem v (vars (get_or (question_of m) k [])) ≡ true → over m known.model k here c v ≡ e
-    fixed-seat v e own seat c found here-v =
+    fixed-seat v e own c found here-v =
         let x = variable-in m known.model k here v here-v in
-        let is = own x.0 x.1 (sym x.2) in
-        let few = known.proper.count in
-        ap (over m known.model k here c) x.2 ∙ over-at m known.model k here c x.0 x.1 ∙ found x.0 x.1 (λ z. absurd (omega (arith, is, z, seat here-v, slot-below σ seated.0 v here-v))) ∙ is
+        ap (over m known.model k here c) x.2 ∙ over-at m known.model k here c x.0 x.1 ∙ found x.0 x.1 e (own x.0 x.1 (sym x.2))
 
     found-seating : (c : Choice) → Shows (row s) (table_of w) (chosen c) (stage_body m.literals (stage_at m k)) → Fixed (stage_at m k).variables fixed (chosen c) → Seating m w s k e f (over m known.model k here c)
     found-seating c shows found = (
       body-shows c shows,
       (
-        (λ h. fixed-seat (carried_at m 0) e (both_first m known.model k here e f others fixed fixes h) seated.1.0 c found h),
-        fixed-seat (carried_at m 1) f (both-second m known.model k here e f others fixed fixes) seated.1.1 c found,
+        (λ h. fixed-seat (carried_at m 0) e (both_first m known.model k here e f others fixed fixes h) c found h),
+        fixed-seat (carried_at m 1) f (both-second m known.model k here e f others fixed fixes) c found,
       ),
     )
 
@@ -254,8 +252,8 @@ module _ (m : Model) (w : List ℕ) (s : States) (known : Known m w s) (k : ℕ)
     pub choose-found : (c : Choice) → Seeks (row s) w (stage_body m.literals (stage_at m k)) (stage_at m k).variables fixed (prelude.Some c) → (τ : ℕ → ℕ) × Seating m w s k e f τ × Chooses (stage_at m k) c τ
     choose-found c h = (over m known.model k here c, found-seating c h.0 h.1, over-at m known.model k here c)
 
-    pub choose-none : ((x : ℕ) → chosen others x ≡ limit.none) → Seeks (row s) w (stage_body m.literals (stage_at m k)) (stage_at m k).variables fixed prelude.None → ⊥
-    choose-none free h = h (λ x. σ (number_in (stage_at m k) x)) (shows-body σ seated.0) (both-fixed m known.model k here e f others fixed fixes σ seated.1 (λ x l n. absurd (n (free x))))
+    pub choose-none : ((x : ℕ) → element_of others x ≡ prelude.None) → Seeks (row s) w (stage_body m.literals (stage_at m k)) (stage_at m k).variables fixed prelude.None → ⊥
+    choose-none free h = h (λ x. σ (number_in (stage_at m k) x)) (shows-body σ seated.0) (both-fixed m known.model k here e f others fixed fixes σ seated.1 (λ x l i n. clash (ap prelude.is_some n) (ap prelude.is_some (free x))))
 
 -- STAGE 1 WITH ITS FIRST VARIABLE in a slot of row j
 module _ (m : Model) (w : List ℕ) (s : States) (known : Known m w s) (some-variable : 0 < (stage_at m 0).variables) (rows : List ℕ) (j e f : ℕ) where
@@ -265,15 +263,15 @@ module _ (m : Model) (w : List ℕ) (s : States) (known : Known m w s) (some-var
   pub first_below : (σ : ℕ → ℕ) → Opens m w s rows j e f σ → σ (first_variable m) < s.count
   first_below σ opens = slot-below m w s known 0 known.model.one σ opens.0.0 (first_variable m) first-stands
 
-  module _ (u : ℕ) (free one fixed : Choice) (none : (x : ℕ) → chosen free x ≡ limit.none) (names : Names (stage_at m 0) (first_variable m) u free one) (fixes : NamesBoth m 0 e f one fixed) where
+  module _ (u : ℕ) (free one fixed : Choice) (none : (x : ℕ) → element_of free x ≡ prelude.None) (names : Names (stage_at m 0) (first_variable m) u free one) (fixes : NamesBoth m 0 e f one fixed) where
     pub attempt-none : (σ : ℕ → ℕ) → Opens m w s rows j e f σ → σ (first_variable m) ≡ u → Seeks (row s) w (stage_body m.literals (stage_at m 0)) (stage_at m 0).variables fixed prelude.None → ⊥
     attempt-none σ opens is h = h (λ x. σ (number_in (stage_at m 0) x)) (shows-body m w s known 0 known.model.one σ opens.0.0)
         (both-fixed m known.model 0 known.model.one e f one fixed fixes σ opens.0.1
-        (names-fixed m known.model 0 known.model.one (first_variable m) u free one names σ (λ h. is) (λ x l n. absurd (n (none x)))))
+        (names-fixed m known.model 0 known.model.one (first_variable m) u free one names σ (λ h. is) (λ x l i n. clash (ap prelude.is_some n) (ap prelude.is_some (none x)))))
 
-    pub attempt-found : (σ : ℕ → ℕ) → Opens m w s rows j e f σ → u < s.count → in_row rows j u ≡ true → (c : Choice) → Seeks (row s) w (stage_body m.literals (stage_at m 0)) (stage_at m 0).variables fixed (prelude.Some c)
+    pub attempt-found : (σ : ℕ → ℕ) → Opens m w s rows j e f σ → in_row rows j u ≡ true → (c : Choice) → Seeks (row s) w (stage_body m.literals (stage_at m 0)) (stage_at m 0).variables fixed (prelude.Some c)
         → (τ : ℕ → ℕ) × Opens m w s rows j e f τ × Chooses (stage_at m 0) c τ
-    attempt-found σ opens below among c h = (
+    attempt-found σ opens among c h = (
       over m known.model 0 known.model.one c,
       (
         found-seating m w s known 0 known.model.one e f σ opens.0 one fixed fixes c h.0 h.1,
@@ -283,15 +281,15 @@ module _ (m : Model) (w : List ℕ) (s : States) (known : Known m w s) (some-var
     )
       where
         -- the slot that was fixed for it
-        fixed-to : (t : ℕ) → chosen fixed 0 ≡ t → t < s.count → in_row rows j t ≡ true → in_row rows j (chosen c 0) ≡ true
-        fixed-to t q l r = let few = known.proper.count in rw (h.1 0 some-variable (λ z. absurd (omega (arith, z, q))) ∙ q) r
+        fixed-to : (t : ℕ) → element_of fixed 0 ≡ prelude.Some t → in_row rows j t ≡ true → in_row rows j (chosen c 0) ≡ true
+        fixed-to t q r = rw (h.1 0 some-variable t q) r
 
-        carried : (t : ℕ) → chosen fixed 0 ≡ t → σ (first_variable m) ≡ t → in_row rows j (chosen c 0) ≡ true
-        carried t q is = fixed-to t q (rw (← is) (first_below σ opens)) (rw (← is) opens.1)
+        carried : (t : ℕ) → element_of fixed 0 ≡ prelude.Some t → σ (first_variable m) ≡ t → in_row rows j (chosen c 0) ≡ true
+        carried t q is = fixed-to t q (rw (← is) opens.1)
 
         slot : in_row rows j (chosen c 0) ≡ true
         slot = ⊎_elim
             (λ q. carried f (both-second m known.model 0 known.model.one e f one fixed fixes 0 some-variable q) (ap σ q ∙ opens.0.1.1 (subst (λ (v : ℕ). elem v (vars (get_or (question_of m) 0 [])) ≡ true) q first-stands)))
             (λ o. ⊎_elim
             (λ q. let stands = subst (λ (v : ℕ). elem v (vars (get_or (question_of m) 0 [])) ≡ true) q first-stands in carried e (both_first m known.model 0 known.model.one e f one fixed fixes stands 0 some-variable q) (ap σ q ∙ opens.0.1.0 stands))
-            (λ n. fixed-to u (both-neither m known.model 0 known.model.one e f one fixed fixes 0 some-variable n o ∙ names-own m known.model 0 known.model.one (first_variable m) u free one names 0 some-variable refl) below among) (same? (first_variable m) (carried_at m 0))) (same? (first_variable m) (carried_at m 1))
+            (λ n. fixed-to u (both-neither m known.model 0 known.model.one e f one fixed fixes 0 some-variable n o ∙ names-own m known.model 0 known.model.one (first_variable m) u free one names 0 some-variable refl) among) (same? (first_variable m) (carried_at m 0))) (same? (first_variable m) (carried_at m 1))

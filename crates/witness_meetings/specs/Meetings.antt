@@ -1,10 +1,10 @@
 -- MEETINGS of a shown run: what is known where one is written, and what the table then has.
-use Rattle.std.specs.Prelude.{◌≡◌, ◌⊎◌, ◌≢◌, true, cond, List, [], ◌∷◌, map, ℕ, suc, ◌+◌, ◌≤◌, ◌<◌, eqb, length, get_or}
+use Rattle.std.specs.Prelude.{◌≡◌, ◌⊎◌, ◌≢◌, true, if◌then◌else◌, List, [], ◌∷◌, map, ℕ, suc, ◌+◌, ◌≤◌, ◌<◌, ◌==◌, length, slice_index_or}
 use Rattle.std.specs.Prelude as prelude
 use Rattle.std.proofs.Math.Option.{Option, some}
 use Rattle.limits.specs.Limits as limit
-use Rattle.semantics.specs.Models.{elem, Body, vars, names}
-use Rattle.semantics.specs.Facts.{Database, Meets}
+use Rattle.semantics.specs.Models.{elem, vars, names}
+use Rattle.semantics.specs.Facts.{Meets}
 use Rattle.semantics.specs.Runs.{Place, meet, nobody}
 use Rattle.semantics.specs.Tables.{Shows}
 use Rattle.semantics.specs.Walkers.{but, acting}
@@ -15,8 +15,8 @@ use Rattle.model.specs.WellFormed.{WellFormed}
 use Rattle.facts_bits.specs.Bits.{in_row}
 use Rattle.facts_table.specs.Table.{table_of, Consistent}
 use Rattle.facts_candidates.specs.declared.Choice.{Choice}
-use Rattle.facts_candidates.specs.Choices.{chosen}
-use Rattle.facts_find.specs.Bodies.{Fixed}
+use Rattle.facts_candidates.specs.Choices.{element_of, chosen}
+use Rattle.facts_holds.specs.Shows.{Seeks}
 use Rattle.facts.specs.Facts.{Exact}
 use Rattle.search_states.specs.declared.States.{States}
 use Rattle.search_states.specs.States.{row, Proper, Discovered}
@@ -53,7 +53,7 @@ Spots st v prelude.None = (y : ℕ) → y < st.variables → number_in st y ≢ 
 
 -- the choice c, but element e for the variable v where the stage has it
 abbrev pub Names : Stage → ℕ → ℕ → Choice → Choice → Type 0
-Names st v e c r = (x : ℕ) → x < st.variables → chosen r x ≡ cond (eqb (number_in st x) v) e (chosen c x)
+Names st v e c r = (x : ℕ) → x < st.variables → element_of r x ≡ (if number_in st x == v then prelude.Some e else element_of c x)
 
 -- the choice c, but elements e and f for the carried variables where stage k has them
 abbrev pub NamesBoth : Model → ℕ → ℕ → ℕ → Choice → Choice → Type 0
@@ -62,11 +62,6 @@ NamesBoth m k e f c r = (d : Choice) × Names (stage_at m k) (carried_at m 0) e 
 -- the meeting of stage k + 1 with the chosen objects
 abbrev pub meeting : ℕ → ℕ → Choice → Place
 meeting k n c = meet (suc k) (map (chosen c) (up_from 0 n))
-
--- the answer is a choice with the fixed elements for which the body holds over S, or that there is none
-abbrev pub Seeks : Database → List ℕ → Body → ℕ → Choice → prelude.Option Choice → Type 0
-Seeks S w b v fixed (prelude.Some c) = Shows S (table_of w) (chosen c) b × Fixed v fixed (chosen c)
-Seeks S w b v fixed prelude.None = (σ : ℕ → ℕ) → Shows S (table_of w) σ b → Fixed v fixed σ → ⊥
 
 -- THE CAST: object `base` + i has state i of the row, and two more objects stand for the carried variables. They all have numbers.
 pub record Numbered (s : States) (cast : Cast) : Type 0 where
@@ -84,11 +79,11 @@ pair m w a c = but (but w (carried_at m 0) a) (carried_at m 1) c
 
 -- σ has slot e for the first carried variable and slot f for the second, where they stand in stage k
 abbrev pub Seats : Model → ℕ → (ℕ → ℕ) → ℕ → ℕ → Type 0
-Seats m k σ e f = (elem (carried_at m 0) (vars (get_or (question_of m) k [])) ≡ true → σ (carried_at m 0) ≡ e) × (elem (carried_at m 1) (vars (get_or (question_of m) k [])) ≡ true → σ (carried_at m 1) ≡ f)
+Seats m k σ e f = (elem (carried_at m 0) (vars (slice_index_or (question_of m) k [])) ≡ true → σ (carried_at m 0) ≡ e) × (elem (carried_at m 1) (vars (slice_index_or (question_of m) k [])) ≡ true → σ (carried_at m 1) ≡ f)
 
 -- the meeting of stage k + 1 with the objects of the states σ, but the cast's two for the carried variables, and whom `w` names
 abbrev pub gathering : Model → Cast → (ℕ → Option ℕ) → ℕ → (ℕ → ℕ) → Place
-gathering m cast w k σ = meet (suc k) (map (acting (λ o. cast.base + o) (pair m w (some cast.first) (some cast.second)) σ) (names (get_or (question_of m) k [])))
+gathering m cast w k σ = meet (suc k) (map (acting (λ o. cast.base + o) (pair m w (some cast.first) (some cast.second)) σ) (names (slice_index_or (question_of m) k [])))
 
 -- the objects are those of the states σ, and whom `w` names
 abbrev pub Takes : Model → Cast → ℕ → (ℕ → Option ℕ) → (ℕ → ℕ) → Choice → Type 0
@@ -100,11 +95,11 @@ Chooses st c σ = (x : ℕ) → x < st.variables → σ (number_in st x) ≡ cho
 
 -- stage k + 1 holds over the states with these slots for the carried variables
 abbrev pub Seating : Model → List ℕ → States → ℕ → ℕ → ℕ → (ℕ → ℕ) → Type 0
-Seating m w s k e f σ = Shows (row s) (table_of w) σ (get_or (question_of m) k []) × Seats m k σ e f
+Seating m w s k e f σ = Shows (row s) (table_of w) σ (slice_index_or (question_of m) k []) × Seats m k σ e f
 
 -- THE PLACE OF A MEETING: stage k + 1 holds over the states for some σ with these slots, and is met with their objects
 abbrev pub Met : Model → States → Cast → ℕ → ℕ → ℕ → List Place → Type 0
-Met m s cast k e f ps = (σ : ℕ → ℕ) × Meets (program_of m) (row s) σ (get_or (question_of m) k []) × Seats m k σ e f × (ps ≡ gathering m cast nobody k σ ∷ [])
+Met m s cast k e f ps = (σ : ℕ → ℕ) × Meets (program_of m) (row s) σ (slice_index_or (question_of m) k []) × Seats m k σ e f × (ps ≡ gathering m cast nobody k σ ∷ [])
 
 -- STAGE 1 with an object for its first variable
 abbrev pub first_variable : Model → ℕ
@@ -116,5 +111,5 @@ Opens m w s rows j e f σ = Seating m w s 0 e f σ × (in_row rows j (σ (first_
 
 -- the answer is a choice for which stage 1 holds with slot u for its first variable and slots e and f for the carried ones, or that there is none. Where the first variable is carried it has its own slot, whatever u is.
 abbrev pub Attempts : Model → List ℕ → States → ℕ → ℕ → ℕ → prelude.Option Choice → Type 0
-Attempts m w s u e f r = (free one fixed : Choice) × ((x : ℕ) → chosen free x ≡ limit.none) × Names (stage_at m 0) (first_variable m) u free one × NamesBoth m 0 e f one fixed
+Attempts m w s u e f r = (free one fixed : Choice) × ((x : ℕ) → element_of free x ≡ prelude.None) × Names (stage_at m 0) (first_variable m) u free one × NamesBoth m 0 e f one fixed
     × Seeks (row s) w (stage_body m.literals (stage_at m 0)) (stage_at m 0).variables fixed r

@@ -12,8 +12,8 @@ ghost use Rattle.facts_bits.specs.Width as width;
 ghost use Rattle.facts_table.specs.Table.{Consistent, Rows};
 ghost use Rattle.facts_candidates.specs.Choices.{chosen, Own};
 ghost use Rattle.search_states.specs.States.{row};
-ghost use Rattle.facts_holds.specs.Shows.{Evaluable};
-ghost use Rattle.witness_meetings.specs.Meetings.{Known, Written, Numbers, Spots, Names, NamesBoth, meeting, Seeks, Numbered, Behind, Takes, gathering, Chooses, Seating, Met, first_variable, Opens, Attempts};
+ghost use Rattle.facts_holds.specs.Shows.{Seeks};
+ghost use Rattle.witness_meetings.specs.Meetings.{Known, Written, Numbers, Spots, Names, NamesBoth, meeting, Numbered, Behind, Takes, gathering, Chooses, Seating, Met, first_variable, Opens, Attempts};
 
 use facts_bits::WIDTH;
 use facts_candidates::Choice;
@@ -72,30 +72,6 @@ fn name_first(m: Model, e: usize, c: Choice) -> Choice
     name(stage, stage.numbers[0], e, c)
 }
 
-// A choice of found states, with the fixed ones, for which a body holds, if there is one.
-// That each slot stands for itself stays a clause: facts_find takes any slice of slots, and a struct with this invariant would be opened for each of its calls.
-fn seek(
-    work: &[u8],
-    slots: &[u8],
-    n: usize,
-    literals: &[u32],
-    part: Part,
-    fixed: Choice,
-) -> Option<Choice>
-    requires { Consistent work.now × Own width.slots slots.now × (n ≤ width.slots) × Evaluable literals.now part }
-    ensures { (S : List ℕ) → Rows S work.now → length S ≡ n → Seeks S work.now (body_at literals.now part.first part.count) part.variables fixed result }
-{
-    let first = part.first;
-    facts_find::find(
-        work,
-        &slots[..n],
-        &literals[first..],
-        part.count,
-        part.variables,
-        fixed,
-    )
-}
-
 // A choice of found states, with the fixed ones, that meets stage k + 1, if there is one.
 // The work area, the slots, the model and the states stay apart, with what is known of them in clauses: other functions here read the model alone, and the evaluator takes the area and the slots by themselves.
 fn seek_stage(
@@ -109,13 +85,8 @@ fn seek_stage(
     requires { Known m work.now s × Own width.slots slots.now × (k < m.stagecount) }
     ensures { Seeks (row s) work.now (stage_body m.literals (stage_at m k)) (stage_at m k).variables fixed result }
 {
-    let stage = m.stages[k];
-    let part = Part {
-        first: stage.first,
-        count: stage.count,
-        variables: stage.variables as usize,
-    };
-    seek(work, slots, s.count, &m.literals, part, fixed)
+    let part = Part::from(m.stages[k]);
+    facts_holds::seek(work, slots, s.count, &m.literals, part, fixed)
 }
 
 // A choice of found states that meets stage k + 1, with the carried objects in these slots where their variables stand in it.
@@ -132,7 +103,7 @@ fn choose(
     requires { Known m work.now s × Own width.slots slots.now × (k < m.stagecount) × ((σ : ℕ → ℕ) × Seating m work.now s k first second σ) }
     ensures { (σ : ℕ → ℕ) × Seating m work.now s k first second σ × Chooses (stage_at m k) result σ }
 {
-    let free = facts_holds::free();
+    let free = facts_candidates::free();
     let fixed = name_both(m, k, first, second, free);
     let Some(c) = seek_stage(work, slots, m, s, k, fixed) else {
         // A level's pair has a choice that meets the stage.
@@ -148,8 +119,9 @@ fn behind(n: usize, base: u32, c: Choice) -> Choice
 {
     let mut r = c;
     for x in 0..n {
-        let e = facts_candidates::element(c, x);
-        r = facts_candidates::choose(r, x, base as usize + e);
+        if let Some(e) = facts_candidates::element(c, x) {
+            r = facts_candidates::choose(r, x, base as usize + e);
+        }
     }
     r
 }
@@ -218,7 +190,7 @@ fn attempt(
     requires { Known m work.now s × Own width.slots slots.now }
     ensures { Attempts m work.now s u first second result }
 {
-    let free = facts_holds::free();
+    let free = facts_candidates::free();
     let one = name_first(m, u, free);
     let fixed = name_both(m, 0, first, second, one);
     seek_stage(work, slots, m, s, 0, fixed)

@@ -9,13 +9,14 @@ use native.Mathlib.Omega.{arith}
 use native.Mathlib.Nat.{mul-le-mul}
 use lib.Dec.{eqb}
 use lib.ListN.{length, get_or, length-append}
+use Rattle.std.proofs.lemmas.Bool.{cases_Bool}
 use Rattle.limits.specs.Limits as limit
 use Rattle.semantics.specs.Models.{elem, vars, names, shared}
 use Rattle.semantics.specs.Facts.{state, Meets}
 use Rattle.semantics.specs.Runs.{Place, meet, nobody}
 use Rattle.semantics.specs.Building.{lineage}
 use Rattle.semantics.specs.Walkers.{Stand, follow, stood, but, acting, who, Touches}
-use Rattle.semantics.proofs.Tools.{either, clash, elem-here, or_right, no_none, firsts-among}
+use Rattle.semantics.proofs.Tools.{clash, elem-here, or_right, no_none, firsts-among}
 use Rattle.semantics.proofs.WalkersSound.{touches-append}
 use Rattle.model.specs.declared.Model.{Model}
 use Rattle.model.specs.Records.{program_of, question_of, carried_at}
@@ -113,7 +114,7 @@ module _ (m : Model) (w : List ℕ) (s : States) (known : Known m w s) (cast : C
           → there (chosen m v (suc k)) (state (row s) e) ≡ cond (elem x (vars (get_or (question_of m) k []))) (follow (shared (question_of m) x) (there (chosen m v k) (state (row s) e)) (state (row s) (σ x))) (there (chosen m v k) (state (row s) e))
       stood-cell v e seat x q = rw q (⊎_elim
           (λ (z : holder m v k ≡ true). rw (z, carried-own m known.model v k z, seat z, or_right (chosen m v k) true refl) refl)
-          (λ (z : holder m v k ≡ false). rw (z, or_nothing (chosen m v k)) refl) (either (holder m v k)))
+          (λ (z : holder m v k ≡ false). rw (z, or_nothing (chosen m v k)) refl) (cases_Bool (holder m v k)))
 
       -- and for any other
       stood-neither : (x : ℕ) → x ≢ carried_at m 0 → x ≢ carried_at m 1 → g.stand x ≡ cond (elem x (vars (get_or (question_of m) k []))) (follow (shared (question_of m) x) (g.stand x) (state (row s) (σ x))) (g.stand x)
@@ -275,7 +276,7 @@ module _ (m : Model) (w : List ℕ) (s : States) (rows table steps ways : List �
 
         -- where the first object is made, the second is not there yet
         alone : chosen m 0 k ≡ false → chosen m 1 k ≡ false
-        alone z = ⊎_elim (λ q. clash (first-there m rec.known.model k q) z) (λ q. q) (either (chosen m 1 k))
+        alone z = ⊎_elim (λ q. clash (first-there m rec.known.model k q) z) (λ q. q) (cases_Bool (chosen m 1 k))
 
         stays : (d c : Bool) (a b : ℕ) → Moved ways d c a b → d ≡ false → a ≡ b
         stays false c a b moved q = moved

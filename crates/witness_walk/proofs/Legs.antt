@@ -9,13 +9,13 @@ use native.Mathlib.Omega.{arith}
 use lib.Dec.{eqb}
 use borrow.Author.Tests.{eqb-true}
 use lib.ListN.{length, get_or, set, length-append, length-set}
+use Rattle.std.proofs.lemmas.Bool.{cases_Bool}
 use Rattle.semantics.specs.Models.{names}
 use Rattle.semantics.specs.Facts.{Database, state, Meets}
 use Rattle.semantics.specs.Runs.{Place, meet}
 use Rattle.semantics.specs.Steps.{Steps}
 use Rattle.semantics.specs.Building.{session, Leads, places, lineage, with}
 use Rattle.semantics.specs.Walkers.{Way, Stand, stood, Walking, but, acting}
-use Rattle.semantics.proofs.Tools.{either}
 use Rattle.semantics.proofs.Leads.{leads-plays, steps-lead}
 use Rattle.semantics.proofs.WalkersLegs.{lead-steps, make-steps, stage-met}
 use Rattle.model.specs.declared.Model.{Model}
@@ -28,7 +28,7 @@ use Rattle.witness_walk.specs.Walk.{Post, Ground, Fits, PlaysFrom}
 
 -- what was so is so still
 pub but_same : (f : ℕ → Option ℕ) (x : ℕ) (v : Option ℕ) → f x ≡ v → but f x v ≡ f
-but_same f x v q = fun_ext (λ y. ⊎_elim (λ (z : eqb y x ≡ true). rw z (sym q ∙ ap f (sym (eqb-true y x z)))) (λ (z : eqb y x ≡ false). rw z) (either (eqb y x)))
+but_same f x v q = fun_ext (λ y. ⊎_elim (λ (z : eqb y x ≡ true). rw z (sym q ∙ ap f (sym (eqb-true y x z)))) (λ (z : eqb y x ≡ false). rw z) (cases_Bool (eqb y x)))
 
 -- the places lead from each database at post p to one at post q
 abbrev pub LeadsOn : Model → Ground → Post → List Place → Post → Type 0

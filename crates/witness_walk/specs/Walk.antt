@@ -1,7 +1,7 @@
 -- THE WALK of the carried objects along the levels, from a pair of slots of the last level back.
 -- A slot is a place in the row of found states. One object of each state stands by; the first carried variable's object is made behind them, and then the second's, if they are not there.
 use Rattle.std.specs.Prelude as std
-use Rattle.std.specs.Prelude.{◌≡◌, ◌⊎◌, ◌≢◌, Bool, true, false, cond, List, [], ℕ, suc, ◌+◌, ◌-◌, ◌*◌, ◌≤◌, ◌<◌, length, get_or}
+use Rattle.std.specs.Prelude.{◌≡◌, ◌⊎◌, ◌≢◌, Bool, true, false, if◌then◌else◌, List, [], ℕ, suc, ◌+◌, ◌-◌, ◌*◌, ◌≤◌, ◌<◌, length, slice_index_or}
 use Rattle.std.proofs.Math.Option.{Option, none, some}
 use Rattle.limits.specs.Limits as limit
 use Rattle.semantics.specs.Models.{elem, vars}
@@ -76,7 +76,7 @@ pub record Fits (m : Model) (s : States) (cast : Cast) (until : ℕ) (g : Ground
   pub free : (x i : ℕ) → i < length (row s) → g.given x ≢ some (cast.base + i)
   pub order : (k : ℕ) → until ≤ k → chosen m 0 k ≡ false → cast.second ≡ suc cast.first
   pub alike : (x : ℕ) → g.others x ≡ none → g.stand x ≡ none
-  pub aside : (x k : ℕ) → until ≤ k → elem x (vars (get_or (question_of m) k [])) ≡ true → x ≢ carried_at m 0 → x ≢ carried_at m 1 → g.others x ≡ none
+  pub aside : (x k : ℕ) → until ≤ k → elem x (vars (slice_index_or (question_of m) k [])) ≡ true → x ≢ carried_at m 0 → x ≢ carried_at m 1 → g.others x ≡ none
 
 -- the places are played to the end from the post, whatever database of the ground it is reached with
 abbrev pub PlaysFrom : Model → Ground → Post → List Place → Type 0
@@ -84,7 +84,7 @@ PlaysFrom m g p ps = (d : Database) → Walking g.database g.given d p.states p.
 
 -- x where there is an object
 abbrev pub there : Bool → ℕ → Option ℕ
-there c x = cond c (some x) none
+there c x = if c then some x else none
 
 -- the objects of the two carried variables, where c and d say whether these are there, and the others
 abbrev pub walkers : Model → Cast → Ground → Bool → Bool → ℕ → Option ℕ
@@ -97,7 +97,7 @@ stance m s cast g i k c e d f = record {
   carried = k;
   states = pair m g.stand (there c (state (row s) e)) (there d (state (row s) f));
   objects = walkers m cast g c d;
-  many = cond d (suc cast.second) (cond c cast.second cast.first);
+  many = if d then suc cast.second else (if c then cast.second else cast.first);
 }
 
 -- the same where those are carried that stood in one of these stages
@@ -123,7 +123,7 @@ Source rows ways j stands began e u = (in_row rows j u ≡ true) × Moved ways s
 
 -- the steps that a carried object may have taken before level i, where there are n states: n for its making, and n - 1 before each later meeting, together 1 + i (n - 1)
 abbrev pub ahead : ℕ → ℕ → Bool → ℕ
-ahead n i c = cond c (suc (i * (n - 1))) 0
+ahead n i c = if c then suc (i * (n - 1)) else 0
 
 -- BEHIND the pair e f of level i the run is written: it is played from there to its end, and what is still to come fits
 pub record Behind (m : Model) (s : States) (cast : Cast) (until : ℕ) (rows run₀ run : List ℕ) (i e f at : ℕ) : Type 0 where

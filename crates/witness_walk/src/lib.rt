@@ -18,18 +18,10 @@ ghost use Rattle.witness_walk.specs.Walk.{Mapped, Recorded, Ready, Errand, effor
 use facts_bits::WIDTH;
 use limits::LISTED;
 use model::{Model, Place};
-use search_levels::LEVELS;
+use search_levels::{LEVELS, Pair};
 use search_states::States;
 use search_ways::{MATRIX, TABLE};
 use witness_meetings::Cast;
-
-// The slots of the two carried objects; a slot says nothing as long as its variable stood in no stage.
-// Slot 0 stays for no slot: the pair is read in the matrix of its level, which has slot 0 there.
-#[derive(Clone, Copy)]
-pub struct Pair {
-    pub first: usize,
-    pub second: usize,
-}
 
 // The slots of the carried objects on a level, and the index at which the place before is written.
 #[derive(Clone, Copy)]
@@ -54,12 +46,7 @@ fn carries(m: Model, v: usize, k: usize) -> bool
     requires { WellFormed m × (v < limit.carried) × (k ≤ m.stagecount) }
     ensures { result ≡ chosen m v k }
 {
-    for i in 0..k {
-        if holds(m, v, i) {
-            return true;
-        }
-    }
-    false
+    (0..k).any(|i| holds(m, v, i))
 }
 
 // Writes the lines as steps of the object, the last first, from index k on. Returns the index behind them.

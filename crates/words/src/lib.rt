@@ -1,23 +1,54 @@
-// The words by which C is told a refusal (include/eon.h).
+// The words by which C is told what a call answers (include/eon.h).
 #![tactic(auto)]
 
-ghost use Rattle.std.specs.Prelude.{◌≡◌};
+ghost use Rattle.std.specs.Prelude.{◌≡◌, ◌<◌};
 ghost use Rattle.rows.specs.Rows.{number_of};
-ghost use Rattle.words.specs.Words.{refusal as word};
+ghost use Rattle.words.specs.Words.{kind_number, code, refusal as refusal_code};
 
 use rows::Refusal;
 
-// The word of a refusal by its number and line: kind 2, and number × 65,536 + line.
+// What kind of answer it is, by the names of include/eon.h.
+#[derive(Clone, Copy)]
+pub enum Kind {
+    Unreached = 0,
+    Reached = 1,
+    Refused = 2,
+    Kept = 3,
+    Broken = 4,
+    Unreadable = 5,
+    Right = 6,
+    Other = 7,
+    Breaks = 8,
+    SaysNo = 9,
+    SaysYes = 10,
+    Strike = 11,
+    NoChoice = 12,
+    Counted = 13,
+    Written = 14,
+    Told = 15,
+    Way = 16,
+    NoWay = 17,
+}
+
+// The word of an answer: kind × 2^32 + value.
+pub fn word(kind: Kind, value: u64) -> u64
+    requires { value < 9223372036854775808 }
+    ensures { result ≡ code (kind_number kind) value }
+{
+    kind as u64 * 4_294_967_296 + value
+}
+
+// The word of a refusal by its number and line.
 // The number stays in place of the row: the analyzer's answer has it so, as document 01 writes it.
 pub fn refusal(number: u32, line: u32) -> u64
-    ensures { result ≡ word number line }
+    ensures { result ≡ refusal_code number line }
 {
-    2 * 4_294_967_296 + (number as u64 * 65_536 + line as u64)
+    word(Kind::Refused, number as u64 * 65_536 + line as u64)
 }
 
 // The word of a refusal.
 pub fn refused(r: Refusal) -> u64
-    ensures { result ≡ word (number_of r.row) r.line }
+    ensures { result ≡ refusal_code (number_of r.row) r.line }
 {
     refusal(r.row.number(), r.line)
 }

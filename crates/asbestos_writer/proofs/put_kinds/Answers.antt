@@ -1,6 +1,5 @@
 use native.Mathlib.Nat.{le_antisymm}
 use native.Mathlib.Omega.{arith}
-use borrow.Author.Rules.{rules}
 use Rattle.listing_bytes.proofs.Writing.{writes-none, kept}
 use Rattle.asbestos_writer.proofs.Checks.{kind-proper, kinds-room, written-kind}
 use Rattle.asbestos_writer.proofs.put_kinds.Goals as goal

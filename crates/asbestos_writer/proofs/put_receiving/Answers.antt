@@ -2,7 +2,6 @@ use mathlib.Core.Path.{◌≡◌}
 use native.Mathlib.Numerals.{add-one}
 use native.Mathlib.Omega.{arith}
 use Rattle.listing_bytes.proofs.Writing.{writes-none, after, kept}
-use borrow.Author.Rules.{rules}
 use Prim.Native.Nat.{suc}
 use Rattle.asbestos_writer.proofs.Bytes.{receiving-long}
 use Rattle.asbestos_writer.proofs.put_receiving.Goals as goal

@@ -1,6 +1,5 @@
 -- `put_receiving` meets its contract.
 use Rattle.listing_bytes.specs.Writing.{Writes}
-use Prim.Native.Nat.{suc}
 use Rattle.asbestos_writer.specs.Parts.{receiving}
 use Rattle.asbestos_writer.proofs.put_receiving.Given as goal
 

@@ -1,7 +1,6 @@
 use mathlib.Core.Path.{◌≡◌}
 use native.Mathlib.Omega.{arith}
 use Rattle.listing_bytes.proofs.Writing.{writes-none, kept}
-use borrow.Author.Rules.{rules}
 use Prim.Native.Nat.{ℕ, suc}
 use Rattle.asbestos_forms.specs.Forms.{entry_forms}
 use Rattle.asbestos_writer.proofs.Bytes.{row-short, written-each}

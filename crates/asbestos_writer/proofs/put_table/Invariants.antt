@@ -1,7 +1,6 @@
 -- `put_table` meets its contract.
 use Rattle.listing_bytes.specs.Writing.{Writes}
 use Prim.Native.Nat.{ℕ}
-use Rattle.asbestos.specs.Messages.{levels}
 use Rattle.asbestos.specs.Desk.{each}
 use Rattle.asbestos_forms.specs.Forms.{row_forms, printed}
 use Rattle.asbestos_writer.proofs.put_table.Given as goal

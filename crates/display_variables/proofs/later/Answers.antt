@@ -1,4 +1,3 @@
-use native.Mathlib.Omega.{arith}
 use Rattle.display_variables.proofs.Laws.{counted_start, counted-end, counted-old, counted-new, counted-found}
 use Rattle.display_variables.proofs.later.Goals as goal
 use Rattle.display_variables.proofs.later.Goals.{in-Some+else-count-j, in_default}

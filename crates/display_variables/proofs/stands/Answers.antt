@@ -1,13 +1,16 @@
-use mathlib.Core.Path.{sym, ◌∙◌}
-use Rattle.display_variables.proofs.Laws.{stands-step}
+use mathlib.Core.Path.{refl, ◌∙◌}
+use Prim.Native.Nat.{◌-◌}
+use native.Mathlib.Omega.{arith}
+use Rattle.std.proofs.Common.{rules, tests}
+use Rattle.std.proofs.lemmas.Iterator.{YieldsList-from_range}
+use Rattle.std.proofs.lemmas.Iterator.Search.{any_from_yields_List}
+use Rattle.grammar.specs.Declarations.{member}
+use Rattle.display_variables.specs.Order.{behind_at}
+use Rattle.display_variables.proofs.Laws.{stands-any}
 use Rattle.display_variables.proofs.stands.Goals as goal
 
-pub returns-then-is_behind : goal.returns-then-is_behind
-returns-then-is_behind c =
+pub returns : goal.returns
+returns c =
     let a = c.args in
-    sym (c.loop-i.invariant ∙ (stands-step a.line.now c.loop-i.i a.to a.name.now c.loop-i-test.true c.requires.1 ∙ rw (sym c.is_behind.ensures ∙ c.if-is_behind.true)))
-
-pub loop-i-preserved : goal.loop-i-preserved
-loop-i-preserved c =
-    let a = c.args in
-    c.loop-i.invariant ∙ (stands-step a.line.now c.loop-i.i a.to a.name.now c.loop-i-test.true c.requires.1 ∙ rw (sym c.is_behind.ensures ∙ c.if-is_behind.false))
+    any_from_yields_List (λ i. member a.name.now (behind_at a.line.now i)) _ _ c.any.result c.any.ensures.ran (YieldsList-from_range a.from a.to (a.to - a.from) refl refl) (λ x b q k. search (rules, tests))
+    ∙ stands-any a.line.now a.name.now (a.to - a.from) a.from (omega (arith, c.requires))

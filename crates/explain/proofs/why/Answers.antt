@@ -4,13 +4,14 @@ use mathlib.Core.Option.{some}
 use native.Mathlib.Omega.{arith}
 use borrow.Author.Rules.{rules}
 use lib.ListN.{length, take}
+use lib.Seq.{length-take-le}
 use Rattle.semantics.specs.Runs as runs
 use Rattle.model.specs.Places.{place_of}
-use Prim.Native.Nat.{ℕ}
+use Prim.Native.Nat.{ℕ, ◌≤◌}
 use Rattle.replay_view.specs.declared.View.{View}
 use Rattle.replay_view.specs.Views.{row_of}
 use Rattle.replay_steps.specs.Tries.{Rests, Sees, Lent}
-use Rattle.replay_places.proofs.Looking.{fits-small}
+use Rattle.replay_places.proofs.Looking.{taken-small}
 use Rattle.replay_runs.proofs.Running.{row-length}
 use Rattle.explain.proofs.why.Goals as goal
 use Rattle.explain.proofs.why.Goals.{Start}
@@ -33,7 +34,9 @@ lent s v w need sees rests =
     }
 
 pub arrange-v-requires : goal.arrange-v-requires
-arrange-v-requires c = let a = c.args in let f = c.requires.1 in (f.objects, omega (arith, f.objects, long (goal.at.arrange-v-requires c).Start), fits-small a.m a.s c.requires.0 f, omega (arith, c.requires.3))
+arrange-v-requires c = let a = c.args in let f = c.requires.1 in
+    let few : a.s.objects ≤ length a.s.states = omega (arith, f.objects, long (goal.at.arrange-v-requires c).Start) in
+    (omega (arith, f.objects, length-take-le a.s.objects a.s.states few), taken-small a.m a.s c.requires.0 f few, omega (arith, c.requires.3))
 
 pub needs-need-requires : goal.needs-need-requires
 needs-need-requires c = c.requires.0

@@ -8,6 +8,3 @@ coded-requires c =
     let a = c.args in
     let w = c.write in
     short-text (kinds_of a.kinds.now a.count) a.port a.level a.out.now w.result w.new.out w.ensures.0
-
-pub returns : goal.returns
-returns c = let w = c.write in record { answer = w.result; desks = w.ensures.0; keeps = w.ensures.1; number = c.coded.ensures }

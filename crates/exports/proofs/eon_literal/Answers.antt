@@ -1,21 +1,9 @@
 -- `exports::eon_literal` meets its contract.
 use Rattle.display.specs.Shown.{literal_at}
-use Rattle.codes.proofs.Fitting.{part-fits}
-use Rattle.exports.proofs.Parts.{long-line, short-line}
+use Rattle.exports.proofs.Parts.{long-line}
 use Rattle.exports.proofs.eon_literal.Goals as goal
 
 pub returns-then-line-gt-TEXT : goal.returns-then-line-gt-TEXT
 returns-then-line-gt-TEXT c =
     let a = c.args in
     long-line a.line.now (literal_at a.line.now a.stage a.k) c.if-line-gt-TEXT.true
-
-pub spanned-requires : goal.spanned-requires
-spanned-requires c =
-    let a = c.args in
-    part-fits a.line.now (literal_at a.line.now a.stage a.k) c.literal.result c.if-line-gt-TEXT.false c.literal.ensures
-
-pub returns : goal.returns
-returns c =
-    let a = c.args in
-    let r = c.literal in
-    short-line a.line.now (literal_at a.line.now a.stage a.k) r.result c.spanned.result c.if-line-gt-TEXT.false r.ensures c.spanned.ensures

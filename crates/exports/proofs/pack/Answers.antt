@@ -1,7 +1,6 @@
 -- `exports::pack` meets its contract.
 use borrow.Author.Rules.{rules}
 use mathlib.Core.Path.{◌≡◌, ◌∙◌}
-use native.Mathlib.Omega.{arith}
 use lib.ListN.{length}
 use Rattle.exports.proofs.Cells.{cells-filled}
 use Rattle.exports.proofs.pack.Goals as goal
@@ -14,9 +13,6 @@ whole c = search rules
 -- and so has that of the carried objects
 both : (c : Start) → length c.args.s.carried ≡ 2
 both c = search rules
-
-pub copy-requires : goal.copy-requires
-copy-requires c = omega (arith, whole (goal.at.copy-requires c).Start)
 
 pub returns : goal.returns
 returns c = c.copy.ensures ∙ cells-filled c.args.s (whole (goal.at.returns c).Start) (both (goal.at.returns c).Start)

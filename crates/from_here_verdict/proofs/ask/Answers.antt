@@ -21,4 +21,4 @@ pub returns : goal.returns
 returns c =
     let a = c.args in
     let f = c.in-Some.ensures.0 in
-    inr (f.explored.few, (c.conclude-answer.ensures, listed a.m a.s a.object c.requires.0 _ _ f))
+    rw c.with_states.ensures (inr (f.explored.few, (c.conclude-answer.ensures, listed a.m a.s a.object c.requires.0 _ _ f)))

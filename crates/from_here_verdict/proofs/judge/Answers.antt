@@ -1,29 +1,24 @@
-use borrow.Author.Tests.{not-true, not-false}
-use mathlib.Core.Path.{refl, subst}
+use mathlib.Core.Path.{refl}
 use mathlib.Core.Logic.{inl}
-use mathlib.Core.Bool.{Bool}
 use Prim.Native.Nat.{◌<◌}
 use native.Mathlib.Omega.{arith}
-use lib.ListN.{length}
 use Rattle.model.specs.Records.{stage_at}
-use Rattle.replay_runs.specs.Endings.{Stopped}
-use Rattle.from_here_places.specs.Stands.{Stands}
 use Rattle.from_here_verdict.proofs.Laws.{not-created, without-variable, too_many, told}
 use Rattle.from_here_verdict.proofs.judge.Goals as goal
 use Rattle.from_here_verdict.proofs.judge.Goals.{Else-first-eq0}
 
 pub returns-in_default : goal.returns-in_default
-returns-in_default c = inl ((λ t l k. c.in_default.ensures t l), (c.refuse.ensures, refl))
+returns-in_default c = inl ((λ t l k. c.in_default.ensures t l), (rw (c.refusal.ensures.0, c.refusal.ensures.1) at c.refuse.ensures, refl))
 
 pub returns-then-object-s : goal.returns-then-object-s
 returns-then-object-s c =
     let a = c.args in
-    not-created a.m c.requires.0 a.places.now _ c.in-Some.ensures a.object _ _ _ c.if-object-s.true (c.refuse-then-object-s.ensures, refl)
+    not-created a.m c.requires.0 a.places.now _ c.in-Some.ensures a.object _ _ _ c.if-object-s.true (rw (c.refusal-then-object-s.ensures.0, c.refusal-then-object-s.ensures.1) at c.refuse-then-object-s.ensures, refl)
 
 pub returns-then-first-eq0 : goal.returns-then-first-eq0
 returns-then-first-eq0 c =
     let a = c.args in
-    without-variable a.m c.requires.0 a.places.now _ c.in-Some.ensures a.object _ _ _ c.if-object-s.false c.if-first-eq0.true (c.refuse-then-first-eq0.ensures, refl)
+    without-variable a.m c.requires.0 a.places.now _ c.in-Some.ensures a.object _ _ _ c.if-object-s.false c.if-first-eq0.true (rw (c.refusal-then-first-eq0.ensures.0, c.refusal-then-first-eq0.ensures.1) at c.refuse-then-first-eq0.ensures, refl)
 
 -- stage 1 has a variable
 some : (c : Else-first-eq0) → 0 < (stage_at c.args.m 0).variables
@@ -32,7 +27,7 @@ some c = omega (arith, c.if-first-eq0.false)
 pub returns-then-s-gt-EARLIER : goal.returns-then-s-gt-EARLIER
 returns-then-s-gt-EARLIER c =
     let a = c.args in
-    too_many a.m c.requires.0 a.places.now _ c.in-Some.ensures a.object _ _ _ c.if-object-s.false (some (goal.at.returns-then-s-gt-EARLIER c).Else-first-eq0) c.if-s-gt-EARLIER.true (c.refuse-then-s-gt-EARLIER.ensures, refl)
+    too_many a.m c.requires.0 a.places.now _ c.in-Some.ensures a.object _ _ _ c.if-object-s.false (some (goal.at.returns-then-s-gt-EARLIER c).Else-first-eq0) c.if-s-gt-EARLIER.true (rw (c.refusal-then-s-gt-EARLIER.ensures.0, c.refusal-then-s-gt-EARLIER.ensures.1) at c.refuse-then-s-gt-EARLIER.ensures, refl)
 
 pub ask-requires : goal.ask-requires
 ask-requires c =

@@ -18,7 +18,7 @@ loop-e-init c = (length-replicate {A = ℕ} width.bytes 0, λ S z x. row-none _)
 
 pub meets-requires : goal.meets-requires
 meets-requires c =
-    (c.requires.2, c.slots-slots.ensures, omega (arith, c.requires.1.count), evaluable c.args.m c.requires.0 c.requires.4, c.requires.4.1, omega (arith, c.requires.1.count, c.loop-e-test.true))
+    rw c.from-part.ensures (c.requires.2, c.slots-slots.ensures, omega (arith, c.requires.1.count), evaluable c.args.m c.requires.0 c.requires.4, c.requires.4.1, omega (arith, c.requires.1.count, c.loop-e-test.true))
 
 pub loop-e-preserved : goal.loop-e-preserved
 loop-e-preserved c =
@@ -27,7 +27,7 @@ loop-e-preserved c =
       elim (c.if-meets.branch) [ then-meets w ↦ ap length (w.met-is ∙ w.put.ensures) ∙ (with-bit-length l.met l.e ∙ l.invariant.0) | else-meets w ↦ ap length w.met-is ∙ l.invariant.0 ],
       λ S z x.
           let law = shows-met a.m c.requires.0 c.requires.4 S a.work.now x l.e in
-          let told = c.meets.ensures S x.states z in
+          let told = rw c.from-part.ensures at (c.meets.ensures S x.states z) in
           let p = l.invariant.1 S z x in
           elim (c.if-meets.branch) [ then-meets w ↦ subst (λ (r : List ℕ). Below (Met a.m S) (l.e + 1) r) (sym (w.met-is ∙ w.put.ensures)) (row_more (Met a.m S) l.e l.met p (law.0 (told.0 w.if-meets.true)) (omega (arith, c.requires.1.count, l.invariant.0))) | else-meets w ↦ subst (λ (r : List ℕ). Below (Met a.m S) (l.e + 1) r) (sym w.met-is) (row-skip (Met a.m S) l.e l.met p (λ d. clash (told.1 (law.1 d)) w.if-meets.false)) ],
     )

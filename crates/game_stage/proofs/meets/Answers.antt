@@ -16,7 +16,7 @@ returns c =
     let k = c.choose-fixed in
     λ S R n.
     let told = c.shows.ensures S R n in
-    let law = fixed-one c.free-free.result k.result c.args.e c.requires.5 c.free-free.ensures k.ensures in (
+    let law = fixed-one c.free-free.result k.result c.args.e k.ensures in (
       (λ q. let z = told.0 q in (z.0, (law z.0).0 (subst (λ (v : ℕ). Fixed v k.result z.0) c.requires.4 z.2), z.1)),
       λ q. told.1 (q.0, q.2, subst (λ (v : ℕ). Fixed v k.result q.0) (sym c.requires.4) ((law q.0).1 q.1)),
     )

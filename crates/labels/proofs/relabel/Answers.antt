@@ -4,8 +4,9 @@ use native.Mathlib.Nat.{le_trans}
 use native.Mathlib.Omega.{arith}
 use lib.Bits.{bit_or}
 use lib.Pow.{pow_mono}
+use Rattle.std.proofs.lemmas.Nat.{one_shl}
 use Rattle.semantics.specs.Labels.{relabel, union}
-use Rattle.labels.proofs.Laws.{Done, done_none, done-set, done-clear, shl_one, none_left, done_all}
+use Rattle.labels.proofs.Laws.{Done, done_none, done-set, done-clear, none_left, done_all}
 use Rattle.labels.proofs.relabel.Goals as goal
 use Rattle.labels.proofs.relabel.Goals.{else-keeps, then-keeps}
 
@@ -28,7 +29,7 @@ loop-relation-preserved c =
     let below = c.loop-relation-test.true in
     let t = relabel a.state a.plus a.minus in
     let k = c.keeps.ensures in
-    elim (c.if-keeps.branch) [ then-keeps w ↦ subst (Done t (l.relation + 1)) (sym (w.after-is ∙ ap (bit_or l.after) (shl_one l.relation (omega (arith, below))))) (done-set t l.relation l.after l.invariant (sym k ∙ w.if-keeps.true)) | else-keeps w ↦ subst (Done t (l.relation + 1)) (sym w.after-is) (done-clear t l.relation l.after l.invariant (sym k ∙ w.if-keeps.false)) ]
+    elim (c.if-keeps.branch) [ then-keeps w ↦ subst (Done t (l.relation + 1)) (sym (w.after-is ∙ ap (bit_or l.after) (one_shl l.relation 32 (omega (arith, below))))) (done-set t l.relation l.after l.invariant (sym k ∙ w.if-keeps.true)) | else-keeps w ↦ subst (Done t (l.relation + 1)) (sym w.after-is) (done-clear t l.relation l.after l.invariant (sym k ∙ w.if-keeps.false)) ]
 
 pub returns : goal.returns
 returns c =

@@ -1,17 +1,13 @@
 use mathlib.Core.Path.{◌∙◌}
-use native.Mathlib.Omega.{arith}
 use Rattle.lines.specs.Lines.{line_at}
-use Rattle.lines.proofs.Laws.{few-clauses, clause-line, no_line}
+use Rattle.lines.proofs.Laws.{few-clauses, lent-line}
 use Rattle.lines.proofs.line.Goals as goal
 
-pub clause-requires : goal.clause-requires
-clause-requires c = (omega (arith, c.if-i-m.true), few-clauses c.args.text.now _ c.in-Ok.ensures c.args.i)
+pub shared_ref_as_front-describe_at : goal.shared_ref_as_front-describe_at
+shared_ref_as_front-describe_at c = few-clauses c.args.text.now _ c.in-Ok.ensures c.args.i
 
-pub returns-then-i-m : goal.returns-then-i-m
-returns-then-i-m c = c.clause.ensures ∙ clause-line c.args.text.now _ c.in-Ok.ensures c.args.i c.if-i-m.true
-
-pub returns-else-i-m : goal.returns-else-i-m
-returns-else-i-m c = no_line c.args.text.now _ c.in-Ok.ensures c.args.i c.if-i-m.false
+pub returns-in-Ok : goal.returns-in-Ok
+returns-in-Ok c = c.describe_at.ensures ∙ lent-line c.args.text.now _ c.in-Ok.ensures c.args.i
 
 pub returns-in-Err : goal.returns-in-Err
 unfolding line_at

@@ -1,13 +1,8 @@
 -- `listing::atomic_line` meets its contract.
-use borrow.Author.Rules.{rules}
 use native.Mathlib.Omega.{arith}
-use Rattle.limits.specs.Limits as limit
 use Rattle.listing_lines.specs.Lines.{names_in, atomic_line}
 use Rattle.listing_bytes.specs.Forms.{items}
-use Rattle.listing_lines.proofs.Items.{names-room}
 use Rattle.listing_bytes.proofs.Writing.{after, whole-line}
-use mathlib.Core.Path.{◌≡◌}
-use lib.ListN.{length}
 use Rattle.listing_lines.proofs.atomic_line.Goals as goal
 
 pub put_end-requires : goal.put_end-requires

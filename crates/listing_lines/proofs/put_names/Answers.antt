@@ -1,12 +1,12 @@
 use mathlib.Core.Path.{◌≡◌, sym, ◌∙◌}
 use mathlib.Core.List.{[], append-nil}
-use native.Mathlib.Nat.{le_antisymm}
 use native.Mathlib.Numerals.{add-one}
 use native.Mathlib.Omega.{arith}
-use lib.ListN.{length, get_or, drop}
+use lib.ListN.{length, drop}
 use Rattle.std.proofs.lemmas.List.{length-take}
 use Rattle.limits.specs.Limits as limit
-use Rattle.listing_bytes.proofs.Writing.{writes-none, item, kept, slice-part}
+use Rattle.model.specs.Records.{name_of}
+use Rattle.listing_bytes.proofs.Writing.{item, kept, slice-part}
 use borrow.Author.Rules.{rules}
 use Prim.Native.Nat.{◌<◌, ◌+◌, ◌-◌, ◌≤◌}
 use Rattle.listing_lines.specs.Lines.{names_in}
@@ -28,8 +28,8 @@ loop-i-preserved c =
     let l = c.loop-i in
     let h = c.has in
     let m = a.m.now in
-    let start = get_or m.names l.i 0 in
-    let end = start + get_or m.lengths l.i 0 in
+    let start = (name_of m l.i).start in
+    let end = start + (name_of m l.i).len in
     let ordered : start ≤ end = omega arith in
     let inside : l.i < m.relations.count = omega arith in
     let whole : length m.relations.codes ≡ limit.declared = search rules in

@@ -1,14 +1,19 @@
 use mathlib.Core.Path.{◌≡◌, refl, sym, ◌∙◌, subst}
 use mathlib.Core.List.{[], ◌∷◌}
-use Prim.Native.Nat.{suc}
+use Prim.Native.Nat.{suc, ◌<◌}
 use native.Mathlib.Omega.{arith}
 use Rattle.semantics.specs.Runs.{meet}
 use Rattle.model.specs.Places.{objects}
-use Rattle.model.specs.Records.{stage_at}
+use Rattle.std.specs.Prelude.{Some, None}
+use Rattle.model.specs.Records.{stage_at, stage_body}
 use Rattle.model.proofs.Accepted.{stage_body_lem}
+use Rattle.facts_candidates.specs.declared.Choice.{Choice}
+use Rattle.facts_candidates.specs.Choices.{chosen}
+use Rattle.facts_find.specs.Bodies.{Decides}
 use Rattle.replay_session.specs.Sessions.{Says, session_in}
-use Rattle.replay_meetings.specs.Carried.{AllAgree}
-use Rattle.replay_meetings.proofs.Objects.{choice, chosen-small}
+use Rattle.replay_steps.specs.Tries.{Holding}
+use Rattle.replay_meetings.specs.Carried.{choice_of, AllNamed, AllAgree}
+use Rattle.replay_meetings.proofs.Objects.{chosen-small}
 use Rattle.replay_meetings.proofs.Meetings.{named-cells, part-within, part-supported, slots-enough, other-stage, other-count, not-held, disagrees, meeting-kept}
 use Rattle.replay_meetings.proofs.meet_place.Goals as goal
 
@@ -25,14 +30,14 @@ returns-then-count-g-clause-tried_by c =
 pub all_named-objects-requires : goal.all_named-objects-requires
 all_named-objects-requires c =
     let a = c.args in let l = c.requires.0.2 in
-    ((l.ready.accepted.stage a.at.met l.left).part.few, λ x. chosen-small a.first a.second a.third x c.requires.1 c.requires.2 c.requires.3)
+    ((l.ready.accepted.stage a.at.met l.left).part.few, λ x. subst (λ (k : Choice). chosen k x < 256) (sym c.choice-fixed.ensures) (chosen-small a.first a.second a.third x c.requires.1 c.requires.2 c.requires.3))
 
 pub returns-then-not-all_agree-clause-tried_by : goal.returns-then-not-all_agree-clause-tried_by
 returns-then-not-all_agree-clause-tried_by c =
     let a = c.args in let e1 = c.if-stage-i.false in let next : a.stage ≡ suc a.at.met = omega arith in let count = sym c.count.ensures ∙ c.if-count-g.false in
     let f = c.all_named-objects in
     λ v states l.
-    let found = named-cells a.m.now l.ready.accepted (stage_at a.m.now a.at.met) (choice a.first a.second a.third) f.result f.ensures in
+    let found = named-cells a.m.now l.ready.accepted (stage_at a.m.now a.at.met) (choice_of a.first a.second a.third) f.result (subst (λ (k : Choice). AllNamed a.m.now.carried (stage_at a.m.now a.at.met) k f.result) c.choice-fixed.ensures f.ensures) in
     let n = subst (Says (AllAgree a.at.carried f.result)) c.if-not-all_agree.true c.all_agree.ensures in
     disagrees a.m.now (session_in states a.at) v a.work.now l.ready l.left a.first a.second a.third a.stage next count f.result found n
 
@@ -51,7 +56,9 @@ returns-in_err-decide-clause-tried_by c =
     let a = c.args in let e1 = c.if-stage-i.false in let next : a.stage ≡ suc a.at.met = omega arith in let count = sym c.count.ensures ∙ c.if-count-g.false in
     rw c.from_residual.ensures (λ v states l.
     let z = session_in states a.at in
-    not-held a.m.now z v a.work.now l.ready l.left a.first a.second a.third a.stage next count (c.in_err-decide.ensures a.m.now v z l.ready (l.rests a.at.met l.left next) l.seats refl))
+    let g = stage_at a.m.now a.at.met in
+    not-held a.m.now z v a.work.now l.ready l.left a.first a.second a.third a.stage next count
+    (subst (λ (k : Choice). Decides g.variables (Holding a.m.now z (stage_body a.m.now.literals g) g.variables k) None) c.choice-fixed.ensures (c.in_err-decide.ensures a.m.now v z l.ready (l.rests a.at.met l.left next) l.seats refl)))
 
 pub overflow_add-result-2 : goal.overflow_add-result-2
 overflow_add-result-2 c = record { fits = omega (arith, c.requires.0.2.ready.room) }
@@ -62,7 +69,8 @@ returns-clause-tried_by c =
     let f = c.all_named-objects in
     λ v states l.
     let z = session_in states a.at in
-    let found = named-cells a.m.now l.ready.accepted (stage_at a.m.now a.at.met) (choice a.first a.second a.third) f.result f.ensures in
+    let found = named-cells a.m.now l.ready.accepted (stage_at a.m.now a.at.met) (choice_of a.first a.second a.third) f.result (subst (λ (k : Choice). AllNamed a.m.now.carried (stage_at a.m.now a.at.met) k f.result) c.choice-fixed.ensures f.ensures) in
     let agree = subst (Says (AllAgree a.at.carried f.result)) c.if-not-all_agree.false c.all_agree.ensures in
-    let held = c.in_ok-decide.ensures a.m.now v z l.ready (l.rests a.at.met l.left next) l.seats refl in
+    let g = stage_at a.m.now a.at.met in
+    let held = subst (λ (k : Choice). Decides g.variables (Holding a.m.now z (stage_body a.m.now.literals g) g.variables k) (Some c.in_ok-decide.field-0)) c.choice-fixed.ensures (c.in_ok-decide.ensures a.m.now v z l.ready (l.rests a.at.met l.left next) l.seats refl) in
     meeting-kept a.m.now z v a.work.now l.ready l.left a.first a.second a.third a.stage next count f.result found agree c.carry_all.result c.carry_all.ensures _ held.good

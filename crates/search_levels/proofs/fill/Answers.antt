@@ -15,7 +15,7 @@ use Rattle.search_states.proofs.Laws.{length-row}
 use Rattle.std.specs.Prelude.{Option}
 use Rattle.search_levels.specs.declared.Meeting.{Meeting}
 use Rattle.search_levels.specs.Levels.{levels_bytes, chosen, pair_at, Passed}
-use Rattle.search_levels.specs.Passing.{besides, Led, Met, Ready, meeting_of, Clear}
+use Rattle.search_levels.specs.Passing.{stands, besides, Led, Met, Ready, meeting_of, Clear}
 use Rattle.search_levels.proofs.Stages.{numbers-long, stage-ready, chosen-after, passed-stage}
 use Rattle.search_levels.proofs.Filling.{begun, begun-clear, passed-more}
 use Rattle.search_levels.proofs.fill.Goals as goal
@@ -68,8 +68,8 @@ loop-k-preserved c =
     let w = c.pass.ensures.0 in (
       l.invariant.0,
       w.long ∙ l.invariant.1,
-      c.after-first.ensures ∙ ap (λ (t : Meeting). t.first.chosen || t.first.stands) (met-as (goal.at.loop-k-preserved c).After-asked-t) ∙ chosen-after a.m c.requires.0 l.k here 0 ∙ ap (chosen a.m 0) e,
-      c.after-second.ensures ∙ ap (λ (t : Meeting). t.second.chosen || t.second.stands) (met-as (goal.at.loop-k-preserved c).After-asked-t) ∙ chosen-after a.m c.requires.0 l.k here 1 ∙ ap (chosen a.m 1) e,
+      c.after-first.ensures ∙ ap (λ (t : Meeting). t.first.chosen || stands t.first) (met-as (goal.at.loop-k-preserved c).After-asked-t) ∙ chosen-after a.m c.requires.0 l.k here 0 ∙ ap (chosen a.m 0) e,
+      c.after-second.ensures ∙ ap (λ (t : Meeting). t.second.chosen || stands t.second) (met-as (goal.at.loop-k-preserved c).After-asked-t) ∙ chosen-after a.m c.requires.0 l.k here 1 ∙ ap (chosen a.m 1) e,
       subst (λ (k : ℕ). Clear (limit.listed * suc k) new) e w.clear,
       (λ u v g h. let b = l.invariant.5 u v g h in let z = w.kept (limit.listed * 0 + v) u (omega (arith, h)) g in ((λ q. b.0 (sym z ∙ q)), λ q. z ∙ b.1 q)),
       λ S R n. subst (λ (k : ℕ). (j : ℕ) → j < k → Passed a.m S a.work.now a.ways.now a.p j (pair_at new j) (pair_at new (suc j))) e

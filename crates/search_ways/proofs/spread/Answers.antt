@@ -5,7 +5,8 @@ use mathlib.Core.List.{List}
 use Prim.Native.Nat.{ℕ, ◌+◌}
 use native.Mathlib.Omega.{arith}
 use lib.ListN.{length}
-use Rattle.semantics.proofs.Tools.{clash, either}
+use Rattle.std.proofs.lemmas.Bool.{cases_Bool}
+use Rattle.semantics.proofs.Tools.{clash}
 use Rattle.facts_bits.specs.Width as width
 use Rattle.facts_bits.specs.Bits.{bit_at, in_row}
 use Rattle.search_ways.specs.Moves.{Marks, With, InRow}
@@ -30,6 +31,6 @@ loop-u-preserved c =
             spread-more a.links.now a.layers.now l.layers i a.j l.u l.invariant.1 (p.0 (sym g ∙ w.if-get.true)) _ (λ t. bit_at w.row-row.result t ≡ true) (λ t h. ((λ x. sym (k t (omega arith)) ∙ x), λ x. k t (omega arith) ∙ x))
             (marks-join l.layers i w.row-row.result _ w.widen.ensures.1))
         | else-get w ↦ subst (λ (t : List ℕ). Marks t (With a.layers.now (InRow i width.slots (D (l.u + 1))))) (sym w.layers-is)
-            (spread-skip a.links.now a.layers.now l.layers i a.j l.u l.invariant.1 (⊎_elim (λ (z : in_row a.layers.now a.j l.u ≡ true). clash (p.1 z) (sym g ∙ w.if-get.false)) (λ (z : in_row a.layers.now a.j l.u ≡ false). z) (either (in_row a.layers.now a.j l.u))))
+            (spread-skip a.links.now a.layers.now l.layers i a.j l.u l.invariant.1 (⊎_elim (λ (z : in_row a.layers.now a.j l.u ≡ true). clash (p.1 z) (sym g ∙ w.if-get.false)) (λ (z : in_row a.layers.now a.j l.u ≡ false). z) (cases_Bool (in_row a.layers.now a.j l.u))))
       ],
     )

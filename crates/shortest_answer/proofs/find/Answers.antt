@@ -1,13 +1,14 @@
-use mathlib.Core.Path.{refl}
+use mathlib.Core.Path.{refl, ap}
 use mathlib.Core.Logic.{inl, inr}
 use native.Mathlib.Omega.{arith}
+use Rattle.rows.specs.Rows.{number_of}
 use Rattle.semantics.proofs.Tools.{clash}
 use Rattle.search_states.specs.States.{Known}
 use Rattle.search.specs.Search.{Surveyed}
 use Rattle.std.specs.Prelude.{Some}
 use Rattle.shortest_answer.proofs.Laws.{staying, mapped, answered, unknown}
 use Rattle.shortest_answer.proofs.find.Goals as goal
-use Rattle.shortest_answer.proofs.find.Goals.{In-Some, Else-not-known, Else-not-known-2}
+use Rattle.shortest_answer.proofs.find.Goals.{In-Some, Else-not-known, Else-not-known-2, then-not-known-via-then-not-known, then-not-known-via-else-not-known+then-not-known-2}
 
 -- the states are explored
 surveyed : (c : In-Some) → Surveyed c.args.m c.requires.1.0 c.in-Some.found
@@ -17,7 +18,7 @@ first : (c : Else-not-known) → Known c.in-Some.found.states c.args.from
 first c = let k = c.known in k.ensures.0 (c.if-not-known.false)
 
 second : (c : Else-not-known-2) → Known c.in-Some.found.states c.args.to
-second c = let k = c.known-2 in k.ensures.0 (c.if-not-known-2.false)
+second c = let k = c.known-else-not-known in k.ensures.0 (c.if-not-known-2.false)
 
 pub returns-in_default : goal.returns-in_default
 returns-in_default c = (inl (refl, rw c.in_default.is at c.requires.1.1), refl, refl)
@@ -29,16 +30,23 @@ pub returns-then-not-known : goal.returns-then-not-known
 returns-then-not-known c =
     let a = c.args in
     let k = c.known in
-    (inr (refl, (surveyed (goal.at.returns-then-not-known c).In-Some).few, unknown a.m c.requires.0 c.requires.1.0 c.in-Some.found (surveyed (goal.at.returns-then-not-known c).In-Some) a.from a.to (λ q. clash (k.ensures.1 q.0) (c.if-not-known.true))), refl, refl)
+    let r = c.refusal in
+    let i = (goal.at.returns-then-not-known c).In-Some in
+    let not_both = unknown a.m c.requires.0 c.requires.1.0 c.in-Some.found (surveyed i) a.from a.to in (
+      inr (
+        ap number_of r.ensures.0,
+        (surveyed i).few,
+        elim (c.then-not-known.branch) [
+          | then-not-known-via-then-not-known w ↦ not_both (λ q. clash (k.ensures.1 q.0) (w.if-not-known.true))
+          | then-not-known-via-else-not-known+then-not-known-2 w ↦ let l = w.known-else-not-known in not_both (λ q. clash (l.ensures.1 q.1) (w.if-not-known-2.true))
+        ],
+      ),
+      r.ensures.1,
+      refl,
+    )
 
-pub known-requires-2 : goal.known-requires-2
-known-requires-2 c = (surveyed (goal.at.known-requires-2 c).In-Some).proper
-
-pub returns-then-not-known-2 : goal.returns-then-not-known-2
-returns-then-not-known-2 c =
-    let a = c.args in
-    let k = c.known-2 in
-    (inr (refl, (surveyed (goal.at.returns-then-not-known-2 c).In-Some).few, unknown a.m c.requires.0 c.requires.1.0 c.in-Some.found (surveyed (goal.at.returns-then-not-known-2 c).In-Some) a.from a.to (λ q. clash (k.ensures.1 q.1) (c.if-not-known-2.true))), refl, refl)
+pub known-requires-else-not-known : goal.known-requires-else-not-known
+known-requires-else-not-known c = (surveyed (goal.at.known-requires-else-not-known c).In-Some).proper
 
 pub returns-then-from-to : goal.returns-then-from-to
 returns-then-from-to c =

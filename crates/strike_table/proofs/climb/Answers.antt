@@ -3,12 +3,12 @@ use native.Mathlib.Omega.{arith}
 use borrow.Author.Rules.{rules}
 use Rattle.model.specs.Records.{program_of, question_of}
 use Rattle.strike_list.specs.Lists.{listed}
-use Rattle.strike_table.proofs.Laws.{total-most, next-below, onward-same, onward_then, ready_on}
+use Rattle.strike_table.proofs.Laws.{next-below, onward-same, onward_then, ready_on}
 use Rattle.strike_table.proofs.climb.Goals as goal
-use Rattle.strike_table.proofs.climb.Goals.{else-said-next-eq-REACHED, then-said-next-eq-REACHED}
+use Rattle.strike_table.proofs.climb.Goals.{else-decide, then-decide}
 
 pub loop-i-init : goal.loop-i-init
-loop-i-init c = (search rules, onward-same _ _ _ _ _ c.requires.0.right, refl)
+loop-i-init c = (search rules, onward-same _ _ _ _ c.requires.0.right, refl)
 
 pub overflow_cast-next : goal.overflow_cast-next
 overflow_cast-next c = omega (arith, c.requires.0.few)
@@ -19,19 +19,13 @@ overflow_shl-next c = omega (arith, c.requires.0.few)
 pub decide-requires : goal.decide-requires
 decide-requires c =
     let l = c.loop-i in
-    (ready_on c.args.m c.args.l c.args.total _ _ _ _ c.requires.0 l.invariant.1 l.invariant.2, next-below c.args.l.count l.i l.top c.args.total c.requires.0.all l.invariant.0 (omega arith))
-
-pub overflow_cast-next-in-loop-i : goal.overflow_cast-next-in-loop-i
-overflow_cast-next-in-loop-i c = let l = c.loop-i in omega (arith, next-below c.args.l.count l.i l.top c.args.total c.requires.0.all l.invariant.0 (omega arith), total-most c.args.l.count c.args.total c.requires.0.few c.requires.0.all)
-
-pub bounds-said-next : goal.bounds-said-next
-bounds-said-next c = let l = c.loop-i in omega (arith, next-below c.args.l.count l.i l.top c.args.total c.requires.0.all l.invariant.0 (omega arith), total-most c.args.l.count c.args.total c.requires.0.few c.requires.0.all)
+    (ready_on c.args.m c.args.l _ _ _ _ c.requires.0 l.invariant.1 l.invariant.2, omega (arith, l.invariant.1.long, next-below c.args.l.count l.i l.top _ c.requires.0.all l.invariant.0 (omega arith)))
 
 pub loop-i-preserved : goal.loop-i-preserved
 loop-i-preserved c =
     let l = c.loop-i in
     let d = c.decide in
-    (elim (c.if-said-next-eq-REACHED.branch) [ then-said-next-eq-REACHED w ↦ rw w.top-is (next-below c.args.l.count l.i l.top c.args.total c.requires.0.all l.invariant.0 (omega arith)) | else-said-next-eq-REACHED w ↦ rw w.top-is l.invariant.0 ], onward_then (program_of c.args.m) (question_of c.args.m) (listed c.args.l) c.args.total _ _ _ l.invariant.1 d.ensures.0.onward, d.ensures.1 ∙ l.invariant.2)
+    (elim (c.if-decide.branch) [ then-decide w ↦ rw w.top-is (next-below c.args.l.count l.i l.top _ c.requires.0.all l.invariant.0 (omega arith)) | else-decide w ↦ rw w.top-is l.invariant.0 ], onward_then (program_of c.args.m) (question_of c.args.m) (listed c.args.l) _ _ _ l.invariant.1 d.ensures.0.onward, d.ensures.1 ∙ l.invariant.2)
 
 pub returns : goal.returns
 returns c = (c.loop-i.invariant.1, c.loop-i.invariant.2)

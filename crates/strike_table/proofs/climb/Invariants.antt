@@ -7,4 +7,4 @@ use Rattle.strike_table.specs.Tables.{Onward}
 use Rattle.strike_table.proofs.climb.Given as goal
 
 abbrev pub invariant-loop-i : goal.invariant-loop-i
-invariant-loop-i l = (l.top < l.total) × Onward (program_of l.m) (question_of l.m) (listed l.l) l.total l.initial.said l.said × (length l.facts ≡ length l.initial.facts)
+invariant-loop-i l = (l.top < length l.initial.said) × Onward (program_of l.m) (question_of l.m) (listed l.l) l.initial.said l.said × (length l.facts ≡ length l.initial.facts)

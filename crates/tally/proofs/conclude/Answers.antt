@@ -1,3 +1,7 @@
+use mathlib.Core.Path.{◌≡◌}
+use Prim.Native.Nat.{◌≤◌}
+use lib.ListN.{length}
+use borrow.Author.Rules.{rules}
 use native.Mathlib.Omega.{arith}
 use Rattle.tally.proofs.Laws.{ones-most, tallied}
 use Rattle.tally.proofs.conclude.Goals as goal
@@ -17,4 +21,5 @@ rest-requires c = let t = c.args.c.table in (omega (arith, c.reached-reached.ens
 pub returns : goal.returns
 returns c = λ P Q L d.
     let r = c.reached-reached in
-    rw (c.hundredths.ensures, c.rest.ensures) (tallied P Q L c.args.c.table d.once d.filled r.result r.ensures)
+    let long : c.args.c.table.total ≤ length c.args.c.table.said = (let e : length c.args.c.table.said ≡ 1024 = search rules in omega (arith, c.requires.0)) in
+    rw (c.hundredths.ensures, c.rest.ensures) (tallied P Q L c.args.c.table long d.once d.filled r.result r.ensures)

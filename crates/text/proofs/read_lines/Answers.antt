@@ -10,7 +10,7 @@ pub loop-at-init : goal.loop-at-init
 loop-at-init c =
     let z = c.none-d.ensures in
     let d = c.none-d.result in
-    (c.requires, reached-start d z c.blank-m.ensures (search rules), onwards-start d z c.blank-m.ensures c.args.text.now)
+    (c.requires.0, reached-start d z c.requires.1 (search rules), onwards-start d z c.requires.1 c.args.text.now)
 
 pub line_end-requires : goal.line_end-requires
 line_end-requires c = c.loop-at-test.true
@@ -39,8 +39,8 @@ returns-then-at_bytes c = rw c.loop-at.invariant.2 c.read_question.ensures
 pub slice_bounds-read_line-end : goal.slice_bounds-read_line-end
 slice_bounds-read_line-end c = let h = c.in-Some.ensures.ends in sym (length-take-le c.in-Some.e c.args.text.now (omega arith))
 
-pub read_line-step-requires : goal.read_line-step-requires
-read_line-step-requires c =
+pub read_line-requires : goal.read_line-requires
+read_line-requires c =
     let e = c.in-Some.e in
     let text = c.args.text.now in
     let l = c.in-Some.ensures in
@@ -71,7 +71,7 @@ loop-at-preserved c =
     let i = c.loop-at.invariant in
     let l = c.in-Some.ensures in
     let a = c.at_bytes.ensures.missing c.if-at_bytes.false in
-    let r = c.in-Ok.ensures in
+    let r = c.in_default-read_line.ensures in
     let s = r.steps (λ _. a) (program_of c.loop-at.m) i.1.holds in
     (i.0, reached-on i.1 l s r.aside, i.2 ∙ onwards-on i.1 l s a)
 

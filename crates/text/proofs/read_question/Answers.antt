@@ -15,13 +15,13 @@ read_ask-requires c =
     let so = c.requires.1 in
     let h = c.requires.2.line.ends in
     let k = length-take-le a.e a.text.now (omega arith) in
-    (omega (arith, k, c.requires.2.room), omega arith, omega (arith, k, c.requires.0), valid-there so c.requires.2.line, rw c.fit-f.ensures (fitted-empty a.d a.line so.holds so.stagecount so.stages))
+    (omega (arith, k, c.requires.2.room), omega arith, omega (arith, k, c.requires.0), valid-there so c.requires.2.line, rw c.fit.ensures (fitted-empty a.d a.line so.holds so.stagecount so.stages))
 
 pub returns-in-Err : goal.returns-in-Err
 returns-in-Err c = rw c.refusal.ensures (ask-refused c.requires.1 c.requires.2 c.in-Err.row c.in-Err.ensures)
 
 pub returns-then-e-text : goal.returns-then-e-text
-returns-then-e-text c = rw c.refusal-then-e-text.ensures (ask-followed c.requires.1 c.requires.2 c.in-Ok.ensures c.if-e-text.true)
+returns-then-e-text c = rw c.refusal-then-e-text.ensures (ask-followed c.requires.1 c.requires.2 c.in_default.ensures c.if-e-text.true)
 
-pub returns-else-e-text : goal.returns-else-e-text
-returns-else-e-text c = ask-last c.requires.1 c.requires.2 c.in-Ok.ensures (omega (arith, c.if-e-text.false)) c.fit-f.ensures
+pub returns : goal.returns
+returns c = ask-last c.requires.1 c.requires.2 c.in_default.ensures (omega (arith, c.if-e-text.false)) c.fit.ensures

@@ -19,12 +19,12 @@ read_stage-requires c = (omega (arith, (c.at_byte-in-loop.ensures.found c.if-not
 pub returns-in_err-b : goal.returns-in_err-b
 returns-in_err-b c = rw c.from_residual.ensures (reading-fails c.loop.invariant.0.reading (c.at_byte.ensures.missing c.if-at_byte.false) (c.at_byte-in-loop.ensures.found c.if-not-at_byte.false).1 c.in_err-b.ensures)
 
-pub add-asking-requires : goal.add-asking-requires
-add-asking-requires c = stages-addable c.loop.invariant.0 (omega arith) c.loop.invariant.3 c.in_ok-b.ensures
+pub add-table-requires : goal.add-table-requires
+add-table-requires c = stages-addable c.loop.invariant.0 (omega arith) c.loop.invariant.3 c.in_ok-b.ensures
 
 pub loop-preserved : goal.loop-preserved
 loop-preserved c = (
-  stages-more c.loop.invariant.0 (omega arith) (c.at_byte.ensures.missing c.if-at_byte.false) (c.at_byte-in-loop.ensures.found c.if-not-at_byte.false).1 c.in_ok-b.ensures c.add-asking.ensures,
+  stages-more c.loop.invariant.0 (omega arith) (c.at_byte.ensures.missing c.if-at_byte.false) (c.at_byte-in-loop.ensures.found c.if-not-at_byte.false).1 c.in_ok-b.ensures c.add-table.ensures,
   c.loop.invariant.1,
   c.loop.invariant.2,
   c.loop.invariant.3,

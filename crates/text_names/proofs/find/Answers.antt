@@ -1,23 +1,22 @@
-use mathlib.Core.Path.{refl, sym, ◌∙◌}
+use Prim.Native.Nat.{◌-◌}
 use native.Mathlib.Omega.{arith}
-use lib.Seq.{slice}
-use Rattle.grammar.specs.Declarations.{lookup}
-use Rattle.text_names.proofs.Laws.{find-more, find-hit, find_none}
 use borrow.Author.Rules.{rules}
+use borrow.Author.Tests.{tests}
+use lib.ListN.{take, drop}
+use Rattle.std.specs.Prelude.{None, Some, true, false}
+use Rattle.std.proofs.lemmas.Iterator.{first_from_Range}
+use Rattle.text_scan.proofs.Laws.{slice-part}
+use Rattle.text_names.proofs.Laws.{Named, find_none, find-hit}
 use Rattle.text_names.proofs.find.Goals as goal
 
-pub loop-i-init : goal.loop-i-init
-unfolding lookup
-loop-i-init c = (c.requires.0, c.requires.1, c.requires.2, refl)
+pub returns-in_err-i : goal.returns-in_err-i
+returns-in_err-i c = let a = c.args in let w = take (a.e - a.a) (drop a.a a.text.now) in let h = first_from_Range _ _ _ None (Named a.text.now a.d w true) (Named a.text.now a.d w false) c.in_err-i.ensures.ran (λ x q k. search (rules, tests)) (λ x q k. search (rules, tests)) in rw c.from_residual.ensures (tt, rw (slice-part a.text.now a.a a.e c.requires.1) (find_none a.text.now a.d w h))
 
-pub overflow_add-t : goal.overflow_add-t
-overflow_add-t c = let w = c.loop-i.invariant.0.within c.loop-i.i c.loop-i-test.true in omega (arith, w, c.well_formed)
+pub offset_bounds-d-i : goal.offset_bounds-d-i
+offset_bounds-d-i c = let a = c.args in let w = take (a.e - a.a) (drop a.a a.text.now) in let h = first_from_Range _ _ _ (Some c.in_ok-i.i) (Named a.text.now a.d w true) (Named a.text.now a.d w false) c.in_ok-i.ensures.ran (λ x q k. search (rules, tests)) (λ x q k. search (rules, tests)) in record { fits = omega (arith, h.1, c.requires.0.count) }
 
-pub returns-then-same_words : goal.returns-then-same_words
-returns-then-same_words c = let v = c.loop-i.invariant in find-hit c.args.text.now c.args.d c.args.a c.args.e c.loop-i.i v.0 v.1 c.loop-i-test.true v.3 (sym c.same_words.ensures ∙ c.if-same_words.true)
-
-pub loop-i-preserved : goal.loop-i-preserved
-loop-i-preserved c = let v = c.loop-i.invariant in (v.0, v.1, v.2, find-more c.args.text.now c.args.d c.args.a c.args.e c.loop-i.i v.0 v.1 c.loop-i-test.true v.3 (sym c.same_words.ensures ∙ c.if-same_words.false))
+pub bounds-d-i : goal.bounds-d-i
+bounds-d-i c = let a = c.args in let w = take (a.e - a.a) (drop a.a a.text.now) in let h = first_from_Range _ _ _ (Some c.in_ok-i.i) (Named a.text.now a.d w true) (Named a.text.now a.d w false) c.in_ok-i.ensures.ran (λ x q k. search (rules, tests)) (λ x q k. search (rules, tests)) in omega (arith, h.1, c.requires.0.count)
 
 pub returns : goal.returns
-returns c = let v = c.loop-i.invariant in (search rules, find_none c.args.text.now c.args.d (slice c.args.a c.args.e c.args.text.now) c.loop-i.i (search rules) (search rules) v.3)
+returns c = let a = c.args in let w = take (a.e - a.a) (drop a.a a.text.now) in let h = first_from_Range _ _ _ (Some c.in_ok-i.i) (Named a.text.now a.d w true) (Named a.text.now a.d w false) c.in_ok-i.ensures.ran (λ x q k. search (rules, tests)) (λ x q k. search (rules, tests)) in rw (slice-part a.text.now a.a a.e c.requires.1) (find-hit a.text.now a.d w c.requires.0 h)

@@ -1,32 +1,18 @@
-use mathlib.Core.Path.{◌≡◌, sym, ◌∙◌}
-use mathlib.Core.Bool.{false}
-use Prim.Native.Nat.{ℕ, ◌<◌}
-use native.Mathlib.Omega.{arith}
-use borrow.Author.Count.{below_more}
-use Rattle.limits.specs.Limits as limit
-use Rattle.semantics.proofs.Tools.{clash}
-use Rattle.facts_bits.specs.Bits.{bit_at}
+use mathlib.Core.Path.{refl}
+use mathlib.Core.List.{List}
+use Prim.Native.Nat.{ℕ}
+use Rattle.std.specs.Prelude.{Option, None, Some, MatchOption, IsSome}
+use Rattle.search_levels.specs.declared.Pair.{Pair}
+use Rattle.search_levels.specs.Levels.{OnLevel}
 use Rattle.witness.proofs.goal.Goals as goal
-use Rattle.witness.proofs.goal.Goals.{in-Some+else-e-lt-LISTED, in_default}
 
-pub loop-f-init : goal.loop-f-init
-loop-f-init c = λ g l. omega arith
+-- a pair is found, where there is one
+there : (rows : List ℕ) (k : ℕ) (r : Option Pair) → MatchOption r ((e f : ℕ) → OnLevel rows k e f → ⊥) (λ p. OnLevel rows k p.first p.second) → (e f : ℕ) → OnLevel rows k e f → IsSome r
+there rows k None h e f s = absurd (h e f s)
+there rows k (Some p) h e f s = refl
 
-pub returns-then-e-lt-LISTED : goal.returns-then-e-lt-LISTED
-returns-then-e-lt-LISTED c =
-    let r = c.row-row.ensures in
-    (c.if-e-lt-LISTED.true, c.loop-f-test.true, sym (r.bits c.in-Some.e (omega (arith, c.if-e-lt-LISTED.true))) ∙ c.in-Some.ensures.set)
+pub unwrap-requires : goal.unwrap-requires
+unwrap-requires c = let p = c.requires.1 in there _ _ _ c.first_pair.ensures p.0 p.1 p.2
 
-pub loop-f-preserved : goal.loop-f-preserved
-loop-f-preserved c =
-    let none : (e : ℕ) → e < limit.listed → bit_at c.row-row.result e ≡ false = elim (c.match-first.branch) [
-      | in-Some+else-e-lt-LISTED w ↦ let l = w.if-e-lt-LISTED.false in λ e h. w.in-Some.ensures.clear e (omega arith) (omega arith)
-      | in_default w ↦ λ e h. w.in_default.ensures e (omega arith) (omega arith)
-    ] in
-    below_more _ _ c.loop-f.invariant (λ h. clash h.2 (sym (c.row-row.ensures.bits h.0 (omega (arith, h.1))) ∙ none h.0 h.1))
-
-pub unreachable-requires : goal.unreachable-requires
-unreachable-requires c =
-    let q = c.requires.1 in
-    let s = c.requires.1.2 in
-    c.loop-f.invariant q.1 (omega (arith, s.1)) (q.0, s.0, s.2)
+pub returns : goal.returns
+returns c = rw c.unwrap.ensures at c.first_pair.ensures

@@ -1,13 +1,27 @@
-use mathlib.Core.Path.{◌≡◌, subst}
+use mathlib.Core.Path.{◌≡◌, refl, subst}
 use mathlib.Core.Bool.{true}
 use native.Mathlib.Omega.{arith}
-use Prim.Native.Nat.{ℕ}
+use Prim.Native.Nat.{ℕ, ◌<◌}
+use Rattle.std.specs.Prelude.{Option, None, Some, IsSome, unwrap_or}
 use Rattle.facts_bits.specs.Bits.{in_row}
 use Rattle.witness_walk.proofs.Laws.{written-length}
 use Rattle.witness_meetings.proofs.Laws.{chosen-below}
 use Rattle.witness_from.proofs.Stands.{ready_at}
 use Rattle.witness_from.proofs.Laws.{opening-written}
 use Rattle.witness_from.proofs.open_with.Goals as goal
+
+-- a slot is some slot
+some-slot : (o : Option ℕ) → unwrap_or o 255 < 255 → IsSome o
+some-slot None l = absurd (omega (arith, l))
+some-slot (Some v) l = refl
+
+pub unwrap-to-requires : goal.unwrap-to-requires
+unwrap-to-requires c =
+    let p = c.requires in
+    let a = c.args in
+    let e = c.opening-c.ensures in
+    let most = c.requires.0.proper.count in
+    some-slot _ (omega (arith, chosen-below a.m a.work.now a.s p.0 0 p.0.model.one _ e.0 e.1.0.0 e.2 0 p.7, most))
 
 pub meet_first-met-requires : goal.meet_first-met-requires
 meet_first-met-requires c =
@@ -63,12 +77,12 @@ lead-requires c =
     let long = written-length _ _ _ _ _ _ t in
     let long-still = written-length _ _ _ _ _ _ d in
     let long-yet = written-length _ _ _ _ _ _ f in
-    let below = chosen-below a.m a.work.now a.s p.0 0 p.0.model.one _ e.0 e.1.0.0 e.2 0 p.7 in
+    let below = rw c.unwrap-to.ensures at (chosen-below a.m a.work.now a.s p.0 0 p.0.model.one _ e.0 e.1.0.0 e.2 0 p.7) in
     let most = c.requires.0.proper.count in (
       p.0.model,
       p.0.proper,
       p.1,
-      (p.2.bits a.slot c.opening-c.result.first (omega (arith, below, most))).0 (subst (λ (v : ℕ). in_row a.ways.now a.slot v ≡ true) (e.2 0 p.7) e.1.1),
+      (p.2.bits a.slot c.unwrap-to.result (omega (arith, below, most))).0 (subst (λ (v : ℕ). in_row a.ways.now a.slot v ≡ true) (rw c.unwrap-to.ensures at (e.2 0 p.7)) e.1.1),
       p.5,
       omega (arith, p.9, t.index, t.few, d.index, d.few, f.index, f.few),
     )
@@ -78,5 +92,5 @@ returns c =
     let p = c.requires in
     let a = c.args in
     let e = c.opening-c.ensures in
-    opening-written a.m a.work.now a.s p.0 a.cast a.carried a.object a.slot a.p.first a.p.second _ e.0 e.1.0 (e.2 0 p.7) a.run.now _ _ _ _ a.p.at _ _ _ _
+    opening-written a.m a.work.now a.s p.0 a.cast a.carried a.object a.slot a.p.first a.p.second _ e.0 e.1.0 (rw c.unwrap-to.ensures at (e.2 0 p.7)) a.run.now _ _ _ _ a.p.at _ _ _ _
     (c.meet_first-met.ensures e.0 e.2) c.errand-then.ensures c.approach-at.ensures c.lead.ensures

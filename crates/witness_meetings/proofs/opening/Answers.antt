@@ -13,7 +13,7 @@ returns-in-Some c =
     let p = c.requires in
     let a = c.args in
     let h = c.in-Some.ensures in
-    attempt-found a.m a.work.now a.s p.0 p.2 a.rows.now a.j a.first a.second _ h.0 h.1 h.2 h.3 h.4 h.5 p.5.0 p.5.1 c.loop-u-test.true (sym c.get.ensures ∙ c.if-get.true) _ h.6
+    attempt-found a.m a.work.now a.s p.0 p.2 a.rows.now a.j a.first a.second _ h.0 h.1 h.2 h.3 h.4 h.5 p.5.0 p.5.1 (sym c.get.ensures ∙ c.if-get.true) _ h.6
 
 pub loop-u-preserved : goal.loop-u-preserved
 loop-u-preserved c =

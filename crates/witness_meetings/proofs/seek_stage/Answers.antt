@@ -8,8 +8,8 @@ pub seek-requires : goal.seek-requires
 seek-requires c =
     let p = c.requires in
     let few = c.requires.0.proper.count in
-    (p.0.agree, p.1, omega arith, stage-evaluable c.args.m p.0.model c.args.k p.2)
+    rw c.from-part.ensures (p.0.agree, p.1, omega arith, stage-evaluable c.args.m p.0.model c.args.k p.2)
 
 pub returns : goal.returns
 returns c =
-    c.seek.ensures (row c.args.s) c.requires.0.exact.states (length-row c.args.s c.requires.0.proper)
+    rw c.from-part.ensures at (c.seek.ensures (row c.args.s) c.requires.0.exact.states (length-row c.args.s c.requires.0.proper))

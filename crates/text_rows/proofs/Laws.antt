@@ -1,0 +1,44 @@
+-- Laws of reading a row of items.
+use mathlib.Core.Path.{◌≡◌, subst}
+use mathlib.Core.List.{List, [], ◌∷◌, ◌++◌, append-nil, append_assoc}
+use mathlib.Core.Option.{none, some}
+use Prim.Native.Nat.{ℕ, ◌+◌, ◌-◌, ◌≤◌, ◌<◌}
+use native.Mathlib.Omega.{arith}
+use lib.ListN.{length, drop, length-append}
+use Rattle.grammar.specs.Bytes.{bytes}
+use Rattle.grammar.specs.Shapes.{Read, after}
+use Rattle.grammar.proofs.Reading.{Reading, reading-start, reading-more, reading-closed}
+use Rattle.text_rows.specs.Rows.{Extends, Room, ItemEnd, RowEnd}
+use Rattle.text_rows.specs.declared.Taken.{Taken}
+
+-- from s, which is kept at `at`, some items are read up to i, where t is kept; at most k are left
+pub record RowSo {V C K : Type 0} (read : List ℕ → Read V) (held : C → List V → K → Type 0) (text : List ℕ) (at n : ℕ) (s t : K) (i k : ℕ) : Type 0 where
+  pub more : List V
+  pub reading : Reading read text at n more i k
+  pub holds : Extends held s more t
+
+module _ {V C K : Type 0} {read : List ℕ → Read V} {held : C → List V → K → Type 0} {text : List ℕ} {at n : ℕ} where
+  pub row-start : {s : K} → at ≤ length text → RowSo read held text at n s s at n
+  row-start h = record { more = []; reading = reading-start h; holds = λ c xs so. rw (append-nil xs) so }
+
+  module _ {s t : K} {i k : ℕ} (so : RowSo read held text at n s t i k) where
+    pub row-room : {most : ℕ} → 0 < k → Room held most n s → Room held most 1 t
+    row-room h (c, xs, l, o) = let z = so.reading.count in (c, xs ++ so.more, omega (arith, length-append xs so.more), so.holds c xs o)
+
+    pub row-more : {r : Taken K} {j : ℕ} → j + 1 ≡ k → after (bytes ")") (drop i text) ≡ none → after (bytes " ") (drop i text) ≡ some (drop (i + 1) text)
+        → ItemEnd read held text (i + 1) t r → RowSo read held text at n s r.kept r.end j
+    row-more {r} {j} h p q e = record {
+      more = so.more ++ (e.value ∷ []);
+      reading = let z : k - 1 ≡ j = omega arith in subst (Reading read text at n (so.more ++ (e.value ∷ [])) r.end) z (reading-more so.reading (omega arith) p q e.begins e.ends e.found);
+      holds = λ c xs o. rw (← append_assoc) (e.holds c (xs ++ so.more) (so.holds c xs o));
+    }
+
+    pub row-closed : i < length text → after (bytes ")") (drop i text) ≡ some (drop (i + 1) text) → RowEnd read held text at n s (record { kept = t; end = i + 1 })
+    row-closed h p = record {
+      more = so.more;
+      few = omega (arith, so.reading.count);
+      begins = omega (arith, so.reading.begins);
+      ends = omega arith;
+      found = reading-closed so.reading p;
+      holds = so.holds;
+    }
