@@ -49,16 +49,7 @@ fn why_step(m: &Model, slots: &[u8], work: &[u8], at: Position, line: u32, objec
             Action::Next { .. } => Reason::NoObject,
         };
     };
-    let index = reasons_bodies::blame(
-        &m.literals,
-        slots,
-        work,
-        n,
-        c.first,
-        c.count,
-        c.variables,
-        fixed,
-    );
+    let index = reasons_bodies::blame(c.body(&m.literals), &slots[..n], work, c.variables, fixed);
     Reason::Literal { index }
 }
 
@@ -136,16 +127,7 @@ fn why_meeting(
     if any_swapped(m.carried, g, carried, fixed) {
         return Reason::Carried;
     }
-    let index = reasons_bodies::blame(
-        &m.literals,
-        slots,
-        work,
-        n,
-        g.first,
-        g.count,
-        g.variables,
-        fixed,
-    );
+    let index = reasons_bodies::blame(g.body(&m.literals), &slots[..n], work, g.variables, fixed);
     Reason::Literal { index }
 }
 

@@ -4,10 +4,10 @@ use mathlib.Core.Logic.{◌⊎◌, inl, inr, ⊎_elim, ◌≢◌}
 use mathlib.Core.Bool.{true, false, cond}
 use mathlib.Core.List.{List, [], ◌∷◌}
 use mathlib.Core.Option.{some}
-use Prim.Native.Nat.{ℕ, suc, ◌≤◌, ◌<◌}
+use Prim.Native.Nat.{ℕ, suc, ◌+◌, ◌≤◌, ◌<◌}
 use native.Mathlib.Omega.{arith}
 use borrow.Author.Tests.{eq-eqb, ne_eqb}
-use lib.ListN.{length, take, get_or}
+use lib.ListN.{length, take, drop, get_or}
 use lib.Seq.{drop-cons}
 use Rattle.std.proofs.lemmas.Bool.{cases_Bool}
 use Rattle.limits.specs.Limits as limit
@@ -20,11 +20,13 @@ use Rattle.semantics.proofs.Bodies.{holds_agree, supported-vars}
 use Rattle.model.specs.declared.Model.{Model}
 use Rattle.model.specs.declared.Stage.{Stage}
 use Rattle.model.specs.Records.{program_of, question_of, stage_body, stage_of, number_in, stage_at, carried_at}
+use Rattle.model.specs.Literals.{body_of, GoodBody}
 use Rattle.model.specs.Places.{objects}
 use Rattle.model.specs.WellFormed.{WellFormed}
+use Rattle.model.proofs.Bodies.{own-length, own-good, own-body}
 use Rattle.model.proofs.Carried.{carried-cells}
 use Rattle.model.proofs.Renaming.{elem-map, elem-of-map, vars-renamed, supported-renamed, meets-renamed, named-renamed}
-use Rattle.model.proofs.Accepted.{stages, stage-here, stage-vars, stage-different, stage-count}
+use Rattle.model.proofs.Accepted.{stages, stage-here, stage-vars, stage_body_lem, stage-different, stage-count}
 use Rattle.facts_candidates.specs.declared.Choice.{Choice}
 use Rattle.facts_candidates.specs.Choices.{element_of, chosen}
 use Rattle.facts_candidates.proofs.Choosing.{some-there}
@@ -34,6 +36,7 @@ use Rattle.replay_session.specs.Sessions.{carried_in, carried_by, met}
 use Rattle.replay_session.specs.Records.{session_of}
 use Rattle.replay_session.proofs.Carrying.{stands-cell, cell-stands, carried-left}
 use Rattle.replay_view.specs.declared.View.{View}
+use Rattle.replay_view.specs.Views.{slots_of}
 use Rattle.replay_steps.specs.Tries.{Ready, Open, Holding, Taken, Barred}
 use Rattle.replay_meetings.specs.Carried.{choice_of, Named, carried_on, AllNamed, AllAgree, AllCarried}
 use Rattle.replay_meetings.proofs.Objects.{pick-place, objects-chosen}
@@ -53,8 +56,21 @@ module _ (m : Model) (wf : WellFormed m) (i : ℕ) (here : i < m.stagecount) whe
   abbrev own : Stage
   own = stage_at m i
 
-  pub part-within : own.first ≤ length m.literals
+  pub part-within : own.first + own.count ≤ length m.literals
   part-within = let p = (wf.stage i here).part.within in let q = wf.literalcount in let n = wf.literals in omega arith
+
+  -- its body by itself
+  abbrev codes : List ℕ
+  codes = take own.count (drop own.first m.literals)
+
+  pub codes-long : length codes ≡ own.count
+  codes-long = own-length (drop own.first m.literals) own.count (stage_body_lem m wf i here).within
+
+  pub codes-say : body_of codes (length codes) ≡ stage_body m.literals own
+  codes-say = own-body (drop own.first m.literals) own.count (stage_body_lem m wf i here).within
+
+  pub codes-good : GoodBody codes (length codes) own.variables
+  codes-good = own-good (drop own.first m.literals) own.count own.variables (stage_body_lem m wf i here)
 
   pub part-supported : Supported (vars (stage_body m.literals own)) (stage_body m.literals own)
   part-supported x q =
@@ -65,6 +81,9 @@ module _ (m : Model) (wf : WellFormed m) (i : ℕ) (here : i < m.stagecount) whe
       rw (stage-different m wf i here x y.0 q (supported-vars y.0 b y.1) y.2) y.1
 
 -- the slots are those of the view
+pub slots-seat : (m : Model) (v : View) (s : Session) (slots w : List ℕ) (p : runs.Place) → Open m v s slots w p → slots_of v s.objects ≡ take s.objects slots
+slots-seat m v s slots w p l = ap (λ (t : List ℕ). take s.objects t) l.seats
+
 pub slots-enough : (m : Model) (v : View) (s : Session) (slots w : List ℕ) (p : runs.Place) → Open m v s slots w p → s.objects ≤ length slots
 slots-enough m v s slots w p l = let q = l.ready.sees.views.good.slots in let f = l.ready.fits.objects in omega (arith, ap length l.seats)
 

@@ -120,7 +120,7 @@ pub fn needs(m: &Model, stage: u32) -> [u8; BYTES]
         return [0u8; BYTES];
     }
     let g = m.stages[stage as usize - 1];
-    facts_rests::add([0u8; BYTES], &m.literals, g.first, g.count)
+    facts_rests::add([0u8; BYTES], g.body(&m.literals))
 }
 
 // The meeting of a stage with objects, the named ones first.
@@ -153,16 +153,7 @@ pub fn meet_place(
         return None;
     }
     let n = at.objects;
-    replay_steps::decide(
-        &m.literals,
-        slots,
-        work,
-        n,
-        g.first,
-        g.count,
-        g.variables,
-        fixed,
-    )?;
+    replay_steps::decide(g.body(&m.literals), &slots[..n], work, g.variables, fixed)?;
     Some(Outcome {
         given: None,
         at: Position {

@@ -10,7 +10,7 @@ use lib.ListN.{length}
 use Rattle.limits.specs.Limits as limit
 use Rattle.semantics.specs.Tables.{Shows}
 use Rattle.semantics.proofs.Tools.{same?, clash}
-use Rattle.model.specs.Records.{body_at}
+use Rattle.model.specs.Literals.{body_of}
 use Rattle.facts_bits.specs.Width as width
 use Rattle.facts_bits.specs.Bits.{bit_at, FirstFrom}
 use Rattle.facts_bits.proofs.Changing.{before?}
@@ -18,17 +18,16 @@ use Rattle.facts_table.specs.Table.{table_of}
 use Rattle.facts_candidates.specs.declared.Choice.{Choice}
 use Rattle.facts_candidates.specs.Choices.{element_of, chosen}
 use Rattle.facts_find.specs.Bodies.{Fixed}
-use Rattle.facts_holds.specs.declared.Part.{Part}
 use Rattle.facts_holds.specs.Shows.{Evaluable, Tells}
 use Rattle.facts_holds.proofs.Laws.{fixed_more}
 use Rattle.std.specs.Prelude.{Option, Some, None, unwrap_or}
 use Rattle.search_levels.specs.declared.Walker.{Walker}
 use Rattle.search_levels.specs.Passing.{stands, place, Aimed, Holding}
 
-module _ (S w literals : List ℕ) (part : Part) (c : Choice) where
+module _ (S w body : List ℕ) (v : ℕ) (c : Choice) where
   -- the body holds over S for σ, which has the fixed slots
   abbrev Fits : (ℕ → ℕ) → Type 0
-  Fits σ = Shows S (table_of w) σ (body_at literals part.first part.count) × Fixed part.variables c σ
+  Fits σ = Shows S (table_of w) σ (body_of body (length body)) × Fixed v c σ
 
   -- THE SLOTS OF A ROW one after the other
   module _ (row : List ℕ) where
@@ -39,14 +38,14 @@ module _ (S w literals : List ℕ) (part : Part) (c : Choice) where
     pub none-begins : NoneBelow 0
     none-begins σ h b = omega arith
 
-    module _ (some : 0 < part.variables) (body : Evaluable literals part) where
+    module _ (some : 0 < v) (able : Evaluable body v) where
       module _ (free : element_of c 0 ≡ None) (e : ℕ) (one : Choice) (law : (x : ℕ) → x < limit.variables → element_of one x ≡ cond (eqb x 0) (Some e) (element_of c x))
-          (r : Bool) (tells : Tells S w (body_at literals part.first part.count) part.variables one r) where
-        with-slot : (σ : ℕ → ℕ) → Fixed part.variables one σ ↔ (Fixed part.variables c σ × (σ 0 ≡ e))
-        with-slot = fixed_more c one part.variables 0 e body.body.few some free law
+          (r : Bool) (tells : Tells S w (body_of body (length body)) v one r) where
+        with-slot : (σ : ℕ → ℕ) → Fixed v one σ ↔ (Fixed v c σ × (σ 0 ≡ e))
+        with-slot = fixed_more c one v 0 e able.body.few some free law
 
         -- slot e fits,
-        pub fits-here : r ≡ true → bit_at row e ≡ true → Holding S w literals part c (λ σ. bit_at row (σ 0) ≡ true)
+        pub fits-here : r ≡ true → bit_at row e ≡ true → Holding S w body v c (λ σ. bit_at row (σ 0) ≡ true)
         fits-here q b = let z = tells.0 q in let y = (with-slot z.0).0 z.2 in (z.0, z.1, y.0, subst (λ (i : ℕ). bit_at row i ≡ true) (sym y.1) b)
 
         -- or it does not
@@ -57,20 +56,20 @@ module _ (S w literals : List ℕ) (part : Part) (c : Choice) where
             (same? (σ 0) e)
 
       -- none of them fits
-      pub none-fits : (at : ℕ) → length S ≤ limit.listed → NoneBelow at → ((j : ℕ) → at ≤ j → j < width.slots → bit_at row j ≡ false) → Holding S w literals part c (λ σ. bit_at row (σ 0) ≡ true) → ⊥
-      none-fits at few h none f = clash f.3 (none (f.0 0) (h f.0 (f.1, f.2) f.3) (omega (arith, f.1.0 0 (body.body.every 0 some), few)))
+      pub none-fits : (at : ℕ) → length S ≤ limit.listed → NoneBelow at → ((j : ℕ) → at ≤ j → j < width.slots → bit_at row j ≡ false) → Holding S w body v c (λ σ. bit_at row (σ 0) ≡ true) → ⊥
+      none-fits at few h none f = clash f.3 (none (f.0 0) (h f.0 (f.1, f.2) f.3) (omega (arith, f.1.0 0 (able.body.every 0 some), few)))
 
   -- WITH MORE ASKED OF VARIABLE 0
-  module _ (p : Option (List ℕ)) (r : Bool) (tells : Tells S w (body_at literals part.first part.count) part.variables c r) where
+  module _ (p : Option (List ℕ)) (r : Bool) (tells : Tells S w (body_of body (length body)) v c r) where
     module _ (told : r ≡ true) where
       -- or its slot is fixed,
-      pub pointed-fixed : (among : List ℕ) → p ≡ Some among → 0 < part.variables → (e : ℕ) → c.first ≡ Some e → (bit_at among e ≡ true) ↔ Holding S w literals part c (Aimed p)
+      pub pointed-fixed : (among : List ℕ) → p ≡ Some among → 0 < v → (e : ℕ) → c.first ≡ Some e → (bit_at among e ≡ true) ↔ Holding S w body v c (Aimed p)
       pointed-fixed among g some e l = rw g (
         (λ b. let z = tells.0 told in (z.0, z.1, z.2, subst (λ (i : ℕ). bit_at among i ≡ true) (sym (at z.0 z.2)) b)),
         λ h. subst (λ (i : ℕ). bit_at among i ≡ true) (at h.0 h.2) h.3,
       )
         where
-          at : (σ : ℕ → ℕ) → Fixed part.variables c σ → σ 0 ≡ e
+          at : (σ : ℕ → ℕ) → Fixed v c σ → σ 0 ≡ e
           at σ f = f 0 some e l
 
 -- the pair's slots are small

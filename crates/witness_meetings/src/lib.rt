@@ -17,7 +17,6 @@ ghost use Rattle.witness_meetings.specs.Meetings.{Known, Written, Numbers, Spots
 
 use facts_bits::WIDTH;
 use facts_candidates::Choice;
-use facts_holds::Part;
 use model::{Model, Place, Stage};
 use search_states::States;
 
@@ -85,8 +84,15 @@ fn seek_stage(
     requires { Known m work.now s × Own width.slots slots.now × (k < m.stagecount) }
     ensures { Seeks (row s) work.now (stage_body m.literals (stage_at m k)) (stage_at m k).variables fixed result }
 {
-    let part = Part::from(m.stages[k]);
-    facts_holds::seek(work, slots, s.count, &m.literals, part, fixed)
+    let g = m.stages[k];
+    let slots = &slots[..s.count];
+    facts_holds::seek(
+        work,
+        slots,
+        g.body(&m.literals),
+        g.variables as usize,
+        fixed,
+    )
 }
 
 // A choice of found states that meets stage k + 1, with the carried objects in these slots where their variables stand in it.
