@@ -10,14 +10,6 @@ ghost use Rattle.effects.specs.Effects.{action_made, made as made_on, effect_at}
 
 use model::{Action, Model};
 
-// Which clause stands on a line.
-fn clause_on(m: &Model, line: u32) -> Option<usize>
-    requires { WellFormed m.now }
-    ensures { MatchOption result ((k : ℕ) → k < m.now.clausecount → (clause_at m.now k).line ≢ line) (λ i. (i < m.now.clausecount) × ((clause_at m.now i).line ≡ line) × ((k : ℕ) → k < i → (clause_at m.now k).line ≢ line)) }
-{
-    (0..m.clausecount).find(|i| m.clauses[*i].line == line)
-}
-
 // The number of what a clause makes of an object in a state.
 fn made(action: Action, state: u32) -> u64
     ensures { result ≡ action_made action state }
@@ -36,8 +28,8 @@ fn on_line(m: &Model, line: u32, state: u32) -> u64
     requires { WellFormed m.now }
     ensures { result ≡ made_on (line_in (program_of m.now) line) state }
 {
-    match clause_on(m, line) {
-        Some(i) => made(m.clauses[i].action, state),
+    match m.clause_on(line) {
+        Some(c) => made(c.action, state),
         None => 0,
     }
 }

@@ -54,10 +54,10 @@ fn why_broken(m: Model, s: Session, place: usize, run: &[u32], work: &mut [u8]) 
     requires { WellFormed m × (length run.now ≤ limit.run) × (room ≤ length work.old) × Replays (program_of m) (question_of m) (start []) run.now 0 (BrokenAt place) × Stopped m run.now place s }
     ensures { Reasoned (program_of m) (question_of m) run.now place result × (length work.new ≡ length work.old) }
 {
-    if place >= run.len() {
+    let Some(&n) = run.get(place) else {
         return Reason::Ends;
-    }
-    why(m, s, run[place], work)
+    };
+    why(m, s, n, work)
 }
 
 // Explains how a run ended.

@@ -25,13 +25,10 @@ fn next_line(m: Model, line: u32) -> bool
     requires { WellFormed m }
     ensures { result ≡ is_next (line_at (program_of m) line) }
 {
-    for i in 0..m.clausecount {
-        let c = m.clauses[i];
-        if c.line == line {
-            return relabels(c.action);
-        }
-    }
-    false
+    let Some(c) = m.clause_on(line) else {
+        return false;
+    };
+    relabels(c.action)
 }
 
 // Does the list name a line that is no `next` line?

@@ -39,7 +39,7 @@ fn why_step(m: &Model, slots: &[u8], work: &[u8], at: Position, line: u32, objec
     ensures { (v : View) (states : List ℕ) → Open m.now v (session_in states at) slots.now work.now (step line object) → Explains m.now (session_in states at) (step line object) result }
 {
     let n = at.objects;
-    let Some(c) = replay_steps::clause_on(m, line) else {
+    let Some(c) = m.clause_on(line) else {
         return Reason::NoLine;
     };
     let Some(fixed) = replay_steps::fixed(c.action, n, object) else {
@@ -57,10 +57,7 @@ fn why_step(m: &Model, slots: &[u8], work: &[u8], at: Position, line: u32, objec
 fn absent(object: Option<usize>, objects: usize) -> bool
     ensures { Says (Absent object objects) result }
 {
-    match object {
-        Some(e) => e >= objects,
-        None => true,
-    }
+    object.is_none_or(|e| e >= objects)
 }
 
 // Is one of the n objects of a choice not there, in a database of so many?
@@ -71,7 +68,7 @@ fn beyond(c: Choice, n: usize, objects: usize) -> bool
 }
 
 // Does a choice have another object than the carried one for the stage's variable of a number?
-// NONE stays for none: the carried object is a word of the state that C lends.
+// NONE stands for none, as among the carried objects of `replay_session::Session`.
 fn swapped(g: Stage, number: u32, carried: u32, c: Choice) -> bool
     requires { g.variables ≤ limit.variables }
     ensures { Says (Swapped g number carried c) result }

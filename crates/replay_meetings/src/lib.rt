@@ -56,20 +56,19 @@ pub fn choice(first: u32, second: u32, third: u32) -> Choice
 }
 
 // The object that a choice has for the stage's variable of a number, or NONE.
-// NONE stays for none: the carried objects are words of the state that C lends, with which the answer is compared.
+// NONE stands for none, as among the carried objects of `replay_session::Session`, with which the answer is compared.
 fn named(g: Stage, number: u32, c: Choice) -> u32
     requires { (g.variables ≤ limit.variables) × ((x : ℕ) → chosen c x < 256) }
     ensures { Named g number c result }
 {
-    let n = g.variables as usize;
-    let Some(x) = g.numbers[..n].iter().position(|own| *own == number) else {
-        return NONE;
-    };
-    facts_candidates::object(n, x, c)
+    match g.seat(number) {
+        Some(x) => facts_candidates::object(g.variables as usize, x, c),
+        None => NONE,
+    }
 }
 
 // Whether an object may be met where another, or none, is carried.
-// NONE stays for none: both are compared as words of the state that C lends.
+// NONE stands for none, as at `named`.
 fn agrees(carried: u32, object: u32) -> bool
     ensures { Says (Agrees carried object) result }
 {
@@ -77,7 +76,7 @@ fn agrees(carried: u32, object: u32) -> bool
 }
 
 // The carried object after the meeting.
-// NONE stays for none: the answer is a word of the state that C lends.
+// NONE stands for none, as at `named`.
 fn carry(carried: u32, object: u32) -> u32
     ensures { result ≡ carried_on carried object }
 {

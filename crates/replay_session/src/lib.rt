@@ -21,6 +21,7 @@ pub enum Answer {
 
 // The answer to one place: kept with the number of those who stood by, or broken at the count of places kept.
 // It stays an enum: document 01 names the answer an enum with data, and a broken place is an answer and no failure.
+// It stays beside `Answer`: one enum over what is kept would have a run kept with nothing, a `Kept(())` wherever the answer to a run is read.
 #[derive(Clone, Copy)]
 pub enum PlaceAnswer {
     Kept { stood: u32 },
@@ -34,7 +35,7 @@ pub struct Session {
     pub states: [u32; OBJECTS],
     pub objects: usize,
     pub met: usize,
-    // 255 stays for no object: the carried objects are cells of EON_SESSION, which C lends.
+    // 255 stands for no object, as in the cells of EON_SESSION.
     pub carried: [u32; CARRIED],
     pub kept: usize,
 }
@@ -45,7 +46,7 @@ pub struct Session {
 pub struct Position {
     pub objects: usize,
     pub met: usize,
-    // 255 stays for no object: the carried objects are cells of EON_SESSION, which C lends.
+    // 255 stands for no object, as in `Session`.
     pub carried: [u32; CARRIED],
     pub kept: usize,
 }

@@ -23,6 +23,7 @@ use Rattle.model.specs.declared.Clause.{Clause}
 use Rattle.model.specs.declared.Model.{Model}
 use Rattle.model.specs.Literals.{body_of, GoodBody}
 use Rattle.model.proofs.Bodies as bodies
+use Rattle.model.specs.Lookups.{OnLine}
 use Rattle.model.specs.Records.{up_from, head_of, line_of, clause_body, clause_line, program_of, clause_at}
 use Rattle.model.specs.WellFormed.{WellFormed}
 use Rattle.model.proofs.Accepted.{on_line, clause-safe, clause-vars, clause-body, stages}
@@ -36,7 +37,7 @@ use Rattle.replay_session.specs.Notes.{standing}
 use Rattle.replay_session.proofs.Effects.{size}
 use Rattle.replay_view.specs.declared.View.{View}
 use Rattle.replay_view.specs.Views.{slots_of}
-use Rattle.replay_steps.specs.Tries.{OnLine, line_body, Ready, Open, Stepping, Holding, only, Fixes, Taken, Barred}
+use Rattle.replay_steps.specs.Tries.{line_body, Ready, Open, Stepping, Holding, only, Fixes, Taken, Barred}
 
 -- WHAT STANDS on the line of clause k
 body-supported : (a : Action) (b : Body) → SafeLine (line_of a b) → Supported (vars b) b

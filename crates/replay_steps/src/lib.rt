@@ -18,12 +18,12 @@ ghost use Rattle.replay_session.specs.Sessions.{session_in};
 ghost use Rattle.replay_session.specs.Notes.{standing};
 ghost use Rattle.replay_view.specs.declared.View.{View};
 ghost use Rattle.replay_view.specs.Views.{slots_of};
-ghost use Rattle.replay_steps.specs.Tries.{OnLine, Rests, Ready, Open, Holding, Fixes, afterwards, Gives, TriedBy};
+ghost use Rattle.replay_steps.specs.Tries.{Rests, Ready, Open, Holding, Fixes, afterwards, Gives, TriedBy};
 
 use facts_bits::BYTES;
 use facts_candidates::Choice;
 use limits::OBJECTS;
-use model::{Action, Clause, Model};
+use model::{Action, Model};
 use replay_session::{Position, Session};
 
 // The state that a place gives an object.
@@ -56,21 +56,12 @@ impl Outcome {
     }
 }
 
-// The clause that stands on a line.
-pub fn clause_on(m: &Model, line: u32) -> Option<Clause>
-    requires { m.now.clausecount ≤ limit.clauses }
-    ensures { OnLine m.now line result }
-{
-    let i = (0..m.clausecount).find(|i| m.clauses[*i].line == line)?;
-    Some(m.clauses[i])
-}
-
 // The derived relations that a step of a line rests on, as a row of bits.
 pub fn needs(m: &Model, line: u32) -> [u8; BYTES]
     requires { WellFormed m.now }
     ensures { (object : ℕ) → Rests m.now result (step line object) }
 {
-    let Some(c) = clause_on(m, line) else {
+    let Some(c) = m.clause_on(line) else {
         return [0u8; BYTES];
     };
     facts_rests::add([0u8; BYTES], c.body(&m.literals))
@@ -148,7 +139,7 @@ pub fn step_place(
     ensures gives { IfSome result (Gives at) }
 {
     let n = at.objects;
-    let c = clause_on(m, line)?;
+    let c = m.clause_on(line)?;
     let o = object as usize;
     let objects = fixed(c.action, n, object)?;
     let choice = decide(c.body(&m.literals), &slots[..n], work, c.variables, objects)?;

@@ -1,11 +1,11 @@
 -- The stages of an accepted question, with the numbers that the stages and the question have for the carried variables.
 use mathlib.Core.Path.{◌≡◌, refl, sym, ap, ◌∙◌, subst}
-use mathlib.Core.Logic.{⊎_elim, ◌↔◌}
+use mathlib.Core.Logic.{⊎_elim, ◌↔◌, ◌≢◌}
 use mathlib.Core.Bool.{Bool, true, false, cond, ◌||◌, false≢true}
-use mathlib.Core.List.{List, [], map}
+use mathlib.Core.List.{List, [], ◌∷◌, map}
 use Prim.Native.Nat.{ℕ, zero, suc, ◌≤◌, ◌<◌}
 use native.Mathlib.Omega.{arith}
-use borrow.Author.Tests.{ltb-true, ltb-false, lt-ltb, le-ltb}
+use borrow.Author.Tests.{ltb-true, ltb-false, lt-ltb, le-ltb, eq-eqb, ne_eqb}
 use lib.Dec.{ltb}
 use lib.ListN.{length, take, drop, get_or}
 use lib.Seq.{get_or-take, length-take-le}
@@ -19,6 +19,7 @@ use Rattle.semantics.proofs.Tools.{clash, named-own, seat-ok}
 use Rattle.semantics.proofs.Bodies.{holds_agree, supported-vars}
 use Rattle.model.specs.declared.Model.{Model}
 use Rattle.model.specs.declared.Stage.{Stage}
+use Rattle.model.specs.Lookups.{HasSeat}
 use Rattle.model.specs.Records.{renamed, Injective, stage_body, number_in, question_of, stage_at, carried_at}
 use Rattle.model.specs.WellFormed.{WellFormed}
 use Rattle.model.proofs.Accepted.{stage-here, stage-vars, stage_body_lem, stage-different}
@@ -32,7 +33,6 @@ use Rattle.model.proofs.Bodies.{own-body}
 use Rattle.facts_holds.specs.Shows.{Evaluable}
 use Rattle.facts_holds.proofs.Laws.{part-evaluable}
 use Rattle.search_states.proofs.Seats.{elem-get_or, seat-absent, seat-in, seat-out}
-use Rattle.search_states.specs.States.{Sought}
 use Rattle.std.specs.Prelude.{Option, Some, None, is_some, unwrap_or, IfSome}
 use Rattle.search_levels.specs.declared.Walker.{Walker}
 use Rattle.search_levels.specs.declared.Meeting.{Meeting}
@@ -109,10 +109,27 @@ seated-here : (s : Bool) (σ : ℕ → ℕ) (y e : ℕ) → Seated s σ y e → 
 seated-here true σ y e h = h
 seated-here false σ y e h = h
 
--- a variable's number in a row, as it is sought
-pub sought-place : (x : ℕ) (xs : List ℕ) (n : ℕ) (r : Option ℕ) → length xs ≡ n → Sought xs x r → r ≡ cond (ltb (seat x xs) n) (Some (seat x xs)) None
-sought-place x xs n None long s = rw (le-ltb (seat x xs) n (omega (arith, seat-absent x xs s, long))) refl
-sought-place x xs n (Some i) long s = rw (lt-ltb (seat x xs) n (omega (arith, (seat-ok x xs s.0).0, long)), s.1) refl
+-- a variable's place in a row, by the first cell that has its number
+seat-first : (x : ℕ) (xs : List ℕ) (i : ℕ) → i < length xs → get_or xs i 0 ≡ x → ((y : ℕ) → y < i → get_or xs y 0 ≢ x) → seat x xs ≡ i
+seat-first x [] i l e h = absurd (omega (arith, l))
+seat-first x (z ∷ xs) zero l e h = rw (eq-eqb x z (sym e)) refl
+seat-first x (z ∷ xs) (suc i) l e h = rw (ne_eqb x z (λ q. h 0 (omega arith) (sym q))) (ap suc (seat-first x xs i (omega (arith, l)) e (λ y k. h (suc y) (omega (arith, k)))))
+
+seat-missing : (x : ℕ) (xs : List ℕ) → ((y : ℕ) → y < length xs → get_or xs y 0 ≢ x) → seat x xs ≡ length xs
+seat-missing x xs h = seat-absent x xs (⊎_elim (λ (e : elem x xs ≡ true). let q = seat-ok x xs e in absurd (h (seat x xs) q.0 q.1)) (λ (e : elem x xs ≡ false). e) (cases_Bool (elem x xs)))
+
+-- a variable's place in a stage
+pub seat-place : (g : Stage) (x : ℕ) (r : Option ℕ) → g.variables ≤ length g.numbers → HasSeat g x r → let y = seat x (take g.variables g.numbers) in r ≡ cond (ltb y g.variables) (Some y) None
+seat-place g x None l h =
+    let n = g.variables in
+    let long : length (take n g.numbers) ≡ n = length-take-le n g.numbers l in
+    let e = seat-missing x (take n g.numbers) (λ y k q. let j : y < n = omega (arith, k, long) in h y j (sym (get_or-take n g.numbers y 0 j) ∙ q)) in
+    rw (le-ltb (seat x (take n g.numbers)) n (omega (arith, e, long))) refl
+seat-place g x (Some i) l h =
+    let n = g.variables in
+    let long : length (take n g.numbers) ≡ n = length-take-le n g.numbers l in
+    let e : seat x (take n g.numbers) ≡ i = seat-first x (take n g.numbers) i (omega (arith, h.0, long)) (get_or-take n g.numbers i 0 h.0 ∙ h.1) (λ y k q. h.2 y k (sym (get_or-take n g.numbers y 0 (omega (arith, k, h.0))) ∙ q)) in
+    rw (e, lt-ltb i n h.0) refl
 
 -- STAGE k of a well-formed model
 module _ (m : Model) (wf : WellFormed m) (k : ℕ) (here : k < m.stagecount) where

@@ -340,9 +340,10 @@ fn standing(stage: Stage, x: u32, chosen: bool) -> Walker
     requires { stage.variables ≤ length stage.numbers }
     ensures { result ≡ walker_of stage x chosen }
 {
-    let variables = stage.variables as usize;
-    let seat = search_states::seek(&stage.numbers[..variables], x);
-    Walker { seat, chosen }
+    Walker {
+        seat: stage.seat(x),
+        chosen,
+    }
 }
 
 // A stage with the carried variables, where it is known which of them stood in a stage before, and what is asked besides.

@@ -13,7 +13,7 @@ ghost use Rattle.facts_table.specs.Table.{Consistent, Rows};
 ghost use Rattle.facts_candidates.specs.Choices.{chosen, Own};
 ghost use Rattle.search_states.specs.States.{row};
 ghost use Rattle.facts_holds.specs.Shows.{Seeks};
-ghost use Rattle.witness_meetings.specs.Meetings.{Known, Written, Numbers, Spots, Names, NamesBoth, meeting, Numbered, Behind, Takes, gathering, Chooses, Seating, Met, first_variable, Opens, Attempts};
+ghost use Rattle.witness_meetings.specs.Meetings.{Known, Written, Numbers, Names, NamesBoth, meeting, Numbered, Behind, Takes, gathering, Chooses, Seating, Met, first_variable, Opens, Attempts};
 
 use facts_bits::WIDTH;
 use facts_candidates::Choice;
@@ -28,23 +28,12 @@ pub struct Cast {
     pub second: u32,
 }
 
-// The stage's own number of a variable, if it has the variable.
-pub fn spot(stage: Stage, variable: u32) -> Option<usize>
-    requires { Numbers stage }
-    ensures { Spots stage variable result }
-{
-    let n = stage.variables as usize;
-    stage.numbers[..n]
-        .iter()
-        .position(|number| *number == variable)
-}
-
 // The choice with element e for the variable, where the stage has it.
 fn name(stage: Stage, variable: u32, e: usize, c: Choice) -> Choice
     requires { Numbers stage }
     ensures { Names stage variable e c result }
 {
-    match spot(stage, variable) {
+    match stage.seat(variable) {
         Some(x) => facts_candidates::choose(c, x, e),
         None => c,
     }

@@ -38,7 +38,7 @@ fn holds(m: Model, v: usize, k: usize) -> bool
     requires { WellFormed m × (v < limit.carried) × (k < m.stagecount) }
     ensures { result ≡ holder m v k }
 {
-    witness_meetings::spot(m.stages[k], m.carried[v]).is_some()
+    m.stages[k].seat(m.carried[v]).is_some()
 }
 
 // Does it stand in one of the first k stages?
