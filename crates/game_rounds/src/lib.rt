@@ -24,10 +24,7 @@ enum Side {
 fn sooner(rank: Option<u32>, round: u32) -> bool
     ensures { result ≡ before round (rank_of rank) }
 {
-    match rank {
-        Some(number) => number < round,
-        None => false,
-    }
+    rank.is_some_and(|number| number < round)
 }
 
 // Has some slot of row e a number below the round's?

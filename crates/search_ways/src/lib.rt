@@ -14,7 +14,7 @@ ghost use Rattle.facts_bits.specs.Width as width;
 ghost use Rattle.facts_heads.specs.Heads.{room};
 ghost use Rattle.search_states.specs.States.{row, Proper};
 ghost use Rattle.search_ways.specs.Moves.{Marks, None, With, InRow, Noted, Exactly, CanTake};
-ghost use Rattle.search_ways.specs.Steps.{Between, Turns, Led, OneStep};
+ghost use Rattle.search_ways.specs.Steps.{Between, Turns, LineBetween, Led, OneStep};
 ghost use Rattle.search_ways.specs.Chains.{Inside, Linked, Through};
 ghost use Rattle.search_ways.specs.Shortest.{Says, Near, Joins, Joined, Nearest, Shortest};
 
@@ -201,19 +201,26 @@ pub fn turns(c: Clause, from: u32, to: u32) -> bool
     }
 }
 
+// The line of the first clause that can be taken from slot u and makes the one state the other, if there is one.
+// That the model is well-formed stays in clauses: a model is a value of any numbers, which acceptance alone makes well-formed.
+pub fn line_between(m: Model, table: &[u8; TABLE], u: usize, from: u32, to: u32) -> Option<u32>
+    requires { WellFormed m × (u < width.slots) }
+    ensures { LineBetween m table.now u from to result }
+{
+    for i in 0..m.clausecount {
+        if facts_bits::get(table, i * WIDTH + u) && turns(m.clauses[i], from, to) {
+            return Some(m.clauses[i].line);
+        }
+    }
+    None
+}
+
 // The line of the first clause that takes an object of the state of slot u to that of slot t.
 fn line_to(m: Model, s: States, table: &[u8; TABLE], u: usize, t: usize) -> u32
     requires { WellFormed m × Proper s × Marks table.now (CanTake m s) × (u < s.count) × (t < s.count) × ((ℓ : ℕ) × Takes (program_of m) (row s) (state (row s) u) (state (row s) t) (line (program_of m) ℓ)) }
     ensures { Takes (program_of m) (row s) (state (row s) u) (state (row s) t) (line (program_of m) result) }
 {
-    let from = s.states[u];
-    let to = s.states[t];
-    for i in 0..m.clausecount {
-        if facts_bits::get(table, i * WIDTH + u) && turns(m.clauses[i], from, to) {
-            return m.clauses[i].line;
-        }
-    }
-    unreachable!()
+    line_between(m, table, u, s.states[u], s.states[t]).unwrap()
 }
 
 // The lines of a shortest way from one slot to another, and how many they are.

@@ -3,8 +3,7 @@ use Prim.Native.Nat.{◌<◌}
 use native.Mathlib.Omega.{arith}
 use Rattle.semantics.proofs.Tools.{clash}
 use Rattle.facts_bits.specs.Width as width
-use Rattle.shortest_answer.proofs.Laws.{shortest-fewest}
-use Rattle.shortest_answer.proofs.between.Goals as goal
+use Rattle.shortest_empty.proofs.between.Goals as goal
 
 pub returns-then-not-get : goal.returns-then-not-get
 returns-then-not-get c =
@@ -29,7 +28,3 @@ way-requires c =
       ((m.comes.bits a.from a.to small).0 (sym g.ensures ∙ c.if-not-get.false)).2,
       c.requires.3,
     )
-
-pub returns : goal.returns
-returns c =
-    let a = c.args in let w = c.way in shortest-fewest a.m a.s a.from a.to a.run.now _ w.result w.ensures
