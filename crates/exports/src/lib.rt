@@ -22,6 +22,7 @@ use handin::{Run, Unreadable};
 use limits::{LISTED, OBJECTS, RUN, TEXT};
 use replay_session::{PlaceAnswer, Session};
 use rows::{Refusal, Row};
+use words::Kind;
 
 // The cells beside an answer of the analysis, of which the last has the shown run's last place.
 const LAST: usize = LISTED + 1;
@@ -54,8 +55,10 @@ fn coded(answer: analyzer_verdict::Answer) -> u64
     ensures { result ≡ code_of answer }
 {
     match answer {
-        analyzer_verdict::Answer::Unreached => 0,
-        analyzer_verdict::Answer::Reached { places, .. } => 4_294_967_296 + places as u64,
+        analyzer_verdict::Answer::Unreached => words::word(Kind::Unreached, 0),
+        analyzer_verdict::Answer::Reached { places, .. } => {
+            words::word(Kind::Reached, places as u64)
+        }
         analyzer_verdict::Answer::Refused { number, line } => words::refusal(number, line),
     }
 }
@@ -66,8 +69,8 @@ fn replied(answer: Result<replay_session::Answer, Refusal>) -> u64
     ensures { result ≡ reply_code answer }
 {
     match answer {
-        Ok(replay_session::Answer::Kept) => 3 * 4_294_967_296,
-        Ok(replay_session::Answer::Broken { place }) => 4 * 4_294_967_296 + place as u64,
+        Ok(replay_session::Answer::Kept) => words::word(Kind::Kept, 0),
+        Ok(replay_session::Answer::Broken { place }) => words::word(Kind::Broken, place as u64),
         Err(r) => words::refused(r),
     }
 }
@@ -78,8 +81,8 @@ fn put(answer: Result<PlaceAnswer, Refusal>) -> u64
     ensures { result ≡ place_code answer }
 {
     match answer {
-        Ok(PlaceAnswer::Kept { stood }) => 3 * 4_294_967_296 + stood as u64,
-        Ok(PlaceAnswer::Broken { place }) => 4 * 4_294_967_296 + place as u64,
+        Ok(PlaceAnswer::Kept { stood }) => words::word(Kind::Kept, stood as u64),
+        Ok(PlaceAnswer::Broken { place }) => words::word(Kind::Broken, place as u64),
         Err(r) => words::refused(r),
     }
 }
@@ -233,10 +236,7 @@ pub extern "C" fn eon_handin(handin: &[u8], run: &mut [u32]) -> u64
     ensures { Handed handin.now run.old result run.new }
 {
     if run.len() < RUN {
-        return words::refused(Refusal {
-            row: Row::Lent,
-            line: 0,
-        });
+        return words::refused(Row::Lent.refusal());
     }
     let said = handin::read(handin);
     write_run(handin, said, run);

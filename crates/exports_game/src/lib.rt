@@ -8,6 +8,7 @@ ghost use Rattle.exports_game.specs.Calls.{Tells};
 use game_answer::Game;
 use limits::LISTED;
 use rows::Refusal;
+use words::Kind;
 
 // The number of an answer, with how many states stand beside it.
 fn coded(game: Result<Game, Refusal>) -> u64
@@ -15,7 +16,7 @@ fn coded(game: Result<Game, Refusal>) -> u64
     ensures { result ≡ code_of game }
 {
     match game {
-        Ok(g) => 15 * 4_294_967_296 + g.count as u64,
+        Ok(g) => words::word(Kind::Told, g.count as u64),
         Err(r) => words::refused(r),
     }
 }

@@ -7,6 +7,7 @@ ghost use Rattle.exports_tally.specs.Calls.{Counted};
 
 use rows::Refusal;
 use tally::Count;
+use words::Kind;
 
 // The cells beside an answer: the reached and the unreached choices, the reached share and its remainder.
 const COUNTS: usize = 4;
@@ -16,7 +17,7 @@ fn coded(count: Result<Count, Refusal>) -> u64
     ensures { result ≡ code_of count }
 {
     match count {
-        Ok(_) => 13 * 4_294_967_296,
+        Ok(_) => words::word(Kind::Counted, 0),
         Err(r) => words::refused(r),
     }
 }
