@@ -31,8 +31,7 @@ pub fn number(text: &[u8], t: &mut Scope<ASKED>, s: Scope<VARIABLES>) -> [u32; V
     ensures { Numbers text.now t.old (scopes.known_of text.now s) t.new result }
 {
     let mut numbers = [0u32; VARIABLES];
-    for j in 0..s.count {
-        let v = s.variables[j];
+    for (j, v) in s.variables[..s.count].iter().enumerate() {
         numbers[j] = meet(text, t, v.start, v.end) as u32;
     }
     numbers
