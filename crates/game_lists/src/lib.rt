@@ -25,10 +25,7 @@ fn next_line(m: Model, line: u32) -> bool
     requires { WellFormed m }
     ensures { result ≡ is_next (line_at (program_of m) line) }
 {
-    let Some(c) = m.clause_on(line) else {
-        return false;
-    };
-    relabels(c.action)
+    m.clause_on(line).is_some_and(|c| relabels(c.action))
 }
 
 // Does the list name a line that is no `next` line?
