@@ -9,13 +9,14 @@ use Rattle.std.specs.Prelude as std
 use Rattle.std.specs.Prelude.{Some, None}
 use Rattle.std.specs.Cmp.Lexicographic.{pointwise}
 use Rattle.std.specs.Option.{MatchOption}
+use Rattle.std.specs.Bool.{then_some}
 use denote.Ref.{Bor}
 use Prim.Native.Nat.{ℕ, zero, suc, ◌+◌, ◌-◌, ◌≤◌, ◌<◌}
 use native.Mathlib.Omega.{arith}
-use lib.Dec.{eqb}
+use lib.Dec.{eqb, ltb}
 use lib.ListN.{length, take, drop, get_or, length-drop}
 use lib.Seq.{length-slice, take-length}
-use borrow.Author.Tests.{le-leb, lt-ltb, le-ltb, eqb-true, eqb-false, eq-eqb, ne_eqb}
+use borrow.Author.Tests.{le-leb, le-ltb, ltb-true, ltb-false, eqb-true, eqb-false, eq-eqb, ne_eqb}
 use Rattle.grammar.specs.Bytes.{bytes, digit, Word}
 use Rattle.grammar.specs.Shapes.{Read, ◌>>=◌, after, word, rest, whole}
 use Rattle.grammar.proofs.Tests.{clash, and_left, and_right}
@@ -24,7 +25,7 @@ use Rattle.listing_bytes.specs.Numerals.{value_after}
 use Rattle.text_scan.specs.Found.{WordEnd}
 use Rattle.text_scan.proofs.Laws.{next, nothing as no_bytes}
 use Rattle.handin_lines.specs.Lines.{digits, after_digits, is_numeral, number, below, letters, Said, nothing, states_rest, atomic_rest}
-use Rattle.handin_lines.specs.Found.{cut, DigitsEnd, NumberAt, BelowAt, BelowEnd, object, last}
+use Rattle.handin_lines.specs.Found.{cut, DigitsEnd, NumberAt, NumberEnd, BelowEnd, object, last}
 use Rattle.handin_lines.specs.declared.Number.{Number}
 
 -- DIGITS
@@ -138,20 +139,17 @@ module _ {line : List ℕ} {r : Number} (end : DigitsEnd line r) where
     pub number-found : (get_or line 0 0 ≡ 48 → ⊥) → NumberAt line r
     number-found z = numbered (many ∙ rw (ne_eqb (get_or line 0 0) 48 z))
 
-pub below-none : (n : ℕ) (s : List ℕ) → number s ≡ none → below n s ≡ none
+-- the number is kept if it is below n
+pub below-said : {P : Number → Bool → Type 0} (line : List ℕ) (n : ℕ) (o r : std.Option Number) → n ≤ 8388608 → NumberEnd line o → MatchOption o (r ≡ None) (λ x. (b : Bool) × P x b × (r ≡ then_some b x))
+    → ((x : Number) (b : Bool) → P x b → b ≡ ltb x.value n) → BelowEnd n (below n line) r
 unfolding below
-below-none n s z = rw z
-
-module _ {line : List ℕ} (n : ℕ) {r : Number} (end : NumberAt line r) where
-  pub below-found : n ≤ 8388608 → r.value < n → BelowAt n (below n line) r
-  unfolding below
-  below-found h k =
-      let e : end.number ≡ r.value = omega (arith, end.value) in
-      record { small = k; found = rw (end.read, e, lt-ltb r.value n k) }
-
-  pub below-large : n ≤ r.value → below n line ≡ none
-  unfolding below
-  below-large h = rw (end.read, le-ltb end.number n (omega (arith, end.value)))
+below-said line n None r h end m k = rw (m, end) refl
+below-said line n (Some x) r h end (b, p, e) k = rw (e, k x b p) (⊎_elim
+    (λ (q : ltb x.value n ≡ true).
+    let z : end.number ≡ x.value = omega (arith, end.value, ltb-true x.value n q) in
+    rw q (record { small = ltb-true x.value n q; found = rw (end.read, z, q) }))
+    (λ (q : ltb x.value n ≡ false). rw q (rw (end.read, le-ltb end.number n (omega (arith, end.value, ltb-false x.value n q)))))
+    (cases_Bool (ltb x.value n)))
 
 -- OBJECTS
 module _ (line : List ℕ) where
@@ -163,14 +161,11 @@ module _ (line : List ℕ) where
   object-missing e = rw e
 
 -- LINES THAT SAY NOTHING
-pub states-missing : (s : List ℕ) → number s ≡ none → whole (states_rest s) ≡ none
+pub states-said : {P : Number → Type 0} (line : List ℕ) (o : std.Option Number) (r : Bool) → NumberEnd line o → MatchOption o (r ≡ false) P
+    → ((n : Number) → P n → r ≡ last (after (bytes ")") n.rest.now)) → whole (states_rest line) ≡ cond r (some nothing) none
 unfolding states_rest
-states-missing s z = rw z
-
-module _ {line : List ℕ} {n : Number} (end : NumberAt line n) where
-  pub states-found : {r : Bool} → r ≡ last (after (bytes ")") n.rest.now) → whole (states_rest line) ≡ cond r (some nothing) none
-  unfolding states_rest
-  states-found e = rw (end.read, e) (whole-last nothing (after (bytes ")") n.rest.now))
+states-said line None r end m k = rw (m, end)
+states-said line (Some n) r end m k = rw (end.read, k n m) (whole-last nothing (after (bytes ")") n.rest.now))
 
 -- what stands after a space is no end
 pub space-open : (s : List ℕ) {t : List ℕ} → after (bytes " ") s ≡ some t → after (bytes ")") s ≡ none

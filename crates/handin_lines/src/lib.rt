@@ -102,8 +102,7 @@ fn read_below(line: &[u8], n: u32) -> Option<Number<'_>>
     requires { n ≤ 8388608 }
     ensures { BelowEnd n (below n line.now) result }
 {
-    let r = read_number(line)?;
-    if r.value < n { Some(r) } else { None }
+    read_number(line).filter(|r| r.value < n)
 }
 
 // The object that is next in a bracket.
@@ -118,17 +117,14 @@ fn read_object(line: &[u8]) -> Option<Number<'_>>
 fn is_number(line: &[u8]) -> bool
     ensures { whole (states_rest line.now) ≡ (if result then some nothing else none) }
 {
-    match read_number(line) {
-        Some(n) => ends(n.rest),
-        None => false,
-    }
+    read_number(line).is_some_and(|n| ends(n.rest))
 }
 
 // The number of the place, if the line ends with the bracket that is next.
 fn end_place(line: &[u8], p: Place) -> Option<u32>
     ensures { result ≡ met line.now (numeral p) }
 {
-    if ends(line) { Some(number_of(p)) } else { None }
+    ends(line).then_some(number_of(p))
 }
 
 // The number of the place that is left of a `step` line after its first word.
