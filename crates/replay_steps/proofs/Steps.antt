@@ -3,7 +3,7 @@ use mathlib.Core.Path.{◌≡◌, refl, sym, ap, ◌∙◌, subst}
 use mathlib.Core.Logic.{◌≢◌, ⊎_elim, ◌↔◌}
 use mathlib.Core.Bool.{true}
 use mathlib.Core.List.{List, [], ◌++◌, map}
-use Rattle.std.specs.Prelude.{Some}
+use Rattle.std.specs.Prelude.{Option, Some, None}
 use Prim.Native.Nat.{ℕ, ◌+◌, ◌≤◌, ◌<◌}
 use native.Mathlib.Omega.{arith}
 use borrow.Author.Tests.{eq-eqb, ne_eqb}
@@ -38,6 +38,13 @@ use Rattle.replay_session.proofs.Effects.{size}
 use Rattle.replay_view.specs.declared.View.{View}
 use Rattle.replay_view.specs.Views.{slots_of}
 use Rattle.replay_steps.specs.Tries.{line_body, Ready, Open, Stepping, Holding, only, Fixes, Taken, Barred}
+
+-- a choice that has an object for variable 0 alone
+abbrev three : Option ℕ → Option ℕ → Option ℕ → Choice
+three x y z = record { first = x; second = y; third = z }
+
+pub only_one : (c : Choice) (o : ℕ) → element_of c 0 ≡ Some o → element_of c 1 ≡ None → element_of c 2 ≡ None → c ≡ only o
+only_one c o e f g = ap (λ (x : Option ℕ). three x c.second c.third) e ∙ ap (λ (y : Option ℕ). three (Some o) y c.third) f ∙ ap (λ (z : Option ℕ). three (Some o) None z) g
 
 -- WHAT STANDS on the line of clause k
 body-supported : (a : Action) (b : Body) → SafeLine (line_of a b) → Supported (vars b) b

@@ -114,11 +114,10 @@ pub fn fixed(action: Action, n: usize, object: u32) -> Option<Choice>
     let o = object as usize;
     match action {
         Action::New { .. } if o == n => Some(facts_candidates::free()),
-        Action::Next { .. } if o < n => Some(Choice {
-            first: Some(o),
-            second: None,
-            third: None,
-        }),
+        Action::Next { .. } if o < n => {
+            let nobody = facts_candidates::free();
+            Some(facts_candidates::choose(nobody, 0, o))
+        }
         _ => None,
     }
 }
