@@ -120,6 +120,7 @@ pub fn steps(m: Model, s: States, table: &[u8; TABLE], ways: &mut [u8; MATRIX])
 }
 
 // Adds what row k has to each of the first n rows that has slot k.
+// The test of each row stays: the rows that have slot k are a column of the matrix, and `facts_bits::slots` goes along a row.
 fn pass(ways: &mut [u8; MATRIX], n: usize, k: usize)
     requires { (n ≤ limit.listed) × (k < n) }
     ensures { Marks ways.new (With ways.old (λ e t. (e < n) × Through ways.old k e t)) }
@@ -143,6 +144,7 @@ pub fn close(ways: &mut [u8; MATRIX], n: usize)
 }
 
 // Sets in row j + 1 of the layers the slots to which one pair leads from those of row j.
+// The loop stays beside `facts_bits::slots`: row j may have slots from n on, so that a test of each slot would stay in it all the same.
 fn spread(links: &[u8; MATRIX], n: usize, layers: &mut [u8; MATRIX], j: usize)
     requires { (n ≤ limit.listed) × (j < limit.atomic) }
     ensures { Marks layers.new (With layers.old (InRow (j + 1) width.slots (Joined links.now layers.old n j))) }
@@ -183,12 +185,10 @@ fn before(links: &[u8; MATRIX], layers: &[u8; MATRIX], n: usize, j: usize, t: us
     requires { (n ≤ limit.listed) × (j < limit.listed) × (t < n) × Joined links.now layers.now n j t }
     ensures { (result < n) × Joins links.now layers.now j t result }
 {
-    for u in 0..n {
-        if joins(links, layers, j, t, u) {
-            return u;
-        }
-    }
-    unreachable!()
+    let Some(u) = (0..n).find(|u| joins(links, layers, j, t, *u)) else {
+        unreachable!()
+    };
+    u
 }
 
 // Does the clause make one state of the other?
