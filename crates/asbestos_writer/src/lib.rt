@@ -210,6 +210,7 @@ fn all_proper(kinds: &[u32; CELLS], count: usize) -> bool
 
 // The call is refused, with so many bytes of output.
 // The cells, their count and the two levels stay parameters: these are what C gives, checked here.
+// The tests stay one after the other: joined by `||` five of them make one goal of nested alternatives, whose proof did not close.
 fn refused(kinds: &[u32; CELLS], count: usize, port: u32, level: u32, room: usize) -> bool
     ensures { result ≡ refuses (kinds_of kinds.now count) port level room }
 {
@@ -257,10 +258,7 @@ pub fn write_text(
     ensures { Desks (kinds_of kinds.now count) port level out.old result out.new }
 {
     if refused(kinds, count, port, level, out.len()) {
-        return Err(Refusal {
-            row: Row::Processes,
-            line: 0,
-        });
+        return Err(Row::Processes.refusal());
     }
     Ok(put_text(out, kinds, count, port, level))
 }
