@@ -44,6 +44,7 @@ fn kind_of(kinds: &[u32; CELLS], i: usize) -> Kind
 
 // Writes the bytes, and the digit of a level behind them.
 // A level stays a number and the place a parameter: levels are counted up, looked up in a table and given by C, and each call writes behind the one before.
+// It and all that is written by it stay beside `Display`, as `listing_bytes::put_numeral` does: the slice that C lends has the room that each contract asks for.
 fn put_level(out: &mut [u8], at: usize, bytes: &[u8], level: u32) -> usize
     requires { (level < levels) × (at + length bytes.now + 1 ≤ length out.old) }
     ensures { Writes out.old at (levelled bytes.now level) result out.new }
