@@ -38,8 +38,8 @@ module _ (text : List ℕ) (s : Asked) (m : Model) (b : Taken frames.Framed) {ow
     number_more : fault_in r ≡ stages_fault D (qs ++ (q ∷ []))
     number_more = t.number ∙ rw (so.number, own-number) (sym (fault-more q D qs))
 
-  pub added-fault : (x : Row) (m' : Model) → r ≡ Err x → Added text s m b (Err x) m'
-  added-fault x m' z = record { added = λ D m₀ qs q few so fr. record { number = ap fault_in (sym z) ∙ number_more so fr; stored = tt } }
+  pub added-fault : (x : Row) → r ≡ Err x → Added text s m b (Err x) m
+  added-fault x z = record { added = λ D m₀ qs q few so fr. record { number = ap fault_in (sym z) ∙ number_more so fr; stored = tt }; unwritten = refl }
 
   -- where there is none
   module _ (a : Scope limit.asked) (f : Frame) (z : r ≡ Ok (a, f)) where
@@ -78,4 +78,5 @@ module _ (text : List ℕ) (s : Asked) (m : Model) (b : Taken frames.Framed) {ow
         number = ap fault_in (sym z) ∙ number_more so fr;
         stored = rw e (stored_more (stored-before so) few (faultless so fr) (stage_body fr) (body-short (stage_body fr)) nu);
       };
+      unwritten = tt;
     }
