@@ -14,13 +14,6 @@ use model::Model;
 use rows::{Refusal, Row};
 use text_names::Declared;
 
-// A refusal by its row and line.
-fn refusal(row: Row, line: u32) -> Result<(), Refusal>
-    ensures { result ≡ Err (record { row = row; line = line }) }
-{
-    Err(Refusal { row, line })
-}
-
 // The `ask` line from `at` to e, and whether a line follows it.
 fn read_question(
     text: &[u8],
@@ -34,11 +27,12 @@ fn read_question(
     ensures { Fills (onwards text.now at line d m.old) text.now result m.new }
 {
     text_opening::fit(m, d, line);
-    if let Err(row) = text_ask::read_ask(&text[..e], d, at + 5, m) {
-        return refusal(row, line);
-    }
+    text_ask::read_ask(&text[..e], d, at + 5, m).map_err(|row| Refusal { row, line })?;
     if e + 1 < text.len() {
-        return refusal(Row::End, line + 1);
+        return Err(Refusal {
+            row: Row::End,
+            line: line + 1,
+        });
     }
     Ok(())
 }
@@ -54,18 +48,22 @@ fn read_lines(text: &[u8], m: &mut Model) -> Result<(), Refusal>
     // The loop stays a `while`: names keep their place in the whole text, so that the place of a line is needed beside its bytes.
     while at < text.len() {
         let Some(e) = text_scan::line_end(text, at) else {
-            return refusal(Row::Byte, line);
+            return Err(Refusal {
+                row: Row::Byte,
+                line,
+            });
         };
         if text_scan::at_bytes(&text[..e], at, b"(ask ") {
             return read_question(text, at, e, d, m, line);
         }
-        if let Err(row) = text_lines::read_line(&text[..e], at, &mut d, m, line) {
-            return refusal(row, line);
-        }
+        text_lines::read_line(&text[..e], at, &mut d, m, line).map_err(|row| Refusal { row, line })?;
         at = e + 1;
         line += 1;
     }
-    refusal(Row::End, line)
+    Err(Refusal {
+        row: Row::End,
+        line,
+    })
 }
 
 // Reads a text for a call, which may be refused before the lines: by a lent buffer that is too short, or by a run that is too long.

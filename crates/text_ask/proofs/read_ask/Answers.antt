@@ -3,11 +3,13 @@ use mathlib.Core.List.{[], ◌∷◌}
 use native.Mathlib.Omega.{arith}
 use Rattle.text_faults.proofs.Laws.{passed}
 use Rattle.text_faults.specs.Faults.{unshaped}
+use Rattle.text_stages.proofs.Adding.{none-aside}
+use Rattle.text_ask.proofs.Laws.{aside-more, aside-carrying}
 use Rattle.text_ask.proofs.Ending.{no_words, none-held, ask-unopened, ask-unread, ask-unended, ask-ended}
 use Rattle.text_ask.proofs.read_ask.Goals as goal
 
 pub returns-in_default : goal.returns-in_default
-returns-in_default c = unshaped (ask-unopened c.args.text.now c.args.at c.in_default.ensures) refl
+returns-in_default c = (unshaped (ask-unopened c.args.text.now c.args.at c.in_default.ensures) refl, none-aside)
 
 pub add-f-requires : goal.add-f-requires
 add-f-requires c = let w = no_words c.empty-s.ensures in let h = none-held c.requires.4 w c.empty-s.ensures.0 in let q = c.in-Some.ensures in record { D = _; m₀ = _; qs = []; q = q.q; few = omega arith; holds = h; frame = q.holds }
@@ -16,13 +18,13 @@ pub read_stages-requires : goal.read_stages-requires
 read_stages-requires c = let w = no_words c.empty-s.ensures in let h = none-held c.requires.4 w c.empty-s.ensures.0 in let q = c.in-Some.ensures in (q.ends, c.requires.2, c.requires.3, (c.args.m.now, q.q ∷ [], omega arith, c.add-f.ensures.added _ _ [] q.q (omega arith) h q.holds))
 
 pub returns-in_default-read_stages : goal.returns-in_default-read_stages
-returns-in_default-read_stages c = unshaped (ask-unread c.args.text.now c.args.at c.in-Some.ensures c.in_default-read_stages.ensures) refl
+returns-in_default-read_stages c = (unshaped (ask-unread c.args.text.now c.args.at c.in-Some.ensures c.in_default-read_stages.ensures.0) refl, aside-more c.add-f.ensures.aside c.in_default-read_stages.ensures.1)
 
 pub returns-then-r-text : goal.returns-then-r-text
-returns-then-r-text c = let w = no_words c.empty-s.ensures in let h = none-held c.requires.4 w c.empty-s.ensures.0 in let q = c.in-Some.ensures in unshaped (ask-unended c.args.text.now c.args.at q h c.add-f.ensures c.in-Some-read_stages.ensures c.if-r-text.true) refl
+returns-then-r-text c = let w = no_words c.empty-s.ensures in let h = none-held c.requires.4 w c.empty-s.ensures.0 in let q = c.in-Some.ensures in (unshaped (ask-unended c.args.text.now c.args.at q h c.add-f.ensures c.in-Some-read_stages.ensures.0 c.if-r-text.true) refl, aside-more c.add-f.ensures.aside c.in-Some-read_stages.ensures.1)
 
 pub returns-in_err-m : goal.returns-in_err-m
-returns-in_err-m c = let w = no_words c.empty-s.ensures in let h = none-held c.requires.4 w c.empty-s.ensures.0 in let q = c.in-Some.ensures in let p = passed c.in_err-m.was c.from_residual.ensures.1 in rw p.1 (ask-ended c.args.text.now c.args.at q h c.add-f.ensures c.in-Some-read_stages.ensures c.requires.4 c.if-r-text.false (rw p.2 at c.finish.ensures) _)
+returns-in_err-m c = let w = no_words c.empty-s.ensures in let h = none-held c.requires.4 w c.empty-s.ensures.0 in let q = c.in-Some.ensures in let p = passed c.in_err-m.was c.from_residual.ensures.1 in (rw p.1 (ask-ended c.args.text.now c.args.at q h c.add-f.ensures c.in-Some-read_stages.ensures.0 c.requires.4 c.if-r-text.false (rw p.2 at c.finish.ensures) _), aside-more c.add-f.ensures.aside c.in-Some-read_stages.ensures.1)
 
 pub returns : goal.returns
-returns c = let w = no_words c.empty-s.ensures in let h = none-held c.requires.4 w c.empty-s.ensures.0 in let q = c.in-Some.ensures in ask-ended c.args.text.now c.args.at q h c.add-f.ensures c.in-Some-read_stages.ensures c.requires.4 c.if-r-text.false c.in_ok-m.ensures
+returns c = let w = no_words c.empty-s.ensures in let h = none-held c.requires.4 w c.empty-s.ensures.0 in let q = c.in-Some.ensures in (ask-ended c.args.text.now c.args.at q h c.add-f.ensures c.in-Some-read_stages.ensures.0 c.requires.4 c.if-r-text.false c.in_ok-m.ensures, aside-carrying (aside-more c.add-f.ensures.aside c.in-Some-read_stages.ensures.1))
