@@ -1,7 +1,7 @@
 // The bracket text: every byte list becomes an accepted model, or one listed refusal with its line.
 #![tactic(auto)]
 
-ghost use Rattle.std.specs.Prelude.{◌≡◌, [], ◌≤◌, length, Err};
+ghost use Rattle.std.specs.Prelude.{◌≡◌, [], ◌≤◌, length, Ok, Err, MatchResult};
 ghost use Rattle.limits.specs.Limits as limit;
 ghost use Rattle.grammar.specs.Bytes.{lines};
 ghost use Rattle.grammar.specs.Texts.{read_lines, outcome};
@@ -13,6 +13,13 @@ ghost use Rattle.text.specs.Reached.{Reached, onwards, AskLine};
 use model::Model;
 use rows::{Refusal, Row};
 use text_names::Declared;
+
+// The answer to a line, with the line's number at a refusal.
+fn on_line(answer: Result<(), Row>, line: u32) -> Result<(), Refusal>
+    ensures { MatchResult answer (λ _. result ≡ Ok tt) (λ row. result ≡ Err (record { row = row; line = line })) }
+{
+    answer.map_err(|row| Refusal { row, line })
+}
 
 // The `ask` line from `at` to e, and whether a line follows it.
 fn read_question(
@@ -27,7 +34,7 @@ fn read_question(
     ensures { Fills (onwards text.now at line d m.old) text.now result m.new }
 {
     text_opening::fit(m, d, line);
-    text_ask::read_ask(&text[..e], d, at + 5, m).map_err(|row| Refusal { row, line })?;
+    on_line(text_ask::read_ask(&text[..e], d, at + 5, m), line)?;
     if e + 1 < text.len() {
         return Err(Refusal {
             row: Row::End,
@@ -56,7 +63,7 @@ fn read_lines(text: &[u8], m: &mut Model) -> Result<(), Refusal>
         if text_scan::at_bytes(&text[..e], at, b"(ask ") {
             return read_question(text, at, e, d, m, line);
         }
-        text_lines::read_line(&text[..e], at, &mut d, m, line).map_err(|row| Refusal { row, line })?;
+        on_line(text_lines::read_line(&text[..e], at, &mut d, m, line), line)?;
         at = e + 1;
         line += 1;
     }
