@@ -13,15 +13,6 @@ use Rattle.search_ways.specs.Shortest.{Says}
 use Rattle.search_levels.specs.Levels.{holder, chosen, Moved}
 use Rattle.witness_walk.specs.Walk.{LeadsTo, Source}
 
--- what a test says
-pub said : (r : Bool) (A : Type 0) → Says r A → r ≡ true → A
-said true A h q = h
-said false A h q = clash q refl
-
-pub denied : (r : Bool) (A : Type 0) → Says r A → r ≡ false → A → ⊥
-denied true A h q = clash refl q
-denied false A h q = h
-
 -- what a search over the slots found
 pub listed_slot : (P : ℕ → Type 0) (o : prelude.Option ℕ)
     → MatchOption o ((k : ℕ) → 0 ≤ k → k < limit.listed → P k → ⊥) (λ i. (0 ≤ i) × (i < limit.listed) × P i × ((k : ℕ) → 0 ≤ k → k < i → P k → ⊥))

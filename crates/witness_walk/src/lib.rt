@@ -38,7 +38,8 @@ fn holds(m: Model, v: usize, k: usize) -> bool
     requires { WellFormed m × (v < limit.carried) × (k < m.stagecount) }
     ensures { result ≡ holder m v k }
 {
-    m.stages[k].seat(m.carried[v]).is_some()
+    let number = m.carried[v];
+    m.stages[k].seat(number).is_some()
 }
 
 // Does it stand in one of the first k stages?
