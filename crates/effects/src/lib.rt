@@ -1,9 +1,9 @@
 // What a line makes of an object: the state that a `new` line creates it with, or that a `next` line gives it.
 #![tactic(auto)]
 
-ghost use Rattle.std.specs.Prelude.{◌≡◌, ◌≢◌, ℕ, ◌<◌, MatchOption};
+ghost use Rattle.std.specs.Prelude.{◌≡◌};
 ghost use Rattle.semantics.specs.Models.{line as line_in};
-ghost use Rattle.model.specs.Records.{clause_at, program_of};
+ghost use Rattle.model.specs.Records.{program_of};
 ghost use Rattle.model.specs.WellFormed.{WellFormed};
 ghost use Rattle.grammar.specs.Texts.{outcome};
 ghost use Rattle.effects.specs.Effects.{action_made, made as made_on, effect_at};
@@ -28,10 +28,7 @@ fn on_line(m: &Model, line: u32, state: u32) -> u64
     requires { WellFormed m.now }
     ensures { result ≡ made_on (line_in (program_of m.now) line) state }
 {
-    match m.clause_on(line) {
-        Some(c) => made(c.action, state),
-        None => 0,
-    }
+    m.clause_on(line).map_or(0, |c| made(c.action, state))
 }
 
 // What a line of an accepted text makes of an object in a state: 2 × 2^32 and the state of an object that a `new` line creates, 3 × 2^32 and the state that a `next` line gives it; 0 otherwise.
@@ -39,8 +36,5 @@ fn on_line(m: &Model, line: u32, state: u32) -> u64
 pub fn effect(text: &[u8], line: u32, state: u32) -> u64
     ensures { result ≡ effect_at (outcome text.now) line state }
 {
-    match text::read(text) {
-        Ok(m) => on_line(&m, line, state),
-        Err(_) => 0,
-    }
+    text::read(text).map_or(0, |m| on_line(&m, line, state))
 }
