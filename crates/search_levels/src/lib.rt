@@ -85,8 +85,17 @@ fn seated(c: Choice, a: Walker, e: usize) -> Choice
     }
 }
 
-// Does the body hold for a choice with the fixed slots, and with a slot of the row for its first variable, which is free?
+// Does the body hold for a choice with the fixed slots, and with slot e for its first variable, which is free?
 // What is lent stays apart: the work area, the slots and the body go to the evaluator alone, which takes each by itself, so that a struct would be made only to be taken apart.
+fn begins(work: &[u8], slots: &[u8], body: &[u32], variables: usize, c: Choice, e: usize) -> bool
+    requires { Asked work.now slots.now body.now variables × (0 < variables) × (element_of c 0 ≡ None) }
+    ensures { Over work.now (length slots.now) (λ S. (result ≡ true) ↔ Holding S work.now body.now variables c (λ σ. σ 0 ≡ e)) }
+{
+    let one = facts_candidates::choose(c, 0, e);
+    facts_holds::shows(work, slots, body, variables, one)
+}
+
+// Does it hold with some slot of the row for its first variable?
 fn somewhere(
     work: &[u8],
     slots: &[u8],
@@ -98,13 +107,7 @@ fn somewhere(
     requires { Asked work.now slots.now body.now variables × (0 < variables) × (element_of c 0 ≡ None) }
     ensures { Over work.now (length slots.now) (λ S. (result ≡ true) ↔ Holding S work.now body.now variables c (λ σ. bit_at row (σ 0) ≡ true)) }
 {
-    for e in facts_bits::slots(row) {
-        let one = facts_candidates::choose(c, 0, e);
-        if facts_holds::shows(work, slots, body, variables, one) {
-            return true;
-        }
-    }
-    false
+    facts_bits::slots(row).any(|e| begins(work, slots, body, variables, c, e))
 }
 
 // Does the body hold for a choice with the fixed slots, whose first variable has a slot as asked?
