@@ -27,13 +27,12 @@ use Rattle.std.specs.Prelude.{Ok, Err, is_some}
 use Rattle.rows.specs.Rows.{number_of}
 use Rattle.rows.specs.declared.Row.{Row}
 use Rattle.text_faults.specs.Faults.{shaped}
-use Rattle.text_scan.proofs.Laws.{nothing}
 use Rattle.text_names.specs.Names.{blank, declared_of, Valid, tally, added, found}
 use Rattle.text_names.specs.declared.Name.{Name}
 use Rattle.text_names.specs.declared.Declared.{Declared}
 use Rattle.text_names.proofs.Laws.{declared-added, valid-added, tally-count}
 use Rattle.text_clauses.proofs.Laws.{whole-all, whole_part}
-use Rattle.text_declarations.specs.Declares.{Limited, state_number, rel_number, next_name, Entered, DeclarationEnd, ArityAt, StateAt, RelAt}
+use Rattle.text_declarations.specs.Declares.{Limited, state_number, rel_number, next_name, Entered, DeclarationEnd, StateAt, RelAt}
 
 -- NUMBERS
 -- whether a name stands already, as `find` says
@@ -184,11 +183,6 @@ unfolding state_number
 state-few text d u z = ⊎_elim
     (λ (q : leb limit.states (count 0 (declared_of text d)) ≡ true). absurd (let y = rw (q, crowded (again (lookup u (declared_of text d)))) at z in omega arith))
     (λ (q : leb limit.states (count 0 (declared_of text d)) ≡ false). let y = leb-false limit.states (count 0 (declared_of text d)) q in omega (arith, tally-count text d 0)) (cases_Bool (leb limit.states (count 0 (declared_of text d))))
-
--- THE ARITY
-module _ (text : List ℕ) (at : ℕ) where
-  pub arity-past : length text ≤ at → arity (drop at text) ≡ none
-  arity-past h = rw (nothing text at h)
 
 -- `rel`
 pub rel-few : (text : List ℕ) (d : Declared) (u : Word) (n : ℕ) → rel_number (declared_of text d) u n ≡ 0 → tally 1 d.names d.count + tally 2 d.names d.count + tally 3 d.names d.count < limit.rels
