@@ -3,15 +3,9 @@ use native.Mathlib.Omega.{arith}
 use lib.ListN.{length, take}
 use lib.Seq.{length-take-le, get_or-take}
 use borrow.Author.Rules.{rules}
-use Rattle.strike_list.proofs.Records.{chosen_none, chosen-struck, chosen-kept, chosen-all}
+use Rattle.strike_list.proofs.Records.{chosen-struck, chosen-kept}
 use Rattle.strike_list.proofs.choose.Goals as goal
 use Rattle.strike_list.proofs.choose.Goals.{else-has, then-has}
-
-pub loop-i-init : goal.loop-i-init
-loop-i-init c = let a = c.args in rw c.none-chosen.ensures (chosen_none (take a.l.count a.l.lines) a.number)
-
-pub push-requires : goal.push-requires
-push-requires c = omega (arith, c.loop-i.invariant.few)
 
 pub loop-i-preserved : goal.loop-i-preserved
 loop-i-preserved c =
@@ -23,6 +17,3 @@ loop-i-preserved c =
       | then-has w ↦ rw (w.chosen-is, w.push.ensures.0, w.push.ensures.1) (chosen-struck xs a.number l.chosen.lines l.chosen.count l.i _ l.invariant (omega (arith, e)) (omega (arith, e)) _ (get_or-take a.l.count a.l.lines l.i 0 (search rules)) (omega (arith, e)) (sym c.has.ensures ∙ w.if-has.true))
       | else-has w ↦ rw w.chosen-is (chosen-kept xs a.number l.chosen.lines l.chosen.count l.i _ l.invariant (omega (arith, e)) (omega (arith, e)) (sym c.has.ensures ∙ w.if-has.false))
     ]
-
-pub returns : goal.returns
-returns c = let l = c.loop-i in let a = c.args in chosen-all (take a.l.count a.l.lines) a.number l.chosen.lines l.chosen.count l.i l.invariant (omega (arith, length-take-le a.l.count a.l.lines (omega arith)))

@@ -1,13 +1,10 @@
 use mathlib.Core.Path.{sym, ◌∙◌, ap}
 use Rattle.semantics.specs.Models.{Program}
 use Rattle.strike_list.specs.Lists.{named, shown}
-use Rattle.strike_list.proofs.Records.{holds-none, holds-shown}
+use Rattle.strike_list.proofs.Records.{holds-shown}
 use Rattle.strike_list.proofs.Gathering.{begun, begun-end, gathered-less, gathered-room, gathered-more}
 use Rattle.strike_list.proofs.gather.Goals as goal
 use Rattle.strike_list.proofs.gather.Goals.{else-wanted, then-wanted}
-
-pub loop-c-init : goal.loop-c-init
-loop-c-init c = rw c.none-found.ensures holds-none
 
 pub push-requires : goal.push-requires
 push-requires c =
