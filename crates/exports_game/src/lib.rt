@@ -2,7 +2,7 @@
 #![tactic(auto)]
 
 ghost use Rattle.std.specs.Prelude.{◌≡◌};
-ghost use Rattle.exports_game.specs.Codes.{coded as code_of, states as states_of, moves as moves_of, Few};
+ghost use Rattle.exports_game.specs.Codes.{coded as code_of, Few};
 ghost use Rattle.exports_game.specs.Calls.{Tells};
 
 use game_answer::Game;
@@ -21,28 +21,6 @@ fn coded(game: Result<Game, Refusal>) -> u64
     }
 }
 
-// The cells of the states.
-// The two rows stay two functions: an array field cannot be made part of a pair straight.
-fn listed(game: Result<Game, Refusal>) -> [u32; LISTED]
-    ensures { result ≡ states_of game }
-{
-    match game {
-        Ok(g) => g.states,
-        Err(_) => [0u32; LISTED],
-    }
-}
-
-// The cells of their numbers of moves.
-// The two rows stay two functions: an array field cannot be made part of a pair straight.
-fn counted(game: Result<Game, Refusal>) -> [u32; LISTED]
-    ensures { result ≡ moves_of game }
-{
-    match game {
-        Ok(g) => g.moves,
-        Err(_) => [0u32; LISTED],
-    }
-}
-
 // Tells for each reachable state who can force the outcome of the game.
 #[unsafe(no_mangle)]
 pub extern "C" fn eon_game(
@@ -56,9 +34,7 @@ pub extern "C" fn eon_game(
     ensures { Tells text.now attacker.now guardian.now work.old result work.new states.new moves.new }
 {
     let game = game::play(text, attacker, guardian, work);
-    let listing = listed(game);
-    *states = listing;
-    let counts = counted(game);
-    *moves = counts;
+    *states = game.map_or([0; LISTED], |g| g.states);
+    *moves = game.map_or([0; LISTED], |g| g.moves);
     coded(game)
 }

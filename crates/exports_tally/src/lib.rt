@@ -2,7 +2,7 @@
 #![tactic(auto)]
 
 ghost use Rattle.std.specs.Prelude.{◌≡◌};
-ghost use Rattle.exports_tally.specs.Codes.{coded as code_of, counts as counts_of};
+ghost use Rattle.exports_tally.specs.Codes.{coded as code_of};
 ghost use Rattle.exports_tally.specs.Calls.{Counted};
 
 use rows::Refusal;
@@ -22,16 +22,6 @@ fn coded(count: Result<Count, Refusal>) -> u64
     }
 }
 
-// The cells beside an answer.
-fn counts(count: Result<Count, Refusal>) -> [u32; COUNTS]
-    ensures { result ≡ counts_of count }
-{
-    match count {
-        Ok(c) => [c.reached, c.unreached, c.share, c.remainder],
-        Err(_) => [0u32; COUNTS],
-    }
-}
-
 // Counts the choices of the listed lines.
 #[unsafe(no_mangle)]
 pub extern "C" fn eon_tally(
@@ -43,7 +33,9 @@ pub extern "C" fn eon_tally(
     ensures { Counted text.now list.now work.old result work.new out.new }
 {
     let count = tally::tally(text, list, work);
-    let cells = counts(count);
-    *out = cells;
+    *out = count.map_or(
+        [0; COUNTS],
+        |c| [c.reached, c.unreached, c.share, c.remainder],
+    );
     coded(count)
 }
