@@ -43,7 +43,7 @@ fn kind_of(kinds: &[u32; CELLS], i: usize) -> Kind
 }
 
 // Writes the bytes, and the digit of a level behind them.
-// A level stays a number and the place a parameter: levels are counted up, looked up in a table and given by C, and each call writes behind the one before.
+// A level stays a number and the place a parameter: a type of levels would be made of a loop's number by this very clause, to be taken apart for its digit, and each call answers the place of the next one.
 // It and all that is written by it stay beside `Display`, as `listing_bytes::put_numeral` does: the slice that C lends has the room that each contract asks for.
 fn put_level(out: &mut [u8], at: usize, bytes: &[u8], level: u32) -> usize
     requires { (level < levels) × (at + length bytes.now + 1 ≤ length out.old) }
@@ -102,7 +102,7 @@ fn put_entry(out: &mut [u8], at: usize, a: u32, b: u32) -> usize
 }
 
 // Writes the lines of a row of the table, its columns up to the port level.
-// The port level stays a number: C gives it so, and it bounds the columns.
+// The port level stays a number: a type of levels would be taken apart here at once, since it ends a loop over numbers.
 fn put_row(out: &mut [u8], at: usize, port: u32, a: u32) -> usize
     requires { (port < levels) × (a < levels) × (at + 500 ≤ length out.old) }
     ensures { Writes out.old at (printed (row_forms port a)) result out.new }

@@ -43,7 +43,7 @@ fn arranged(s: States, listing: Listing, ranks: [Option<u32>; LISTED]) -> [u32; 
 }
 
 // The game over the explored states.
-// `WellFormed m` stays a clause: it speaks by recursion over the model's lists, which a ghost field cannot hold, and behind an `impl Model` other crates would read a model only through a method that gives it out whole; the two lists stay beside the model, since C lends them apart.
+// `WellFormed m` stays a clause: a record is blank before a text is read into it, which is not well formed, and a second type around a well-formed record would be opened wherever a field of it is read; the two lists stay beside the model, since C lends them apart.
 fn tell(m: Model, attacker: &[u32], guardian: &[u32], facts: &[u8], found: Explored) -> Game
     requires { WellFormed m × OneVariable m × Surveyed m facts.now found }
     ensures { Telling (program_of m) (question_of m) attacker.now guardian.now result }

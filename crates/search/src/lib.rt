@@ -44,7 +44,7 @@ pub struct Found {
 }
 
 // The moves over the found states.
-// That the model is well-formed stays in clauses: a model is a value of any numbers, which acceptance alone makes well-formed.
+// That the model is well formed stays a clause: a record is blank before a text is read into it, which is not well formed, and a second type around a well-formed record would be opened wherever a field of it is read.
 fn tables(work: &[u8], m: Model, s: States) -> Moves
     requires { WellFormed m × (room ≤ length work.now) × Exactly m work.now s × Whole (program_of m) (row s) }
     ensures { Moving m s result }

@@ -96,6 +96,7 @@ fn begins(work: &[u8], slots: &[u8], body: &[u32], variables: usize, c: Choice, 
 }
 
 // Does it hold with some slot of the row for its first variable?
+// What is lent stays apart, as at `begins`: a struct of it would be made only to be taken apart by the evaluator.
 fn somewhere(
     work: &[u8],
     slots: &[u8],
@@ -135,7 +136,7 @@ fn pointed(
 }
 
 // Does the stage hold with the pair e f?
-// That the stage can be asked and that f is a slot stays in clauses, and the stage and f stay apart: the stage is another one for each level, and f for each row.
+// That the stage can be asked and that f is a slot stays in clauses, and the stage and f stay apart: the stage is another one for each level and f for each row, so that a struct of both would be made anew for each row.
 fn holds(work: &[u8], slots: &[u8], body: &[u32], t: Meeting, e: usize, f: usize) -> bool
     requires { Ready work.now slots.now body.now t × (e < limit.listed) × (f < limit.listed) }
     ensures { Over work.now (length slots.now) (λ S. (result ≡ true) ↔ Met S work.now body.now t e f) }
@@ -237,7 +238,7 @@ fn onward(ways: &[u8; MATRIX], a: Walker, row: [u8; BYTES]) -> [u8; BYTES]
 }
 
 // The slots that the first object has on level k with those from which the second one goes to slot f.
-// The level and the row stay apart from the matrices, with their bounds in clauses: they are the numbers of two loops, while the matrices are lent.
+// The level and the row stay apart from the matrices, with their bounds in clauses: they are the numbers of two loops, so that a struct of them with the matrices would be made anew at each turn.
 fn gathered(ways: &[u8; MATRIX], b: Walker, rows: &[u8; LEVELS], k: usize, f: usize) -> [u8; BYTES]
     requires { (k ≤ limit.stages) × (f < limit.listed) }
     ensures { Has result (λ u. Onward ways.now (stands b) b.chosen (λ v. pair_at rows.now k u v ≡ true) f) }
@@ -253,7 +254,7 @@ fn gathered(ways: &[u8; MATRIX], b: Walker, rows: &[u8; LEVELS], k: usize, f: us
 }
 
 // The slots that go with slot f when both objects are led on from level k.
-// The stage stays beside the level: a level is made of the one before it by the stage between them.
+// The stage stays beside the level and the matrices: the stage and the level are others for each level that is filled, so that a struct of them would be made anew for each.
 fn led(ways: &[u8; MATRIX], t: Meeting, rows: &[u8; LEVELS], k: usize, f: usize) -> [u8; BYTES]
     requires { (k ≤ limit.stages) × (f < limit.listed) }
     ensures { Has result (λ e. Led ways.now t (pair_at rows.now k) e f) }

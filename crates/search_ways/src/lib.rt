@@ -41,7 +41,7 @@ fn note(work: &[u8], c: Clause, i: usize, table: &mut [u8])
 }
 
 // The table of moves: row i has the slots from which clause i can be taken, if it is a `next` clause.
-// That the model is well-formed stays in clauses: a model is a value of any numbers, which acceptance alone makes well-formed.
+// That the model is well formed stays a clause: a record is blank before a text is read into it, which is not well formed, and a second type around a well-formed record would be opened wherever a field of it is read.
 pub fn takes(work: &[u8], m: Model, table: &mut [u8; TABLE])
     requires { WellFormed m × (room ≤ length work.now) }
     ensures { (s : States) → Exactly m work.now s → Marks table.new (CanTake m s) }
@@ -53,7 +53,7 @@ pub fn takes(work: &[u8], m: Model, table: &mut [u8; TABLE])
 }
 
 // Marks each of the first n slots with itself.
-// That n is at most so many stays a clause: it is the count of the states found, and the matrices have rows for all slots.
+// That n is at most so many stays a clause: a type with that bound would be made of the count by this very clause, to be taken apart for the end of a loop.
 fn stay(n: usize, ways: &mut [u8; MATRIX])
     requires { (n ≤ limit.listed) }
     ensures { Marks ways.new (With ways.old (Between n (λ e t. e ≡ t))) }
@@ -64,7 +64,7 @@ fn stay(n: usize, ways: &mut [u8; MATRIX])
 }
 
 // Marks the slot that the relabeled state of slot e has, if it has one.
-// That the states are different and few stays in clauses: they are a part of the row found, lent as a slice.
+// That the states are different and few stays in clauses: what is lent is the part of the found states that counts, and a struct around it would be made by these very clauses, in `steps` alone.
 fn lead_at(states: &[u32], plus: u32, minus: u32, e: usize, ways: &mut [u8; MATRIX])
     requires { Distinct states.now × (length states.now ≤ limit.listed) × (e < length states.now) }
     ensures { Marks ways.new (With ways.old (InRow e (length states.now) (λ t. state states.now t ≡ relabel (state states.now e) plus minus))) }
@@ -202,7 +202,7 @@ pub fn turns(c: Clause, from: u32, to: u32) -> bool
 }
 
 // The line of the first clause that can be taken from slot u and makes the one state the other, if there is one.
-// That the model is well-formed stays in clauses: a model is a value of any numbers, which acceptance alone makes well-formed.
+// That the model is well formed stays a clause: a record is blank before a text is read into it, which is not well formed, and a second type around a well-formed record would be opened wherever a field of it is read.
 pub fn line_between(m: Model, table: &[u8; TABLE], u: usize, from: u32, to: u32) -> Option<u32>
     requires { WellFormed m × (u < width.slots) }
     ensures { LineBetween m table.now u from to result }

@@ -54,7 +54,7 @@ fn wanted(action: Action, line: u32, list: &[u32]) -> bool
 }
 
 // The listed lines that are `new` or `next` lines, in the order of the model.
-// That the model is well-formed stays in clauses: a model is a value of any numbers, which acceptance alone makes well-formed.
+// That the model is well formed stays a clause: a record is blank before a text is read into it, which is not well formed, and a second type around a well-formed record would be opened wherever a field of it is read.
 fn gather(m: Model, list: &[u32]) -> Lines
     requires { WellFormed m × (length list.now ≤ most) }
     ensures { result ≡ shown (named (program_of m) list.now) }

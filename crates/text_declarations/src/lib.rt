@@ -75,6 +75,7 @@ fn arity_at(text: &[u8], at: usize) -> Option<u32>
 }
 
 // Where the name of a `state` line ends, if the line has that shape up to its end.
+// The text and the place stay two parameters: `text_scan` says why.
 fn state_end(text: &[u8], at: usize) -> Option<usize>
     requires { at ≤ length text.now }
     ensures { MatchOption result (whole (state_rest (drop at text.now)) ≡ none) (StateAt text.now at) }
@@ -99,6 +100,7 @@ pub fn read_state(text: &[u8], d: Declared, at: usize) -> Result<Declared, Row>
 }
 
 // Where the name of a `rel` line ends, and its arity, if the line has that shape up to its end.
+// The text and the place stay two parameters: `text_scan` says why.
 fn rel_end(text: &[u8], at: usize) -> Option<(usize, u32)>
     requires { at ≤ length text.now }
     ensures { MatchOption result (whole (rel_rest (drop at text.now)) ≡ none) (λ p. RelAt text.now at p.0 p.1) }

@@ -14,7 +14,7 @@ use text_clauses::Reading;
 use text_names::Declared;
 
 // The clause of the line that is next, which declares nothing, up to the end of the text.
-// The tests stay a chain, here and in `read_line`: each word has a reader of its own, and a table of words would need a `match` on the place found.
+// The tests stay a chain, here and in `read_line`: each word has a reader of its own, and a table of words would need a `match` on the place found. The text and the place stay two parameters: `text_scan` says why.
 fn read_clause(text: &[u8], at: usize, d: Declared, clauses: usize) -> Result<Reading, Row>
     requires { (at ≤ length text.now) × (length text.now < 4294967296) × names.Valid text.now d × ClauseAt text.now at }
     ensures { ClauseRead text.now at d clauses result }

@@ -40,7 +40,7 @@ fn name(stage: Stage, variable: u32, e: usize, c: Choice) -> Choice
 }
 
 // The choice with these elements for the carried variables, where stage k + 1 has them.
-// That the model is well-formed stays in clauses: a model is a value of any numbers, which acceptance alone makes well-formed.
+// That the model is well formed stays a clause: a record is blank before a text is read into it, which is not well formed, and a second type around a well-formed record would be opened wherever a field of it is read.
 // The stage and the two numbers stay apart: they are slots in one call and objects of the cast in another, so that a struct would be made anew for each.
 fn name_both(m: Model, k: usize, first: usize, second: usize, c: Choice) -> Choice
     requires { WellFormed m × (k < m.stagecount) }
@@ -139,7 +139,7 @@ fn number(k: usize, n: usize, c: Choice) -> u32
 }
 
 // Writes the meeting of stage k + 1 at index `at` with these objects, but the cast's for the carried variables. Returns the index behind it.
-// The table, the model, the cast and the index stay apart, with the room in clauses: the table is written place by place, and the index is the caller's.
+// The table, the model, the cast and the index stay apart, with the room in clauses: the index is another one for each place that is written, so that a struct of them would be made anew for each.
 fn gather(run: &mut [u32], m: Model, cast: Cast, k: usize, objects: Choice, at: usize) -> usize
     requires { WellFormed m × (k < m.stagecount) × (cast.first < limit.objects) × (cast.second < limit.objects) × ((x : ℕ) → x < (stage_at m k).variables → chosen objects x < limit.objects) × (at < length run.old) }
     ensures { (w : ℕ → Option ℕ) (σ : ℕ → ℕ) → Takes m cast k w σ objects → Written (λ ps. ps ≡ gathering m cast w k σ ∷ []) 1 run.old at run.new result }

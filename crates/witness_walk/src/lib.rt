@@ -32,7 +32,7 @@ pub struct Stand {
 }
 
 // Does the carried variable of cell v stand in stage k, counted from 0?
-// That the model is well-formed and the cell and the stage are in range stays in clauses: a model is a value of any numbers, which acceptance alone makes well-formed.
+// That the model is well formed stays a clause: a record is blank before a text is read into it, which is not well formed. The model, the cell and the stage stay apart, with the ranges in clauses: the walk asks for both cells of each stage, so that a struct of the three would be made anew for each pair.
 // The model, the cell and the stage stay apart: the walk asks for both cells of each stage.
 fn holds(m: Model, v: usize, k: usize) -> bool
     requires { WellFormed m × (v < limit.carried) × (k < m.stagecount) }
