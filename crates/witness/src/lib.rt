@@ -38,6 +38,6 @@ pub fn witness(
         run, work, &slots, m, s, rows, table, steps, ways, cast, 0, goal,
     );
     let r = witness_lineage::build(run, m, s, 0, from.at);
-    witness_table::turn(run, r);
+    run[..r].reverse();
     r
 }

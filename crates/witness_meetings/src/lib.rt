@@ -122,6 +122,7 @@ fn behind(n: usize, base: u32, c: Choice) -> Choice
 }
 
 // The number of the meeting of stage k + 1 with the chosen objects of its n variables.
+// The three objects stay asked for one by one, as in `replay_steps::number`: there they are multiplied into one number, here they are a place's parts, and an array of them would be taken apart again by both.
 fn number(k: usize, n: usize, c: Choice) -> u32
     requires { (k < 127) × (n ≤ limit.variables) × ((x : ℕ) → x < n → chosen c x < limit.objects) }
     ensures { result ≡ number_of (meeting k n c) }
