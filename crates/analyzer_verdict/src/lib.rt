@@ -68,9 +68,9 @@ fn conclude(m: Model, facts: &[u8], run: &mut [u32], found: Found) -> Answer
     requires { WellFormed m × Searched m facts.now found × (limit.run ≤ length run.old) }
     ensures { Answered (program_of m) (question_of m) run.old run.new result }
 {
-    let Some(goal) = found.goal else {
+    if !found.reached {
         return Answer::Unreached;
-    };
+    }
     let moves = &found.explored.moves;
     let places = witness::witness(
         run,
@@ -81,7 +81,6 @@ fn conclude(m: Model, facts: &[u8], run: &mut [u32], found: Found) -> Answer
         &moves.table,
         &moves.steps,
         &moves.ways,
-        goal,
     );
     let last = model::place_of(run[places - 1]);
     Answer::Reached { places, last }

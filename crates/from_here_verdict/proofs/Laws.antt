@@ -4,7 +4,7 @@ use mathlib.Core.Logic.{◌↔◌, inl, inr}
 use mathlib.Core.Bool.{true, false, false≢true}
 use mathlib.Core.List.{List, [], ◌∷◌, ◌++◌, map}
 use mathlib.Core.Option.{some, some-injective}
-use Rattle.std.specs.Prelude.{Some, is_some}
+use Rattle.std.specs.Prelude.{Some}
 use Prim.Native.Nat.{ℕ, zero, suc, ◌-◌, ◌≤◌, ◌<◌}
 use native.Mathlib.Omega.{arith}
 use lib.ListN.{length, take, drop, get_or, length-map}
@@ -34,7 +34,6 @@ use Rattle.search_states.proofs.Laws.{length-row}
 use Rattle.search_states.proofs.Seats.{seat-in}
 use Rattle.search_levels.specs.Levels.{first_variable}
 use Rattle.search_levels.proofs.Targets.{first-stands}
-use Rattle.search_levels.specs.declared.Pair.{Pair}
 use Rattle.search.specs.declared.Found.{Found}
 use Rattle.search.specs.Search.{SearchedFrom}
 use Rattle.witness_table.specs.Runs.{numbers}
@@ -88,15 +87,15 @@ module _ (m : Model) (ns : List ℕ) (s : Session) (h : Stopped m ns (length ns)
 
 -- WHAT THE SEARCH SAYS of the object
 module _ (m : Model) (s : Session) (o : ℕ) (h : Ready m s o) (w : List ℕ) (r : Found) (f : SearchedFrom m (state_in s o) w r) where
-  verdict : (is_some r.goal ≡ true) ↔ ReachedFrom (program_of m) (question_of m) (there m s) (first_variable m) o
+  verdict : (r.reached ≡ true) ↔ ReachedFrom (program_of m) (question_of m) (there m s) (first_variable m) o
   verdict =
       let l = leads-places (program_of m) (question_of m) (start []) (session_of m s) h.places (length h.places) h.stopped.leads in
       f.verdict l.0 (session_of m s) l.1 o (let a = h.created in let b = there-long m h.places s h.stopped in omega arith) (there-state m h.places s h.stopped o h.created)
 
-  pub reached : is_some r.goal ≡ true → ReachedFrom (program_of m) (question_of m) (there m s) (first_variable m) o
+  pub reached : r.reached ≡ true → ReachedFrom (program_of m) (question_of m) (there m s) (first_variable m) o
   reached = verdict.0
 
-  pub unreached : is_some r.goal ≡ false → ReachedFrom (program_of m) (question_of m) (there m s) (first_variable m) o → ⊥
+  pub unreached : r.reached ≡ false → ReachedFrom (program_of m) (question_of m) (there m s) (first_variable m) o → ⊥
   unreached e h = false≢true (sym e ∙ verdict.1 h)
 
   -- the states by rising number
@@ -145,12 +144,12 @@ module _ (m : Model) (s : Session) (o : ℕ) (h : Ready m s o) (w : List ℕ) (r
       let c = came_from m w r.explored.states r.levels.rows r.explored.moves.table r.explored.moves.steps r.explored.moves.ways recorded (suc k) e g (omega arith) sits in
       from_one (suc k) (omega arith) (omega arith) c.0 c.1 c.2.0
 
-  module _ (p : Pair) (yes : r.goal ≡ Some p) where
-    pub sits : Sits r.levels.rows m.stagecount p.first p.second
-    sits = rw yes at f.goal
+  module _ (yes : r.reached ≡ true) where
+    pub sits : (e g : ℕ) × Sits r.levels.rows m.stagecount e g
+    sits = let x = f.entered yes in (x.0, x.1, (x.2, x.3, x.4))
 
     pub slot-there : slot < r.explored.states.count
-    slot-there = let y = from_one m.stagecount h.model.one (omega arith) p.first p.second sits in (came y.0 y.1 y.2).2
+    slot-there = let x = sits in let y = from_one m.stagecount h.model.one (omega arith) x.0 x.1 x.2 in (came y.0 y.1 y.2).2
 
     pub slot-state : state (there m s) o ≡ state (row r.explored.states) slot
     slot-state =

@@ -1,7 +1,7 @@
 // What can still become of an object, over an accepted model: the question put anew from where places lead, with that object for the first variable of stage 1.
 #![tactic(auto)]
 
-ghost use Rattle.std.specs.Prelude.{◌≡◌, Some, ◌≤◌, length};
+ghost use Rattle.std.specs.Prelude.{◌≡◌, true, ◌≤◌, length};
 ghost use Rattle.limits.specs.Limits as limit;
 ghost use Rattle.model.specs.Records.{program_of, question_of};
 ghost use Rattle.model.specs.WellFormed.{WellFormed};
@@ -19,20 +19,11 @@ use model::Model;
 use replay_session::Session;
 use rows::Row;
 use search::Found;
-use search_levels::Pair;
 
 // Writes the run of a reached question. Returns how many places it has.
 // `Ready m s object` stays a clause and its three parameters stay apart, since the search asks for the model and one state alone and a record would be taken apart for it; the length of `run` stays a clause, since C lends a row that may be longer.
-fn show(
-    m: Model,
-    s: Session,
-    object: u32,
-    facts: &[u8],
-    run: &mut [u32],
-    found: Found,
-    goal: Pair,
-) -> usize
-    requires { Ready m s object × SearchedFrom m (state_in s object) facts.now found × (found.goal ≡ Some goal) × (limit.run ≤ length run.old) }
+fn show(m: Model, s: Session, object: u32, facts: &[u8], run: &mut [u32], found: Found) -> usize
+    requires { Ready m s object × SearchedFrom m (state_in s object) facts.now found × (found.reached ≡ true) × (limit.run ≤ length run.old) }
     ensures { ShownFrom m (there m s) object run.old run.new result }
 {
     let states = found.explored.states;
@@ -50,7 +41,6 @@ fn show(
         &moves.table,
         &moves.steps,
         &moves.ways,
-        goal,
         s.objects as u32,
         object,
         slot,
@@ -69,10 +59,10 @@ fn conclude(
     requires { Ready m s object × SearchedFrom m (state_in s object) facts.now found × (limit.run ≤ length run.old) }
     ensures { Concluded m s object run.old run.new result }
 {
-    let Some(goal) = found.goal else {
+    if !found.reached {
         return Answer::Unreached;
-    };
-    let places = show(m, s, object, facts, run, found, goal);
+    }
+    let places = show(m, s, object, facts, run, found);
     let last = model::place_of(run[places - 1]);
     Answer::Reached { places, last }
 }

@@ -40,7 +40,7 @@ fn judge(m: Model, reached: Mark, unreached: Mark, work: &mut [u8]) -> Result<Ma
     let Some(found) = search::search(&mut table, m) else {
         return Err(CROWDED);
     };
-    if found.goal.is_some() {
+    if found.reached {
         return Ok(reached);
     }
     Ok(unreached)

@@ -27,19 +27,19 @@ use Rattle.search_clauses.specs.Reach.{Lists}
 use Rattle.search_reachable.specs.Reachable.{Reaches}
 use Rattle.search_ways.specs.Moves.{Exactly}
 use Rattle.search_ways.proofs.Laws.{whole}
-use Rattle.std.specs.Prelude.{Option, Some, None, is_some}
+use Rattle.std.specs.Prelude.{Option, Some, None, MatchOption, is_some}
 use Rattle.search_levels.specs.declared.Pair.{Pair}
-use Rattle.search_levels.specs.Levels.{pair_at, Aims, Filled}
+use Rattle.search_levels.specs.Levels.{OnLevel, Aims, Filled}
 use Rattle.search_levels.proofs.Targets.{aims-points}
 use Rattle.search_levels.proofs.Laws as levels
 use Rattle.search.specs.declared.Explored.{Explored}
 use Rattle.search.specs.declared.Found.{Found}
-use Rattle.search.specs.Search.{Surveyed, Goal, Judged, Searched, SearchedFrom}
+use Rattle.search.specs.Search.{Surveyed, Entered, Judged, Searched, SearchedFrom}
 
 -- a level has a pair, where one is found
-entered-some : (rows : List ℕ) (k : ℕ) (g : Option Pair) → Goal rows k g → (is_some g ≡ true) ↔ ((e f : ℕ) × (e < limit.listed) × (f < limit.listed) × (pair_at rows k e f ≡ true))
-entered-some rows k None h = ((λ z. absurd (false≢true z)), λ s. absurd (h s.0 s.1 (s.2, s.3, s.4)))
-entered-some rows k (Some p) h = ((λ z. (p.first, p.second, h.0, h.1, h.2)), λ s. refl)
+pub entered-some : (rows : List ℕ) (k : ℕ) (r : Option Pair) (b : Bool) → MatchOption r ((e f : ℕ) → OnLevel rows k e f → ⊥) (λ p. OnLevel rows k p.first p.second) → b ≡ is_some r → (b ≡ true) ↔ Entered rows k
+entered-some rows k None b h q = ((λ z. absurd (false≢true (sym q ∙ z))), λ s. absurd (h s.0 s.1 (s.2, s.3, s.4)))
+entered-some rows k (Some p) b h q = ((λ z. (p.first, p.second, h.0, h.1, h.2)), λ s. q)
 
 module _ (m : Model) (wf : WellFormed m) (w : List ℕ) (s : States) (reaches : Reaches m w s) where
   pub exactly : Exactly m w s
@@ -91,23 +91,16 @@ module _ (m : Model) (wf : WellFormed m) (w : List ℕ) (e : Explored) (surveyed
   filled : Filled m (row r.explored.states) w r.explored.moves.ways p r.levels
   filled = subst (λ (x : Explored). Filled m (row x.states) w x.moves.ways p r.levels) (sym judged.explored) judged.levels
 
-  -- the last level has a pair
-  abbrev Entered : Type 0
-  Entered = (e f : ℕ) × (e < limit.listed) × (f < limit.listed) × (pair_at r.levels.rows m.stagecount e f ≡ true)
-
-  entered : (is_some r.goal ≡ true) ↔ Entered
-  entered = entered-some r.levels.rows m.stagecount r.goal judged.goal
-
   pub searched : p ≡ None → Searched m w r
-  searched plain = record { explored = surveyed-found; verdict = go (is_some r.goal) entered; goal = judged.goal; levels = unasked }
+  searched plain = record { explored = surveyed-found; verdict = go r.reached judged.entered; entered = judged.entered.0; levels = unasked }
     where
       unasked : Filled m (row r.explored.states) w r.explored.moves.ways None r.levels
       unasked = subst (λ (x : Option (List ℕ)). Filled m (row r.explored.states) w r.explored.moves.ways x r.levels) plain filled
 
-      law : Entered ↔ Verdict (program_of m) (question_of m) true
+      law : Entered r.levels.rows m.stagecount ↔ Verdict (program_of m) (question_of m) true
       law = levels.verdict m wf w r.explored.states (surveyed-exactly m w r.explored surveyed-found) r.explored.moves.ways surveyed-found.moves.ways None r.levels unasked surveyed-found.whole surveyed-found.found refl
 
-      go : (b : Bool) → (b ≡ true) ↔ Entered → Verdict (program_of m) (question_of m) b
+      go : (b : Bool) → (b ≡ true) ↔ Entered r.levels.rows m.stagecount → Verdict (program_of m) (question_of m) b
       go true q = law.0 (q.0 refl)
       go false q = λ x. absurd (false≢true (q.1 (law.1 x)))
 
@@ -117,8 +110,8 @@ module _ (m : Model) (wf : WellFormed m) (w : List ℕ) (e : Explored) (surveyed
     explored = surveyed-found;
     verdict = λ ps t lead o there same. let law = levels.verdict-from m wf w r.explored.states (surveyed-exactly m w r.explored surveyed-found) r.explored.moves.ways surveyed-found.moves.ways p r.levels filled surveyed-found.whole surveyed-found.found s among asks
         (aims-points m wf r.explored.states surveyed-found.proper r.explored.moves.ways surveyed-found.moves.ways s among aimed) one ps t lead o there same in
-        ((λ q. law.0 (entered.0 q)), λ q. entered.1 (law.1 q));
-    goal = judged.goal;
+        ((λ q. law.0 (judged.entered.0 q)), λ q. judged.entered.1 (law.1 q));
+    entered = judged.entered.0;
     asked = among;
     aims = aimed;
     levels = subst (λ (x : Option (List ℕ)). Filled m (row r.explored.states) w r.explored.moves.ways x r.levels) asks filled;

@@ -1,5 +1,5 @@
 -- WHAT THE SEARCH FINDS of a model: exactly the reachable states, and the verdict, both about runs of every length; and what a run can be built from. Or that there are too many states.
-use Rattle.std.specs.Prelude.{◌≡◌, ◌↔◌, true, Option, Some, None, MatchOption, is_some, List, [], ℕ, ◌<◌, length}
+use Rattle.std.specs.Prelude.{◌≡◌, ◌↔◌, true, Option, Some, None, MatchOption, List, [], ℕ, ◌<◌, length}
 use Rattle.limits.specs.Limits as limit
 use Rattle.semantics.specs.Facts.{state}
 use Rattle.semantics.specs.Steps.{Reachable, MoreThan}
@@ -20,8 +20,7 @@ use Rattle.search_states.specs.States.{row, Known, Proper, Discovered}
 use Rattle.search_states.specs.Rising.{Lists}
 use Rattle.search_ways.specs.Moves.{table_bytes, matrix_bytes, Marks, CanTake}
 use Rattle.search_ways.specs.Steps.{Between, OneStep}
-use Rattle.search_levels.specs.declared.Pair.{Pair}
-use Rattle.search_levels.specs.Levels.{OnLevel, first_variable, Aims, Filled}
+use Rattle.search_levels.specs.Levels.{pair_at, first_variable, Aims, Filled}
 use Rattle.search.specs.declared.Moves.{Moves}
 use Rattle.search.specs.declared.Explored.{Explored}
 use Rattle.search.specs.declared.Found.{Found}
@@ -57,22 +56,22 @@ pub record Surveyed (m : Model) (w : List ℕ) (r : Explored) : Type 0 where
 abbrev pub Explores : Model → List ℕ → Option Explored → Type 0
 Explores m w r = MatchOption r (MoreThan limit.atomic (program_of m)) (Surveyed m w)
 
--- the pair is one of level k, or the level has none
-abbrev pub Goal : List ℕ → ℕ → Option Pair → Type 0
-Goal rows k g = MatchOption g ((e f : ℕ) → OnLevel rows k e f → ⊥) (λ p. OnLevel rows k p.first p.second)
+-- level k has a pair
+abbrev pub Entered : List ℕ → ℕ → Type 0
+Entered rows k = (e f : ℕ) × (e < limit.listed) × (f < limit.listed) × (pair_at rows k e f ≡ true)
 
--- the levels over the explored states, where p is what stage 1 asks besides, and a pair of the last one, if it has one
+-- the levels over the explored states, where p is what stage 1 asks besides, and whether the last one has a pair
 pub record Judged (m : Model) (w : List ℕ) (e : Explored) (p : Option (List ℕ)) (r : Found) : Type 0 where
   pub explored : r.explored ≡ e
   pub levels : Filled m (row e.states) w e.moves.ways p r.levels
-  pub goal : Goal r.levels.rows m.stagecount r.goal
+  pub entered : (r.reached ≡ true) ↔ Entered r.levels.rows m.stagecount
 
 -- w is the work area as the search leaves it
 pub record Searched (m : Model) (w : List ℕ) (r : Found) : Type 0 where
   pub explored : Surveyed m w r.explored
-  -- the question is reached exactly where there is a goal, which is a pair of the last level
-  pub verdict : Verdict (program_of m) (question_of m) (is_some r.goal)
-  pub goal : Goal r.levels.rows m.stagecount r.goal
+  -- the verdict is right, and where it is reached the last level has a pair
+  pub verdict : Verdict (program_of m) (question_of m) r.reached
+  pub entered : r.reached ≡ true → Entered r.levels.rows m.stagecount
   -- the levels of the question
   pub levels : Filled m (row r.explored.states) w r.explored.moves.ways None r.levels
 
@@ -83,10 +82,10 @@ Finds m w r = MatchOption r (MoreThan limit.atomic (program_of m)) (Searched m w
 -- FROM A DATABASE, with an object of state s for the first variable of stage 1
 pub record SearchedFrom (m : Model) (s : ℕ) (w : List ℕ) (r : Found) : Type 0 where
   pub explored : Surveyed m w r.explored
-  -- there is a goal exactly where the question is reached, for each such object, wherever places that were kept so far have led; and it is a pair of the last level
+  -- the verdict is right for each such object, wherever places that were kept so far have led, and where it is reached the last level has a pair
   pub verdict : (ps : List Place) (t : Session) → Leads (program_of m) (question_of m) (start []) ps t → (o : ℕ) → o < length t.db → state t.db o ≡ s
-      → (is_some r.goal ≡ true) ↔ ReachedFrom (program_of m) (question_of m) t.db (first_variable m) o
-  pub goal : Goal r.levels.rows m.stagecount r.goal
+      → (r.reached ≡ true) ↔ ReachedFrom (program_of m) (question_of m) t.db (first_variable m) o
+  pub entered : r.reached ≡ true → Entered r.levels.rows m.stagecount
   -- the levels of the question, where stage 1 asks besides for a slot to whose state such an object can come
   pub asked : List ℕ
   pub aims : Aims r.explored.states r.explored.moves.ways s asked

@@ -14,7 +14,7 @@ ghost use Rattle.search.specs.Search.{Moving, Surveyed, Explores, Judged, Finds,
 
 use facts_bits::BYTES;
 use model::Model;
-use search_levels::{Levels, Pair};
+use search_levels::Levels;
 use search_states::{Listing, States};
 use search_ways::{MATRIX, TABLE};
 
@@ -35,12 +35,13 @@ pub struct Explored {
     pub moves: Moves,
 }
 
-// What is explored, the levels of the question, and the pair of the last level to which the carried objects can come, if the question is reached.
+// What is explored, the levels of the question, and whether it is reached.
+// The flag stays, beside levels that count with either value: a pair in its place would have to be handed on to `witness`, which would then ask its callers for one.
 #[derive(Clone, Copy)]
 pub struct Found {
     pub explored: Explored,
     pub levels: Levels,
-    pub goal: Option<Pair>,
+    pub reached: bool,
 }
 
 // The moves over the found states.
@@ -82,18 +83,18 @@ pub fn explore(work: &mut [u8], m: Model) -> Option<Explored>
     Some(surveyed(work, m, states))
 }
 
-// The levels over the reachable states, where p is a row in which stage 1 asks besides for the slot of its first variable, or nothing, and the first pair of the last one, if it has one.
+// The levels over the reachable states, where p is a row in which stage 1 asks besides for the slot of its first variable, or nothing, and whether the last one has a pair.
 fn judged(work: &[u8], m: Model, explored: Explored, p: Option<[u8; BYTES]>) -> Found
     requires { WellFormed m × Surveyed m work.now explored × IfSome p (λ among. 0 < (stage_at m 0).variables) }
     ensures { Judged m work.now explored p result }
 {
     let moves = explored.moves;
     let levels = search_levels::fill(work, m, explored.states, &moves.ways, p);
-    let goal = search_levels::first_pair(&levels.rows, m.stagecount);
+    let reached = search_levels::first_pair(&levels.rows, m.stagecount).is_some();
     Found {
         explored,
         levels,
-        goal,
+        reached,
     }
 }
 

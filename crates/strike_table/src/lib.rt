@@ -59,7 +59,7 @@ fn reached(m: Model, l: Lines, n: u32, facts: &mut [u8]) -> bool
         // No more states are reachable with lines struck than with none.
         unreachable!()
     };
-    found.goal.is_some()
+    found.reached
 }
 
 // Whether a choice is reached: by the table, where a decided one has settled it, or by a search, which then says what it settles.
@@ -130,7 +130,7 @@ pub fn fill(m: Model, l: Lines) -> Option<Table>
     let mut facts = [0u8; ROOM];
     let whole = search::search(&mut facts, m)?;
     let choices = &mut said[..total];
-    mark(choices, 0, whole.goal.is_some());
+    mark(choices, 0, whole.reached);
     complete(choices, m, l, &mut facts);
     Some(Table { said, total })
 }

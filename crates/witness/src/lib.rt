@@ -1,7 +1,7 @@
 // The run of a reached question, out of what the search recorded.
 #![tactic(auto)]
 
-ghost use Rattle.std.specs.Prelude.{◌≤◌, length};
+ghost use Rattle.std.specs.Prelude.{ℕ, ◌≤◌, length};
 ghost use Rattle.limits.specs.Limits as limit;
 ghost use Rattle.witness_walk.specs.Walk.{Recorded, Sits};
 ghost use Rattle.witness.specs.Witness.{Shown};
@@ -12,7 +12,15 @@ use search_states::States;
 use search_ways::{MATRIX, TABLE};
 use witness_meetings::Cast;
 
-// Writes a run into the table: one object of each state is made, and the carried objects walk to the pair, which is one of the last level. Returns how many places it has.
+// The pair to which the carried objects walk: the first of level k, in the first row that has one.
+pub fn goal(rows: &[u8; LEVELS], k: usize) -> Pair
+    requires { (k ≤ limit.stages) × ((e f : ℕ) × Sits rows.now k e f) }
+    ensures { Sits rows.now k result.first result.second }
+{
+    search_levels::first_pair(rows, k).unwrap()
+}
+
+// Writes a run into the table: one object of each state is made, and the carried objects walk to a pair of the last level. Returns how many places it has.
 pub fn witness(
     run: &mut [u32],
     work: &[u8],
@@ -22,12 +30,12 @@ pub fn witness(
     table: &[u8; TABLE],
     steps: &[u8; MATRIX],
     ways: &[u8; MATRIX],
-    goal: Pair,
 ) -> usize
-    requires { Recorded m work.now s rows.now table.now steps.now ways.now × Sits rows.now m.stagecount goal.first goal.second × (limit.run ≤ length run.old) }
+    requires { Recorded m work.now s rows.now table.now steps.now ways.now × ((e f : ℕ) × Sits rows.now m.stagecount e f) × (limit.run ≤ length run.old) }
     ensures { Shown m run.old run.new result }
 {
     let slots = facts_candidates::slots();
+    let pair = goal(rows, m.stagecount);
     let n = s.count as u32;
     let cast = Cast {
         base: 0,
@@ -35,7 +43,7 @@ pub fn witness(
         second: n + 1,
     };
     let from = witness_walk::walk(
-        run, work, &slots, m, s, rows, table, steps, ways, cast, 0, goal,
+        run, work, &slots, m, s, rows, table, steps, ways, cast, 0, pair,
     );
     let r = witness_lineage::build(run, m, s, 0, from.at);
     run[..r].reverse();

@@ -18,7 +18,7 @@ ghost use Rattle.witness_walk.specs.Walk.{Mapped, Recorded, Ready, Sits};
 ghost use Rattle.witness_from.specs.From.{ShownFrom, Openable, first_carried, cast_from, Approach, approached, Opening, opened};
 
 use model::Model;
-use search_levels::{LEVELS, Pair};
+use search_levels::LEVELS;
 use search_states::States;
 use search_ways::{MATRIX, TABLE};
 use witness_meetings::Cast;
@@ -118,19 +118,19 @@ pub fn witness_from(
     table: &[u8; TABLE],
     steps: &[u8; MATRIX],
     ways: &[u8; MATRIX],
-    goal: Pair,
     existing: u32,
     object: u32,
     slot: usize,
 ) -> usize
-    requires { Recorded m work.now s rows.now table.now steps.now ways.now × Sits rows.now m.stagecount goal.first goal.second × Openable m work.now s rows.now ways.now slot × (0 < (stage_at m 0).variables) × (existing ≤ limit.earlier) × (object < existing) × (slot < s.count) × (limit.run ≤ length run.old) }
+    requires { Recorded m work.now s rows.now table.now steps.now ways.now × ((e f : ℕ) × Sits rows.now m.stagecount e f) × Openable m work.now s rows.now ways.now slot × (0 < (stage_at m 0).variables) × (existing ≤ limit.earlier) × (object < existing) × (slot < s.count) × (limit.run ≤ length run.old) }
     ensures { (D : Database) → length D ≡ existing → state D object ≡ state (row s) slot → ShownFrom m D object run.old run.new result }
 {
     let slots = facts_candidates::slots();
+    let pair = witness::goal(rows, m.stagecount);
     let carried = first_carried(m);
     let roles = cast(carried, existing, s.count, object);
     let p = witness_walk::walk(
-        run, work, &slots, m, s, rows, table, steps, ways, roles, 1, goal,
+        run, work, &slots, m, s, rows, table, steps, ways, roles, 1, pair,
     );
     let at = open_with(
         run, work, &slots, m, s, table, steps, ways, roles, carried, object, slot, p,

@@ -39,8 +39,8 @@ mark-requires c = omega (arith, long c.args.l.count _ c.requires.1 c.ways-total.
 pub complete-requires : goal.complete-requires
 complete-requires c =
     let f = c.in_ok-whole.ensures in
-    begun c.args.m c.args.l _ _ _ c.requires.0 f.0.explored.few c.requires.1
-    (rw (c.ways-total.ensures, c.is_some.ensures) at c.mark.ensures) f.0.verdict (omega (arith, f.1, length-replicate {A = ℕ} room 0))
+    begun c.args.m c.args.l _ _ c.in_ok-whole.whole.reached c.requires.0 f.0.explored.few c.requires.1
+    (rw c.ways-total.ensures at c.mark.ensures) f.0.verdict (omega (arith, f.1, length-replicate {A = ℕ} room 0))
 
 pub returns : goal.returns
 returns c =

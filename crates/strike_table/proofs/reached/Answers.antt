@@ -12,4 +12,4 @@ pub returns : goal.returns
 returns c =
     let C = numbered (listed c.args.l) c.args.n in
     let h = c.choose-chosen in
-    (rw c.is_some.ensures (struck-verdict c.args.m _ _ c.strike-struck.ensures C (ap listed h.ensures ∙ listed-shown C) _ c.in-Some.ensures.0.verdict), c.in-Some.ensures.1)
+    (struck-verdict c.args.m _ _ c.strike-struck.ensures C (ap listed h.ensures ∙ listed-shown C) _ c.in-Some.ensures.0.verdict, c.in-Some.ensures.1)

@@ -9,7 +9,7 @@ pub walk-from-requires : goal.walk-from-requires
 walk-from-requires c =
     let p = c.requires in
     let few = c.requires.0.known.proper.count in
-    (p.0, c.slots-slots.ensures, record { states = omega arith; first = omega arith; second = omega arith }, omega arith, p.1, p.2)
+    (p.0, c.slots-slots.ensures, record { states = omega arith; first = omega arith; second = omega arith }, omega arith, c.goal-pair.ensures, p.2)
 
 pub build-r-requires : goal.build-r-requires
 build-r-requires c =

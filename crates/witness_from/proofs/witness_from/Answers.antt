@@ -21,7 +21,7 @@ pub walk-p-requires : goal.walk-p-requires
 walk-p-requires c =
     let p = c.requires in
     let a = c.args in
-    (p.0, c.slots-slots.ensures, subst (Numbered a.s) (sym (same a.existing a.s.count a.object _ _ _ c.cast-roles.ensures c.first_carried-carried.ensures)) (numbered a.m a.work.now a.s p.0.known p.3 a.existing a.object a.slot p.4 p.5), p.0.known.model.one, p.1, p.7)
+    (p.0, c.slots-slots.ensures, subst (Numbered a.s) (sym (same a.existing a.s.count a.object _ _ _ c.cast-roles.ensures c.first_carried-carried.ensures)) (numbered a.m a.work.now a.s p.0.known p.3 a.existing a.object a.slot p.4 p.5), p.0.known.model.one, c.goal-pair.ensures, p.7)
 
 -- what is written of the walk
 behind : (c : After-walk-p) → let a = c.args in let q = c.walk-p.result in
