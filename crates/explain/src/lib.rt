@@ -24,7 +24,7 @@ use facts_heads::ROOM;
 use limits::RUN;
 use model::Model;
 use reasons::Reason;
-use replay_runs::Ending;
+use replay_runs::Ended;
 use replay_session::{Answer, Session};
 use rows::Refusal;
 
@@ -61,7 +61,7 @@ fn why_broken(m: Model, s: Session, place: usize, run: &[u32], work: &mut [u8]) 
 }
 
 // Explains how a run ended.
-fn tell(m: Model, ending: Ending, run: &[u32], work: &mut [u8]) -> Explanation
+fn tell(m: Model, ending: Ended<Answer>, run: &[u32], work: &mut [u8]) -> Explanation
     requires { WellFormed m × (length run.now ≤ limit.run) × (room ≤ length work.old) × Replays (program_of m) (question_of m) (start []) run.now 0 ending.answer × Ends m run.now ending.answer ending.session }
     ensures { Tells (program_of m) (question_of m) run.now ending.answer result × (length work.new ≡ length work.old) }
 {

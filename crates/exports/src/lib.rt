@@ -19,7 +19,7 @@ ghost use Rattle.exports.specs.Ranges.{ShortRun, LowPlace, LowNumber, Shown, Sma
 use analyzer_verdict::Analysis;
 use asbestos_writer::CELLS;
 use handin::{Run, Unreadable};
-use limits::{LISTED, OBJECTS, RUN, TEXT};
+use limits::{LISTED, NONE, OBJECTS, RUN, TEXT};
 use replay_session::{PlaceAnswer, Session};
 use rows::{Refusal, Row};
 use words::Kind;
@@ -29,7 +29,7 @@ const LAST: usize = LISTED + 1;
 
 const OUT: usize = LISTED + 2;
 
-// The cells of a replay's state: behind the objects' states their number, the stages met, the first and the second carried object and the places kept.
+// The cells of a replay's state: behind the objects' states their number, the stages met, the first and the second carried object, 255 for none, and the places kept.
 const MET: usize = OBJECTS + 1;
 
 const FIRST: usize = OBJECTS + 2;
@@ -113,24 +113,25 @@ fn table(a: Analysis, last: u32) -> [u32; OUT]
     cells
 }
 
-// The replay's state that the cells say.
+// The replay's state that the cells say, where 255 is no carried object.
 // It stays a function: neither `Session` nor the array is a type of this crate, so that no `From` can be written here.
 fn unpack(cells: [u32; SESSION]) -> Session
     ensures { (result ≡ state_of cells) × Small result }
 {
     let mut states = [0u32; OBJECTS];
     copy(&mut states, 0, &cells[..OBJECTS]);
-    let carried = [cells[FIRST], cells[SECOND]];
+    let first = replay_meetings::as_object(cells[FIRST]);
+    let second = replay_meetings::as_object(cells[SECOND]);
     Session {
         states,
         objects: cells[OBJECTS] as usize,
         met: cells[MET] as usize,
-        carried,
+        carried: [first, second],
         kept: cells[KEPT] as usize,
     }
 }
 
-// The cells of a replay's state.
+// The cells of a replay's state, with 255 for a carried object that is none.
 // It stays a function: neither `Session` nor the array is a type of this crate, so that no `From` can be written here.
 fn pack(s: Session) -> [u32; SESSION]
     requires { Small s }
@@ -141,8 +142,8 @@ fn pack(s: Session) -> [u32; SESSION]
     let mut cells = [0u32; SESSION];
     cells[OBJECTS] = s.objects as u32;
     cells[MET] = s.met as u32;
-    cells[FIRST] = carried[0];
-    cells[SECOND] = carried[1];
+    cells[FIRST] = carried[0].unwrap_or(NONE as usize) as u32;
+    cells[SECOND] = carried[1].unwrap_or(NONE as usize) as u32;
     cells[KEPT] = s.kept as u32;
     copy(&mut cells, 0, &states);
     cells

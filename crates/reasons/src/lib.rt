@@ -68,21 +68,24 @@ fn beyond(c: Choice, n: usize, objects: usize) -> bool
 }
 
 // Does a choice have another object than the carried one for the stage's variable of a number?
-// NONE stands for none, as among the carried objects of `replay_session::Session`.
-fn swapped(g: Stage, number: u32, carried: u32, c: Choice) -> bool
+fn swapped(g: Stage, number: u32, carried: Option<usize>, c: Choice) -> bool
     requires { g.variables ≤ limit.variables }
     ensures { Says (Swapped g number carried c) result }
 {
-    if carried == NONE {
+    let Some(held) = carried else {
         return false;
-    }
+    };
     let n = g.variables as usize;
-    (0..n).any(|x| g.numbers[x] == number
-        && facts_candidates::element(c, x) != Some(carried as usize))
+    (0..n).any(|x| g.numbers[x] == number && facts_candidates::element(c, x) != Some(held))
 }
 
 // Does a choice have another object than the carried one for some of the carried variables of these numbers?
-fn any_swapped(numbers: [u32; CARRIED], g: Stage, carried: [u32; CARRIED], c: Choice) -> bool
+fn any_swapped(
+    numbers: [u32; CARRIED],
+    g: Stage,
+    carried: [Option<usize>; CARRIED],
+    c: Choice,
+) -> bool
     requires { g.variables ≤ limit.variables }
     ensures { Says (AnySwapped numbers g carried c) result }
 {

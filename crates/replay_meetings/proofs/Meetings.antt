@@ -6,7 +6,6 @@ use mathlib.Core.List.{List, [], ◌∷◌}
 use mathlib.Core.Option.{some}
 use Prim.Native.Nat.{ℕ, suc, ◌+◌, ◌≤◌, ◌<◌}
 use native.Mathlib.Omega.{arith}
-use borrow.Author.Tests.{eq-eqb, ne_eqb}
 use lib.ListN.{length, take, drop, get_or}
 use lib.Seq.{drop-cons}
 use Rattle.std.proofs.lemmas.Bool.{cases_Bool}
@@ -30,7 +29,8 @@ use Rattle.model.proofs.Accepted.{stages, stage-here, stage-vars, stage_body_lem
 use Rattle.facts_candidates.specs.declared.Choice.{Choice}
 use Rattle.facts_candidates.specs.Choices.{element_of, chosen}
 use Rattle.facts_candidates.proofs.Choosing.{some-there}
-use Rattle.std.specs.Prelude.{Option, unwrap_or}
+use Rattle.std.specs.Prelude.{Option, Some, None, unwrap_or}
+use Rattle.std.proofs.lemmas.Option.{none-some}
 use Rattle.replay_session.specs.declared.Session.{Session}
 use Rattle.replay_session.specs.Sessions.{carried_in, carried_by, met}
 use Rattle.replay_session.specs.Records.{session_of}
@@ -48,8 +48,8 @@ carried-in m w v l = ap (λ (k : List ℕ). get_or k 0 0) (sym (drop-cons m.carr
     there : v < length m.carried
     there = let e = carried-cells m w in omega arith
 
-pub named-cells : (m : Model) → WellFormed m → (g : Stage) (c : Choice) (held : List ℕ) → AllNamed m.carried g c held → (v : ℕ) → v < limit.carried → Named g (carried_at m v) c (get_or held v 0)
-named-cells m w g c held f v l = subst (λ (k : ℕ). Named g k c (get_or held v 0)) (carried-in m w v l) (f v l)
+pub named-cells : (m : Model) → WellFormed m → (g : Stage) (c : Choice) (held : List (Option ℕ)) → AllNamed m.carried g c held → (v : ℕ) → v < limit.carried → Named g (carried_at m v) c (get_or held v None)
+named-cells m w g c held f v l = subst (λ (k : ℕ). Named g k c (get_or held v None)) (carried-in m w v l) (f v l)
 
 -- STAGE i of a model: its body can be handed to the evaluator
 module _ (m : Model) (wf : WellFormed m) (i : ℕ) (here : i < m.stagecount) where
@@ -153,18 +153,17 @@ module _ (m : Model) (s : Session) (v : View) (w : List ℕ) (ready : Ready m s 
     not-held n = λ h. n (λ x. named stage os (number_in g x)) (to_held (to-meeting i h).3)
 
     -- THE CARRIED VARIABLES
-    module _ (held : List ℕ) (found : (v : ℕ) → v < limit.carried → Named g (carried_at m v) (choice_of a b c) (get_or held v 0)) where
-      -- the stage has the variable of a cell, whose object is held; or it has not, and 255 is
+    module _ (held : List (Option ℕ)) (found : (v : ℕ) → v < limit.carried → Named g (carried_at m v) (choice_of a b c) (get_or held v None)) where
+      -- the stage has the variable of a cell, whose object is held; or it has not, and none is
       abbrev Has : ℕ → Type 0
-      Has v = ((elem (carried_at m v) (vars stage) ≡ true) × (named stage os (carried_at m v) ≡ get_or held v 0) × (get_or held v 0 ≢ 255)) ⊎ ((elem (carried_at m v) (vars stage) ≡ false) × (get_or held v 0 ≡ 255))
+      Has v = ((elem (carried_at m v) (vars stage) ≡ true) × (get_or held v None ≡ Some (named stage os (carried_at m v)))) ⊎ ((elem (carried_at m v) (vars stage) ≡ false) × (get_or held v None ≡ None))
 
       has : (v : ℕ) → v < limit.carried → Has v
       has v h = ⊎_elim
-          (λ (f : (x : ℕ) × (x < g.variables) × (number_in g x ≡ carried_at m v) × (get_or held v 0 ≡ chosen (choice_of a b c) x)).
+          (λ (f : (x : ℕ) × (x < g.variables) × (number_in g x ≡ carried_at m v) × (get_or held v None ≡ element_of (choice_of a b c) x)).
           inl (
             subst (λ (y : ℕ). elem y (vars stage) ≡ true) f.2 (rw (vars-renamed (number_in g) local) (elem-map (number_in g) f.0 (vars local) ((stage-vars m ready.accepted s.met left f.0).1 f.1))),
-            ap (named stage os) (sym f.2) ∙ object f.0 f.1 ∙ sym f.3,
-            (λ e. object-named f.0 f.1 (sym f.3 ∙ e)),
+            f.3 ∙ some-there (element_of (choice_of a b c) f.0) (object-named f.0 f.1) ∙ ap Some (sym (object f.0 f.1) ∙ ap (named stage os) f.2),
           ))
           (λ f. inr (
             ⊎_elim
@@ -178,28 +177,31 @@ module _ (m : Model) (s : Session) (v : View) (w : List ℕ) (ready : Ready m s 
 
       -- a carried object that differs
       pub disagrees : (AllAgree s.carried held → ⊥) → Barred m s (meet i os)
-      disagrees n = λ h. n (λ v l p q. ⊎_elim (λ f. sym f.1 ∙ (to-meeting i h).4 (carried_at m v) (carried_in s v) (carries v l p f.0) f.0) (λ f. absurd (q f.1)) (has v l))
+      disagrees n = λ h. n (λ v l d e p q. ⊎_elim
+          (λ f. ap (λ (o : Option ℕ). unwrap_or o e) (sym q ∙ f.1) ∙ (to-meeting i h).4 (carried_at m v) d (carries v d l p f.0) f.0)
+          (λ f. absurd (none-some e (sym f.1 ∙ q)))
+          (has v l))
         where
-          carries : (v : ℕ) → v < limit.carried → carried_in s v ≢ 255 → elem (carried_at m v) (vars stage) ≡ true → (session_of m s).carried (carried_at m v) ≡ some (carried_in s v)
-          carries v l p e = cell-stands m ready.accepted s ready.cells v s.met l (subst (λ (body : Body). elem (carried_at m v) (vars body) ≡ true) (sym here) e) p
+          carries : (v d : ℕ) → v < limit.carried → carried_in s v ≡ Some d → elem (carried_at m v) (vars stage) ≡ true → (session_of m s).carried (carried_at m v) ≡ some d
+          carries v d l p e = cell-stands m ready.accepted s ready.cells v s.met d l (subst (λ (body : Body). elem (carried_at m v) (vars body) ≡ true) (sym here) e) p
 
       -- each carried object is the one that the meeting names
       one-object : AllAgree s.carried held → (x d : ℕ) → (session_of m s).carried x ≡ some d → elem x (vars stage) ≡ true → named stage os x ≡ d
       one-object agree x d e h =
           let r = stands-cell m ready.accepted s ready.cells x d e in
           ⊎_elim
-          (λ k. ap (named stage os) (sym r.2) ∙ k.1 ∙ agree r.0 r.1 (λ z. r.4 (sym r.3 ∙ z)) k.2 ∙ r.3)
+          (λ k. ap (named stage os) (sym r.2) ∙ agree r.0 r.1 d (named stage os (carried_at m r.0)) r.3 k.1)
           (λ k. clash (subst (λ (y : ℕ). elem y (vars stage) ≡ true) (sym r.2) h) k.0)
           (has r.0 r.1)
 
-      carried-after : (after : List ℕ) → AllCarried s.carried held after → after ≡ carried_by (carriers (question_of m)) (get_or (question_of m) s.met []) os s.carried
+      carried-after : (after : List (Option ℕ)) → AllCarried s.carried held after → after ≡ carried_by (carriers (question_of m)) (get_or (question_of m) s.met []) os s.carried
       carried-after after (long, each) = carried-left m ready.accepted s ready.cells s.met os after long
-          (λ v l. each v l ∙ subst (λ (body : Body). carried_on (carried_in s v) (get_or held v 0) ≡ cond (elem (carried_at m v) (vars body)) (named body os (carried_at m v)) (carried_in s v)) (sym here) (⊎_elim
-          (λ f. rw (f.0, ne_eqb (get_or held v 0) 255 f.2) (sym f.1))
-          (λ f. rw (f.0, eq-eqb (get_or held v 0) 255 f.1))
+          (λ v l. each v l ∙ subst (λ (body : Body). carried_on (carried_in s v) (get_or held v None) ≡ cond (elem (carried_at m v) (vars body)) (Some (named body os (carried_at m v))) (carried_in s v)) (sym here) (⊎_elim
+          (λ f. rw (f.0, f.1))
+          (λ f. rw (f.0, f.1))
           (has v l)))
 
-      pub meeting-kept : AllAgree s.carried held → (after : List ℕ) → AllCarried s.carried held after → (σ : ℕ → ℕ) → Held σ → Taken m s (meet i os) (met s after) 0
+      pub meeting-kept : AllAgree s.carried held → (after : List (Option ℕ)) → AllCarried s.carried held after → (σ : ℕ → ℕ) → Held σ → Taken m s (meet i os) (met s after) 0
       meeting-kept agree after e σ h = (
         from-meeting i (
           (let q = stages m ready.accepted in omega arith),

@@ -5,6 +5,7 @@ use mathlib.Core.Bool.{true}
 use mathlib.Core.List.{List, [], ◌∷◌}
 use mathlib.Core.Option.{some}
 use Prim.Native.Nat.{ℕ, zero, suc, ◌+◌, ◌≤◌, ◌<◌}
+use Rattle.std.specs.Prelude.{Option, None}
 use native.Mathlib.Omega.{arith}
 use native.Mathlib.Numerals.{add-one}
 use native.Mathlib.Nat.{not-suc-le-zero}
@@ -52,7 +53,7 @@ fresh-fits m =
       objects = omega arith;
       relations = λ o a l. absurd (not-suc-le-zero l);
       stages = omega arith;
-      carried = λ v l. inl (get_or-replicate limit.carried v limit.none 0 l);
+      carried = λ v l. rw (get_or-replicate {A = Option ℕ} limit.carried v None None l) tt;
       places = omega arith;
     }
 
@@ -106,7 +107,7 @@ pub record Running (m : Model) (run : List ℕ) (i : ℕ) (s : Session) : Type 0
   pub leads : Leads (program_of m) (question_of m) (start []) run i (session_of m s)
 
 pub running-start : (m : Model) (run : List ℕ) → Running m run 0 fresh
-running-start m run = record { kept = refl; fits = fresh-fits m; long = fresh-long; cells = length-replicate {A = ℕ} limit.carried limit.none; rest = λ a h. rw (← fresh-session m) h; leads = fresh-session m }
+running-start m run = record { kept = refl; fits = fresh-fits m; long = fresh-long; cells = length-replicate {A = Option ℕ} limit.carried None; rest = λ a h. rw (← fresh-session m) h; leads = fresh-session m }
 
 module _ (m : Model) (w : WellFormed m) (run : List ℕ) (i : ℕ) (s : Session) (r : Running m run i s) where
   module _ (l : i < length run) (few : length run ≤ limit.run) where
