@@ -5,11 +5,11 @@ use borrow.Author.Tests.{eq-eqb, ne_eqb}
 use Rattle.std.specs.Prelude.{Option, Some, None, IfSome, map}
 use Rattle.semantics.proofs.Tools.{same?}
 use Rattle.replay_meetings.specs.Carried.{object_of}
-use mathlib.Core.List.{List, [], ◌∷◌, ◌++◌, append-nil}
+use mathlib.Core.List.{List, [], ◌∷◌, ◌++◌}
 use Prim.Native.Nat.{ℕ, ◌+◌, ◌<◌}
 use native.Mathlib.Omega.{arith}
-use lib.ListN.{length, take, drop, get_or, set, replicate, take-append-drop}
-use lib.Seq.{paste, take_all, drop-cons, drop-length, length-take-le}
+use lib.ListN.{length, take, drop, get_or, replicate, take-append-drop}
+use lib.Seq.{drop-cons, drop-length}
 use Rattle.limits.specs.Limits as limit
 use Rattle.analyzer_verdict.specs.Judging.{refusal}
 use Rattle.replay_session.specs.declared.Session.{Session}
@@ -18,12 +18,6 @@ use Rattle.exports.specs.Cells.{table, state_of, cell_of, cells_of}
 -- beside a refusal they are zero
 pub zero-beside-refusal : (n l : ℕ) → table (refusal n l) 0 ≡ replicate (limit.listed + 2) 0
 zero-beside-refusal n l = refl
-
--- a replay's state
-pub states-copied : (cells : List ℕ) → length cells ≡ 260 → paste (replicate 255 0) 0 (take 255 cells) (length (take 255 cells)) ≡ take 255 cells
-states-copied cells h =
-    let n : length (take 255 cells) ≡ 255 = length-take-le 255 cells (omega arith) in
-    rw (take_all (length (take 255 cells)) (take 255 cells) (omega arith), n) (append-nil (take 255 cells))
 
 -- the cell of a cell's object is the cell, and the object of a small one is small
 cell-there : (n : ℕ) → cell_of (object_of n) ≡ n

@@ -1,8 +1,7 @@
 // The public calls for C and Rust: answers as numbers, records as rows of cells (include/eon.h).
 #![tactic(auto)]
 
-ghost use Rattle.std.specs.Prelude.{◌≡◌, ◌+◌, ◌≤◌, length};
-ghost use Rattle.std.proofs.Math.Seq.{paste};
+ghost use Rattle.std.specs.Prelude.{◌≡◌, ◌≤◌, length};
 ghost use Rattle.limits.specs.Limits as limit;
 ghost use Rattle.grammar.specs.Texts.{outcome};
 ghost use Rattle.lines.specs.Lines.{line_at};
@@ -39,15 +38,6 @@ const SECOND: usize = OBJECTS + 3;
 const KEPT: usize = OBJECTS + 4;
 
 const SESSION: usize = OBJECTS + 5;
-
-// Copies the numbers into the cells from place `at` on.
-// It stays a function of its own: it adds the place to the library's `copy_from_slice`, which takes two slices of one length.
-fn copy(cells: &mut [u32], at: usize, numbers: &[u32])
-    requires { at + length numbers.now ≤ length cells.old }
-    ensures { cells.new ≡ paste cells.old at numbers.now (length numbers.now) }
-{
-    cells[at..at + numbers.len()].copy_from_slice(numbers);
-}
 
 // The number of an analysis's answer.
 fn coded(answer: analyzer_verdict::Answer) -> u64
@@ -109,8 +99,19 @@ fn table(a: Analysis, last: u32) -> [u32; OUT]
     let mut cells = [0u32; OUT];
     cells[0] = a.count as u32;
     cells[LAST] = last;
-    copy(&mut cells, 1, &states);
+    cells[1..LAST].copy_from_slice(&states);
     cells
+}
+
+// Writes the cells beside the answer of an analysis, and answers its number.
+fn told(a: Analysis, run: &[u32], out: &mut [u32; OUT]) -> u64
+    requires { ShortRun a.answer × Shown (length run.now) a.answer × (a.count ≤ limit.listed) }
+    ensures { (result ≡ code_of a.answer) × (out.new ≡ table_of a (last_number a.answer run.now)) }
+{
+    let last = last_number(a.answer, run);
+    let cells = table(a, last);
+    *out = cells;
+    coded(a.answer)
 }
 
 // The replay's state that the cells say, where 255 is no carried object.
@@ -119,7 +120,7 @@ fn unpack(cells: [u32; SESSION]) -> Session
     ensures { (result ≡ state_of cells) × Small result }
 {
     let mut states = [0u32; OBJECTS];
-    copy(&mut states, 0, &cells[..OBJECTS]);
+    states.copy_from_slice(&cells[..OBJECTS]);
     let first = replay_meetings::as_object(cells[FIRST]);
     let second = replay_meetings::as_object(cells[SECOND]);
     Session {
@@ -145,7 +146,7 @@ fn pack(s: Session) -> [u32; SESSION]
     cells[FIRST] = carried[0].unwrap_or(NONE as usize) as u32;
     cells[SECOND] = carried[1].unwrap_or(NONE as usize) as u32;
     cells[KEPT] = s.kept as u32;
-    copy(&mut cells, 0, &states);
+    cells[..OBJECTS].copy_from_slice(&states);
     cells
 }
 
@@ -160,11 +161,7 @@ pub extern "C" fn eon_analyze(
     ensures { Analyzed text.now work.old run.old result work.new run.new out.new }
 {
     let analysis = analyzer::analyze(text, work, run);
-    let answer = analysis.answer;
-    let last = last_number(answer, run);
-    let cells = table(analysis, last);
-    *out = cells;
-    coded(answer)
+    told(analysis, run, out)
 }
 
 // Asks what can still become of an object after the places.
@@ -180,11 +177,7 @@ pub extern "C" fn eon_from(
     ensures { Asked text.now before.now object work.old run.old result work.new run.new out.new }
 {
     let analysis = from_here::from_here(text, before, object, work, run);
-    let answer = analysis.answer;
-    let last = last_number(answer, run);
-    let cells = table(analysis, last);
-    *out = cells;
-    coded(answer)
+    told(analysis, run, out)
 }
 
 // Replays a run over a text, and notes who stood by at each kept step.
