@@ -82,10 +82,6 @@ module _ (m : Model) (S : Database) (n : ℕ) (table : List ℕ) where
       ))
       b
 
--- the states by their slots
-pub turns_at : (s : States) (u t : ℕ) → u < s.count → t < s.count → (a : Action) → Turns a (state (row s) u) (state (row s) t) ≡ Turns a (get_or s.states u 0) (get_or s.states t 0)
-turns_at s u t l h a = rw (get_or-take s.count s.states u 0 l, get_or-take s.count s.states t 0 h)
-
 -- WHAT THE TABLE OF MOVES SAYS, in the words of the semantics
 module _ (P : Program) (S : Database) (e : ℕ) (b : Body) where
   starts-takes : (t : ℕ) (a : Action) → Starts S (Derived P S) e (line_of a b) → Turns a (state S e) t → Takes P S (state S e) t (line_of a b)
