@@ -19,7 +19,7 @@ use replay_session::Position;
 use replay_steps::Outcome;
 
 // How many objects a meeting names.
-// The three numbers stay apart, here and below: they are parts of a place's number, which the place's case has taken apart.
+// The three numbers stay apart, here and below: the comment at `model::Place` says why.
 pub fn count(first: u32, second: u32, third: u32) -> u32
     ensures { result ≡ length (objects (first ∷ second ∷ third ∷ [])) }
 {
@@ -36,11 +36,7 @@ pub fn count(first: u32, second: u32, third: u32) -> u32
 pub fn as_object(number: u32) -> Option<usize>
     ensures { result ≡ object_of number }
 {
-    if number == NONE {
-        None
-    } else {
-        Some(number as usize)
-    }
+    (number != NONE).then_some(number as usize)
 }
 
 // The choice of a meeting's objects.
