@@ -17,13 +17,12 @@ use lib.Dec.{eqb, ltb}
 use lib.ListN.{length, take, drop, get_or, length-drop}
 use lib.Seq.{length-slice, take-length}
 use borrow.Author.Tests.{le-leb, le-ltb, ltb-true, ltb-false, eqb-true, eqb-false, eq-eqb, ne_eqb}
-use Rattle.grammar.specs.Bytes.{bytes, digit, Word}
+use Rattle.grammar.specs.Bytes.{bytes, digit, Word, same}
 use Rattle.grammar.specs.Shapes.{Read, ◌>>=◌, after, word, rest, whole}
 use Rattle.grammar.proofs.Tests.{clash, and_left, and_right}
 use Rattle.grammar.proofs.Reading.{onto, rest-closes, rest-ends, rest-fails, rest-item}
 use Rattle.listing_bytes.specs.Numerals.{value_after}
 use Rattle.text_scan.specs.Found.{WordEnd}
-use Rattle.text_scan.proofs.Laws.{next, nothing as no_bytes}
 use Rattle.handin_lines.specs.Lines.{digits, after_digits, is_numeral, number, below, letters, Said, nothing, states_rest, atomic_rest}
 use Rattle.handin_lines.specs.Found.{cut, DigitsEnd, NumberAt, NumberEnd, BelowEnd, object, last}
 use Rattle.handin_lines.specs.declared.Number.{Number}
@@ -59,12 +58,16 @@ stripped w s None h = next-missing w s h
 stripped w s (Some x) h = next-found w s h.0 ∙ ap some (sym h.1)
 
 -- THE END OF A LINE
-module _ (line : List ℕ) where
-  pub ends_there : 0 < length line → after (bytes ")") line ≡ some (drop 1 line) → eqb (length line) 1 ≡ last (after (bytes ")") line)
-  ends_there h e = rw e (⊎_elim
-      (λ (q : eqb (length line) 1 ≡ true). rw (q, no_bytes line 1 (omega (arith, eqb-true (length line) 1 q))))
-      (λ (q : eqb (length line) 1 ≡ false). rw (q, next line 1 (omega (arith, eqb-false (length line) 1 q))))
-      (cases_Bool (eqb (length line) 1)))
+end-byte : (b : ℕ) → eqb b 41 ≡ eqb 41 b
+end-byte b = ⊎_elim
+    (λ (q : eqb 41 b ≡ true). rw (q, eq-eqb b 41 (sym (eqb-true 41 b q))) refl)
+    (λ (q : eqb 41 b ≡ false). rw (q, ne_eqb b 41 (λ e. eqb-false 41 b q (sym e))) refl)
+    (cases_Bool (eqb 41 b))
+
+pub ends_there : (line : List ℕ) → same line (bytes ")") ≡ last (after (bytes ")") line)
+ends_there [] = refl
+ends_there (b ∷ []) = rw (end-byte b) (⊎_elim (λ (q : eqb 41 b ≡ true). rw q refl) (λ (q : eqb 41 b ≡ false). rw q refl) (cases_Bool (eqb 41 b)))
+ends_there (b ∷ c ∷ s) = rw (end-byte b) (⊎_elim (λ (q : eqb 41 b ≡ true). rw q refl) (λ (q : eqb 41 b ≡ false). rw q refl) (cases_Bool (eqb 41 b)))
 
 pub whole-last : {A : Type 0} (x : A) (o : Option (List ℕ)) → whole (o >>= λ t. some (x, t)) ≡ cond (last o) (some x) none
 whole-last x none = refl

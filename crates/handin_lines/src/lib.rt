@@ -11,7 +11,7 @@ ghost use Rattle.grammar.specs.Shapes.{after, whole};
 ghost use Rattle.handin_lines.specs.Lines.{verdict, below, nothing, states_rest, atomic_rest, step_rest, meet_rest, said_by};
 ghost use Rattle.handin_lines.specs.Found.{cut, DigitsEnd, NumberEnd, BelowEnd, object, last, met, is_silent, number_said, clear};
 
-use limits::NONE;
+use limits::{NONE, OBJECTS};
 use model::{Place, number_of};
 use text_scan::{at_byte, same_words, word_end};
 
@@ -26,6 +26,7 @@ struct Number<'a> {
 const LARGE: u32 = 8_388_608;
 
 // What is left of the line behind these bytes, if they are next.
+// It stays a function beside `strip_prefix`: its one proof joins the library's law with the grammar's `after` for all that ask for a first word.
 fn behind<'a>(line: &'a [u8], bytes: &[u8]) -> Option<&'a [u8]>
     ensures { MatchOption result (after bytes.now line.now ≡ none) (λ rest. after bytes.now line.now ≡ some rest.now) }
 {
@@ -36,7 +37,7 @@ fn behind<'a>(line: &'a [u8], bytes: &[u8]) -> Option<&'a [u8]>
 fn ends(line: &[u8]) -> bool
     ensures { result ≡ last (after (bytes ")") line.now) }
 {
-    at_byte(line, 0, b')') && line.len() == 1
+    same_words(line, b")")
 }
 
 // Whether words are next, up to the end of the line.
@@ -110,7 +111,7 @@ fn read_object(line: &[u8]) -> Option<Number<'_>>
     ensures { BelowEnd limit.objects (object line.now) result }
 {
     let rest = behind(line, b" ")?;
-    read_below(rest, NONE)
+    read_below(rest, OBJECTS as u32)
 }
 
 // What is left of a `states` line after its first word.
