@@ -22,15 +22,12 @@ fn creating(a: Action) -> bool
 }
 
 // Does a `new` line stand on the line of that number?
-// That the model is well-formed stays in clauses: a model is a value of any numbers, which acceptance alone makes well-formed.
+// That the model is well formed stays a clause, as at `firsts`.
 fn creates(m: &Model, line: u32) -> bool
     requires { WellFormed m.now }
     ensures { result ≡ is_new (line_at (program_of m.now) line) }
 {
-    let Some(c) = m.clause_on(line) else {
-        return false;
-    };
-    creating(c.action)
+    m.clause_on(line).is_some_and(|c| creating(c.action))
 }
 
 // Which of the found states a `new` line made.
