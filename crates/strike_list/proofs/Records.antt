@@ -50,7 +50,6 @@ pub record Chosen (xs : List ℕ) (number : ℕ) (row : List ℕ) (n i : ℕ) : 
   pub rest : lines ++ numbered (drop i xs) number ≡ numbered xs number
 
 module _ (xs : List ℕ) (number : ℕ) where
-
   module _ (row : List ℕ) (n i bit : ℕ) (c : Chosen xs number row n i) (l : i < length xs) (e : suc (bit + i) ≡ length xs) where
     behind : length (drop (suc i) xs) ≡ bit
     behind = omega (arith, length-drop (suc i) xs)

@@ -94,9 +94,9 @@ pub fn choose(l: Lines, number: u32) -> Lines
     ensures { result ≡ shown (numbered (listed l) number) }
 {
     let mut chosen = Lines::none();
-    for i in 0..l.count {
+    for (i, &line) in l.lines[..l.count].iter().enumerate() {
         if labels::has(number, (l.count - 1 - i) as u32) {
-            chosen.push(l.lines[i]);
+            chosen.push(line);
         }
     }
     chosen
