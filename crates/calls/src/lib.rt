@@ -36,10 +36,7 @@ pub fn early(bytes: usize, short: bool, long: bool) -> Result<(), Refusal>
 pub fn short(bytes: usize, places: usize) -> bool
     ensures { result ≡ too_short bytes places }
 {
-    if bytes < WORK {
-        return true;
-    }
-    places < RUN
+    bytes < WORK || places < RUN
 }
 
 // Sets the work bytes to zero.
