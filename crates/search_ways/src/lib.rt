@@ -207,12 +207,10 @@ pub fn line_between(m: Model, table: &[u8; TABLE], u: usize, from: u32, to: u32)
     requires { WellFormed m × (u < width.slots) }
     ensures { LineBetween m table.now u from to result }
 {
-    for i in 0..m.clausecount {
-        if facts_bits::get(table, i * WIDTH + u) && turns(m.clauses[i], from, to) {
-            return Some(m.clauses[i].line);
-        }
-    }
-    None
+    let i = (0..m.clausecount).find(|i| {
+        facts_bits::get(table, *i * WIDTH + u) && turns(m.clauses[*i], from, to)
+    })?;
+    Some(m.clauses[i].line)
 }
 
 // The line of the first clause that takes an object of the state of slot u to that of slot t.
