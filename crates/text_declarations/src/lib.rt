@@ -92,9 +92,7 @@ pub fn read_state(text: &[u8], d: Declared, at: usize) -> Result<Declared, Row>
     requires { (at ≤ length text.now) × (length text.now < 4294967296) × names.Valid text.now d × Limited d }
     ensures { DeclarationEnd text.now d (state_rest (drop at text.now)) result }
 {
-    let Some(e) = state_end(text, at) else {
-        return Err(Row::Shape);
-    };
+    let e = state_end(text, at).ok_or(Row::Shape)?;
     state_room(text, d, at, e)?;
     Ok(enter(d, at, e, 0))
 }
@@ -121,9 +119,7 @@ pub fn read_rel(text: &[u8], d: Declared, at: usize) -> Result<Declared, Row>
     requires { (at ≤ length text.now) × (length text.now < 4294967296) × names.Valid text.now d × Limited d }
     ensures { DeclarationEnd text.now d (rel_rest (drop at text.now)) result }
 {
-    let Some((e, n)) = rel_end(text, at) else {
-        return Err(Row::Shape);
-    };
+    let (e, n) = rel_end(text, at).ok_or(Row::Shape)?;
     rel_room(text, d, at, e, n)?;
     Ok(enter(d, at, e, n + 1))
 }
