@@ -75,14 +75,10 @@ pub fn read_ask(text: &[u8], d: Declared, at: usize, m: &mut Model) -> Result<()
     requires { (at ≤ length text.now) × (0 < at) × (length text.now < 4294967296) × names.Valid text.now d × questions.Empty m.old }
     ensures { AskEnd (names.declared_of text.now d) m.old (ask_rest (drop at text.now)) result m.new × questions.Aside m.old m.new }
 {
-    let Some(b) = text_bodies::read_stage(text, d, at) else {
-        return Err(Row::Shape);
-    };
+    let b = text_bodies::read_stage(text, d, at).ok_or(Row::Shape)?;
     let s = text_scope::empty();
     let f = text_stages::add(text, Ok(s), b, m);
-    let Some(r) = read_stages(text, d, b.end, f, FURTHER, m) else {
-        return Err(Row::Shape);
-    };
+    let r = read_stages(text, d, b.end, f, FURTHER, m).ok_or(Row::Shape)?;
     if r.end != text.len() {
         return Err(Row::Shape);
     }
