@@ -16,7 +16,7 @@ pub fn put_byte(out: &mut [u8], at: usize, b: u8) -> usize
 }
 
 // Writes the bytes from place `at` on.
-// It stays beside `write_str`, which takes a `&str` and may answer an error: these are bytes of a text, which need not be UTF-8, and the contract asks for their room in the slice that C lends.
+// It stays beside `write_str`, which takes a `&str` and may answer an error: here bytes are written, of which the contract asks nothing but that the slice that C lends has room for them.
 pub fn put_bytes(out: &mut [u8], at: usize, bytes: &[u8]) -> usize
     requires { at + length bytes.now ≤ length out.old }
     ensures { Writes out.old at bytes.now result out.new }
