@@ -6,7 +6,6 @@ use Prim.Native.Nat.{ℕ, zero, suc, ◌-◌, ◌≤◌, ◌<◌}
 use native.Mathlib.Omega.{arith}
 use lib.ListN.{length, drop, get_or, length-append, length-drop}
 use lib.Seq.{slice, get_or-take, take_at}
-use Rattle.limits.specs.Limits as limit
 use Rattle.model.specs.declared.Model.{Model}
 use Rattle.model.specs.Records.{name_of}
 use Rattle.grammar.specs.Bytes.{Word}
@@ -17,7 +16,6 @@ use Rattle.grammar.specs.Texts.{outcome}
 use Rattle.acceptance.specs.Represents.{codes_of}
 use Rattle.text_scan.proofs.Laws.{slice-part}
 use Rattle.text.specs.Reading.{Accepts}
-use Rattle.text.proofs.Laws.{read-well-formed}
 use Rattle.display_shapes.specs.Rows.{pick, Stands, Picked, Shown}
 use Rattle.display_shapes.proofs.Rows.{pick-in, pick_out}
 use Rattle.display_shapes.specs.declared.Span.{Span}
@@ -44,9 +42,6 @@ module _ (text : List ℕ) (m : Model) (a : Accepts (outcome text) text m) (i : 
       let D = a.declared in
       let r = a.represents in
       rw (a.says, pick_out D i (let c = r.declared in omega arith)) tt
-
-  pub few-relations : m.relations.count ≤ limit.declared
-  few-relations = (read-well-formed text m a).relations.count
 
   pub declared-relation : i < m.relations.count → (d : Declaration) → d.from ≡ (name_of m i).start → d.size ≡ (name_of m i).len → d.code ≡ get_or m.relations.codes i 0
       → FindsRelation text (relation_at (outcome text) i) (Some d)

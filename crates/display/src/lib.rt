@@ -38,16 +38,11 @@ fn recorded(m: &Model, i: usize) -> Declaration
 pub fn relation(text: &[u8], i: usize) -> Option<Declaration>
     ensures { FindsRelation text.now (relation_at (outcome text.now) i) result }
 {
-    match text::read(text) {
-        Ok(m) => {
-            if i < m.relations.count {
-                Some(recorded(&m, i))
-            } else {
-                None
-            }
-        }
-        Err(_) => None,
+    let m = text::read(text).ok()?;
+    if m.relations.count <= i {
+        return None;
     }
+    Some(recorded(&m, i))
 }
 
 // Literal k, from 0, of a line's clause, which is part 0, or of stage n of an `ask` line, from 1.
