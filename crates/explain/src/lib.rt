@@ -42,9 +42,7 @@ fn why(m: Model, s: Session, n: u32, work: &mut [u8]) -> Reason
     requires { WellFormed m × Fits m s × (s.kept < limit.run) × (room ≤ length work.old) }
     ensures { ((p : runs.Place) → place_of n ≡ some p → Explains m s p result) × (length work.new ≡ length work.old) }
 {
-    let v = replay_view::arrange(&s.states[..s.objects], work);
-    let need = replay_places::needs(&m, n);
-    replay_runs::derive(m, need, v.count, work);
+    let v = replay_runs::sight(m, s, n, work);
     reasons::why_place(&m, &v.slots, work, s.position(), n)
 }
 
