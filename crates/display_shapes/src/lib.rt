@@ -141,6 +141,7 @@ pub fn items_end<T: Item>(text: &[u8], at: usize, n: usize) -> Option<usize>
 }
 
 // Where the atom that is next ends.
+// It and the end of a `Literal` stay beside `text_items::read_atom` and `read_literal`: those ask for a text of fewer than 2^32 bytes, to count an atom's variables, and a line is shown at any length.
 // The line and a place stay two parameters, as at `Item::end`.
 pub fn atom_end(text: &[u8], at: usize) -> Option<usize>
     requires { at ≤ length text.now }

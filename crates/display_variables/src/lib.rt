@@ -57,7 +57,7 @@ fn fresh_end(line: &[u8], p: Part, i: usize) -> Option<usize>
 }
 
 // Variable j of a part, of which n variables stand in its head and j is none.
-// The count stays by hand beside `filter_map` and `nth`: the law of `filter_map` is over a function that gives each byte its variable, and `fresh_end` promises where a name ends, not that this is a function of the byte.
+// The count stays by hand: `filter_map` with `nth` would be shorter here, but its law asks for each byte's span as a function, a second definition beside `FreshEnd`, which says of each answer where the name ends already.
 fn later(line: &[u8], p: Part, n: usize, j: usize) -> Option<Span>
     requires { Within line.now p × (length (heading line.now p.head) ≡ n) × (n ≤ j) }
     ensures { Shown line.now (pick (extend [] (before line.now p p.end)) j) result }

@@ -21,6 +21,7 @@ pub const LONGEST: usize = 9 + STATES * (1 + NAME);
 
 // Writes the names of the set's relations as items, in order of declaration.
 // It stays beside `Display`, as `listing_bytes::put_bytes` does.
+// The loop stays over numbers: the contract counts the relations by them, and over `zip` of the codes and the names the invariant would also say what is left of both, and which of them ends first.
 fn put_names(out: &mut [u8], at: usize, text: &[u8], m: &Model, set: u32) -> usize
     requires { GoodRelations m.now × Named text.now m.now × (at + limit.states * (1 + limit.name) ≤ length out.old) }
     ensures { Writes out.old at (items (names_in text.now m.now set m.now.relations.count)) result out.new × (result ≤ at + limit.states * (1 + limit.name)) }
@@ -39,6 +40,7 @@ fn put_names(out: &mut [u8], at: usize, text: &[u8], m: &Model, set: u32) -> usi
 
 // Writes the objects of a meeting as items, up to the first 255.
 // 255 stays for no object: a place has it from its number in the run table that C lends.
+// The three tests stay in place of a loop: a place has its objects as three fields, of which an array would be made here for one walk that ends at the first 255.
 fn put_objects(out: &mut [u8], at: usize, first: u32, second: u32, third: u32) -> usize
     requires { at + 33 ≤ length out.old }
     ensures { Writes out.old at (items (map decimal (objects (first ∷ second ∷ third ∷ [])))) result out.new }
@@ -93,6 +95,7 @@ pub fn atomic_line(out: &mut [u8], text: &[u8], m: &Model, set: u32) -> usize
 }
 
 // Writes the line of a step.
+// It stays beside `refused_line`: one function for both would take the word and ask for its room in a clause, and each would still be a call of it under its own contract.
 // It stays beside `Display`, as `listing_bytes::put_numeral` does.
 fn step_line(out: &mut [u8], line: u32, object: u32) -> usize
     requires { longest ≤ length out.old }
