@@ -31,6 +31,7 @@ struct Kind {
 }
 
 // Kind i of the cells.
+// Kind i stays read by its number: the law of `as_chunks` gives the cells by a recursion of its own, so that a lemma from it to `kind_at` would stand beside two loops that are no shorter.
 fn kind_of(kinds: &[u32; CELLS], i: usize) -> Kind
     requires { i < most }
     ensures { Is result (kind_at kinds.now i) }
