@@ -22,6 +22,7 @@ fn on_line(answer: Result<(), Row>, line: u32) -> Result<(), Refusal>
 }
 
 // The `ask` line from `at` to e, and whether a line follows it.
+// The place behind the first word stays a number: `strip_prefix` would give the rest of the line, and names keep their place in the whole text.
 fn read_question(
     text: &[u8],
     at: usize,
@@ -52,7 +53,7 @@ fn read_lines(text: &[u8], m: &mut Model) -> Result<(), Refusal>
     let mut d = text_names::none();
     let mut at = 0;
     let mut line: u32 = 1;
-    // The loop stays a `while`: names keep their place in the whole text, so that the place of a line is needed beside its bytes.
+    // The loop stays a `while`: names keep their place in the whole text, and a bad line has no end, so that an iterator would give a place and a Result for each line, to be taken apart here.
     while at < text.len() {
         let Some(e) = text_scan::line_end(text, at) else {
             return Err(Refusal {
