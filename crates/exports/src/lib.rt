@@ -28,7 +28,8 @@ const LAST: usize = LISTED + 1;
 
 const OUT: usize = LISTED + 2;
 
-// The cells of a replay's state: behind the objects' states their number, the stages met, the first and the second carried object, 255 for none, and the places kept.
+// The cells of a replay's state: behind the objects' states their number, the stages met, the first and the second carried object, and the places kept.
+// 255 stays there for a carried object that is none: C lends these cells and reads them.
 const MET: usize = OBJECTS + 1;
 
 const FIRST: usize = OBJECTS + 2;
