@@ -13,6 +13,7 @@ use rows::Refusal;
 use words::Kind;
 
 // The number of what a hand-in says.
+// It and the functions below stay functions and no `From`: neither what they take nor `u64` is a type of this crate.
 pub fn handed(said: Result<Option<Run>, Unreadable>) -> u64
     requires { ShortRun said }
     ensures { result ≡ handin_code said }
@@ -41,6 +42,7 @@ pub fn marked(mark: Result<Mark, Refusal>) -> u64
 }
 
 // The number of a part of a line, if there is one.
+// 0 stays for none, here and in `declared`: this is the word that C reads.
 pub fn spanned(span: Option<Span>) -> u64
     requires { Near span }
     ensures { result ≡ span_code span }

@@ -41,6 +41,7 @@ const KEPT: usize = OBJECTS + 4;
 const SESSION: usize = OBJECTS + 5;
 
 // The number of an analysis's answer.
+// It and the two functions for a replay's answer and a place's stay functions, for the reason at `unpack`.
 fn coded(answer: analyzer_verdict::Answer) -> u64
     requires { ShortRun answer }
     ensures { result ≡ code_of answer }

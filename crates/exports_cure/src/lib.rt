@@ -22,6 +22,7 @@ fn coded(advice: Result<Option<Lines>, Refusal>) -> u64
 }
 
 // The cells beside an answer.
+// It stays a `match` over the three cases: as `map_or` it would be one closure inside the other, with the zeros written twice.
 fn cells(advice: Result<Option<Lines>, Refusal>) -> [u32; MOST]
     ensures { result ≡ cells_of advice }
 {

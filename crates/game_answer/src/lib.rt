@@ -21,7 +21,7 @@ use search::Explored;
 use search_states::{Listing, States};
 
 // The reachable states by rising number, the empty one first, for each the fewest moves of the attacker, 255 where it is the guardian's, and how many states they are.
-// The count stays beside two arrays, and 255 stays for the guardian: C lends the cells of both, and the count is a part of the number that it is told.
+// The count stays beside two arrays, and 255 stays for the guardian: `eon_game` copies both rows as they stand into the cells that C lends, where Options would be turned into these numbers one by one.
 #[derive(Clone, Copy)]
 pub struct Game {
     pub states: [u32; LISTED],

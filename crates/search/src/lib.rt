@@ -36,7 +36,7 @@ pub struct Explored {
 }
 
 // What is explored, the levels of the question, and whether it is reached.
-// The flag stays, beside levels that count with either value: a pair in its place would have to be handed on to `witness`, which would then ask its callers for one.
+// The flag stays in place of the pair that was found: `witness` and `witness_from`, which may ask nothing more of their callers, seek the pair themselves, so that nobody would read it here.
 #[derive(Clone, Copy)]
 pub struct Found {
     pub explored: Explored,

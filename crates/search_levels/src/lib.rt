@@ -377,6 +377,7 @@ fn after(w: Walker) -> bool
 }
 
 // The levels of a question over the found states, where `ways` has who can come from which slot to which, and p is a row in which stage 1 asks besides for the slot of its first variable, or nothing.
+// The loop stays over the numbers of the stages: level k + 1 is filled from level k by stage k.
 pub fn fill(work: &[u8], m: Model, s: States, ways: &[u8; MATRIX], p: Option<[u8; BYTES]>) -> Levels
     requires { WellFormed m × Exactly m work.now s × IfSome p (λ among. 0 < (stage_at m 0).variables) }
     ensures { Filled m (row s) work.now ways.now p result }
@@ -398,6 +399,7 @@ pub fn fill(work: &[u8], m: Model, s: States, ways: &[u8; MATRIX], p: Option<[u8
 }
 
 // The first pair of level k, in the first row that has one.
+// The loop stays beside `find_map`: a row whose first slot is no slot of a matrix is passed over, which a closure would say by the same two tests.
 pub fn first_pair(rows: &[u8; LEVELS], k: usize) -> Option<Pair>
     requires { k ≤ limit.stages }
     ensures { MatchOption result ((e f : ℕ) → OnLevel rows.now k e f → ⊥) (λ p. OnLevel rows.now k p.first p.second) }

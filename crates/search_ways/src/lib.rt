@@ -42,6 +42,7 @@ fn note(work: &[u8], c: Clause, i: usize, table: &mut [u8])
 
 // The table of moves: row i has the slots from which clause i can be taken, if it is a `next` clause.
 // That the model is well formed stays a clause: a record is blank before a text is read into it, which is not well formed, and a second type around a well-formed record would be opened wherever a field of it is read.
+// Here and in `steps` the loop stays over the numbers of the clauses: what it writes stands by the number, and `enumerate` would only give a name to the clause, which is read once.
 pub fn takes(work: &[u8], m: Model, table: &mut [u8; TABLE])
     requires { WellFormed m × (room ≤ length work.now) }
     ensures { (s : States) → Exactly m work.now s → Marks table.new (CanTake m s) }
@@ -222,6 +223,7 @@ fn line_to(m: Model, s: States, table: &[u8; TABLE], u: usize, t: usize) -> u32
 }
 
 // The lines of a shortest way from one slot to another, and how many they are.
+// The lines stay in a row that is lent, with their number as the answer: there is no heap, and the row is C's run table or one of fixed size.
 pub fn way(
     m: Model,
     s: States,

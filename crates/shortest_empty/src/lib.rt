@@ -65,7 +65,7 @@ fn approach(
 }
 
 // The slot nearest to the given one from where a line empties the object.
-// The loop stays beside `filter_map` and `min_by_key`: their laws are over a function that gives each slot its steps, and `approach` promises what the steps are, not that they are a function of the slot.
+// The loop stays beside `filter_map` and `min_by_key`: that no slot is left out, `filter_map` says only of a function that gives each slot its steps, and `approach` promises the steps without such a function.
 fn nearest(
     m: Model,
     s: States,

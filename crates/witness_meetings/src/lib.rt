@@ -85,7 +85,7 @@ fn seek_stage(
 }
 
 // A choice of found states that meets stage k + 1, with the carried objects in these slots where their variables stand in it.
-// The two slots stay beside the model: they are a pair of a level, another one for each stage.
+// The two slots stay two parameters: their struct, `Pair`, is one of `search_levels`, which stands on a floor above this crate.
 fn choose(
     work: &[u8],
     slots: &[u8],
@@ -140,7 +140,8 @@ fn number(k: usize, n: usize, c: Choice) -> u32
 }
 
 // Writes the meeting of stage k + 1 at index `at` with these objects, but the cast's for the carried variables. Returns the index behind it.
-// The table, the model, the cast and the index stay apart, with the room in clauses: the index is another one for each place that is written, so that a struct of them would be made anew for each.
+// The table, the model and the cast stay apart, with the room in clauses.
+// The index stays beside the table: `Written` says what stands from the index that a call is given to the one that it answers, and a struct of the two would say it of its own field.
 fn gather(run: &mut [u32], m: Model, cast: Cast, k: usize, objects: Choice, at: usize) -> usize
     requires { WellFormed m × (k < m.stagecount) × (cast.first < limit.objects) × (cast.second < limit.objects) × ((x : ℕ) → x < (stage_at m k).variables → chosen objects x < limit.objects) × (at < length run.old) }
     ensures { (w : ℕ → Option ℕ) (σ : ℕ → ℕ) → Takes m cast k w σ objects → Written (λ ps. ps ≡ gathering m cast w k σ ∷ []) 1 run.old at run.new result }
@@ -193,6 +194,7 @@ fn attempt(
 }
 
 // A choice of found states that meets stage 1, with the carried objects in these slots, and for its first variable a slot of row j.
+// The loop stays beside `filter` and `find_map`: two closures would hold all that is lent here, and the `unreachable!()` would stand behind them all the same.
 pub fn opening(
     work: &[u8],
     slots: &[u8],

@@ -32,7 +32,6 @@ pub struct Stand {
 
 // Does the carried variable of cell v stand in stage k, counted from 0?
 // That the model is well formed stays a clause: a record is blank before a text is read into it, which is not well formed. The model, the cell and the stage stay apart, with the ranges in clauses: the walk asks for both cells of each stage, so that a struct of the three would be made anew for each pair.
-// The model, the cell and the stage stay apart: the walk asks for both cells of each stage.
 fn holds(m: Model, v: usize, k: usize) -> bool
     requires { WellFormed m × (v < limit.carried) × (k < m.stagecount) }
     ensures { result ≡ holder m v k }
@@ -138,6 +137,7 @@ fn source(
 }
 
 // A pair of level k that leads to a pair of the next level.
+// The loop stays beside `filter` and `find_map`, as in `witness_meetings::opening`.
 fn previous(
     rows: &[u8; LEVELS],
     ways: &[u8; MATRIX],
