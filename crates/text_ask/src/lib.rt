@@ -70,7 +70,7 @@ fn finish(s: Result<Scope<ASKED>, Row>) -> Result<[u32; CARRIED], Row>
     text_carried::carried(s?).ok_or(Row::Carried)
 }
 
-// `(ask (L ..) (L ..))`, in a record without stages. After a refusal its stages and literals are those read so far, and the rest is untouched.
+// `(ask (L ..) (L ..))`, in a record without stages. After a refusal its stages and literals are those read so far, and the relations, names, clauses and lines are untouched.
 pub fn read_ask(text: &[u8], d: Declared, at: usize, m: &mut Model) -> Result<(), Row>
     requires { (at ≤ length text.now) × (0 < at) × (length text.now < 4294967296) × names.Valid text.now d × questions.Empty m.old }
     ensures { AskEnd (names.declared_of text.now d) m.old (ask_rest (drop at text.now)) result m.new × questions.Aside m.old m.new }
