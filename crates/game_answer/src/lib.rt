@@ -64,6 +64,7 @@ fn tell(m: Model, attacker: &[u32], guardian: &[u32], facts: &[u8], found: Explo
 }
 
 // Explores a well-formed model and tells the game, or that there are too many states; it leaves the work bytes zero.
+// `let .. else` stays: `ok_or(CROWDED)?` would save two lines here and cost a lemma about `ok_or` in the proof, which the crate does not need for anything else.
 fn explored(m: Model, attacker: &[u32], guardian: &[u32], work: &mut [u8]) -> Result<Game, Refusal>
     requires { WellFormed m × (limit.work ≤ length work.old) × (faulted (program_of m) attacker.now guardian.now ≡ false) × OneVariable m }
     ensures { Settles (program_of m) (question_of m) attacker.now guardian.now work.old result work.new }

@@ -47,6 +47,7 @@ fn onward(m: Model, s: States, moves: &Moves, from: u32, to: u32, run: &mut [u32
 }
 
 // The answer that the explored states give.
+// `let .. else` stays: `ok_or(CROWDED)?` would save two lines here and cost a lemma about `ok_or` in the proof, which the crate does not need for anything else.
 fn find(
     m: Model,
     explored: Option<Explored>,
