@@ -14,8 +14,9 @@ use Rattle.model.specs.WellFormed.{WellFormed}
 use Rattle.model.specs.Places.{number_of, placed, stands_for, place_of}
 use Rattle.model.proofs.Accepted.{stages}
 use Rattle.std.specs.Prelude.{None}
+use Rattle.search.specs.declared.Explored.{Explored}
 use Rattle.search.specs.declared.Found.{Found}
-use Rattle.search.specs.Search.{Searched}
+use Rattle.search.specs.Search.{Surveyed, Searched}
 use Rattle.witness_table.specs.Runs.{numbers}
 use Rattle.witness_walk.specs.Walk.{Recorded}
 use Rattle.witness.specs.Witness as witness
@@ -37,6 +38,15 @@ beside P Q run run' states n few l (Reached places last) h = l
 beside P Q run run' states n few l Unreached h = l
 beside P Q run run' states n few l (Refused number line) h = absurd (few h.0)
 
+-- the states by rising number
+pub listed : (m : Model) (w : List ℕ) (e : Explored) → Surveyed m w e → Listed (program_of m) e.listing.states e.listing.count
+listed m w e f = record {
+  count = f.listing.count;
+  rising = f.listing.rising;
+  reachable = λ t. ((λ h. (f.listing.same t).1 ((f.reachable t).0 h)), λ h. (f.reachable t).1 ((f.listing.same t).0 h));
+  rest = f.listing.rest;
+}
+
 module _ (m : Model) (wf : WellFormed m) where
   module _ (w : List ℕ) (r : Found) (h : Searched m w r) where
     -- what the search recorded
@@ -49,17 +59,6 @@ module _ (m : Model) (wf : WellFormed m) where
           comes = e.moves.ways;
           asked = None;
           levels = h.levels;
-        }
-
-    -- the states by rising number
-    pub listed : Listed (program_of m) r.explored.listing.states r.explored.listing.count
-    listed =
-        let f = h.explored in
-        record {
-          count = f.listing.count;
-          rising = f.listing.rising;
-          reachable = λ t. ((λ e. (f.listing.same t).1 ((f.reachable t).0 e)), λ e. (f.reachable t).1 ((f.listing.same t).0 e));
-          rest = f.listing.rest;
         }
 
   -- the run written, and its last place

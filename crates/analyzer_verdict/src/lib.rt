@@ -63,7 +63,7 @@ pub fn with_states(answer: Answer, listing: Listing) -> Analysis
 }
 
 // The verdict that a search gives; the run of a reached question is written.
-// `WellFormed m` stays a clause: it speaks by recursion over the model's lists, which a ghost field cannot hold, and behind an `impl Model` other crates would read a model only through a method that gives it out whole; the length of `run` stays one too, since C lends a row that may be longer.
+// `WellFormed m` stays a clause: a record is blank before a text is read into it, which is not well formed, and a second type around a well-formed record would be opened wherever a field of it is read; the length of `run` stays one too, since C lends a row that may be longer.
 fn conclude(m: Model, facts: &[u8], run: &mut [u32], found: Found) -> Answer
     requires { WellFormed m × Searched m facts.now found × (limit.run ≤ length run.old) }
     ensures { Answered (program_of m) (question_of m) run.old run.new result }

@@ -22,7 +22,5 @@ pub fn resulting(receiver: u32, sender: u32) -> u32
     requires { (receiver < levels) × (sender < levels) }
     ensures { result ≡ resulting_level receiver sender }
 {
-    let table = TABLE;
-    let row = table[receiver as usize];
-    row[sender as usize]
+    TABLE[receiver as usize][sender as usize]
 }

@@ -8,6 +8,7 @@ ghost use Rattle.asbestos_desk.specs.Promise.{Keeps};
 
 use asbestos_writer::CELLS;
 use rows::Refusal;
+use words::Kind;
 
 // Writes the text for the first kinds, so many, the port level and the asked receive level, whose verdict is the one over messages; or refuses with 20.
 pub fn write(
@@ -28,7 +29,7 @@ pub fn coded(answer: Result<usize, Refusal>) -> u64
     ensures { result ≡ code answer }
 {
     match answer {
-        Ok(length) => 14 * 4_294_967_296 + length as u64,
+        Ok(length) => words::word(Kind::Written, length as u64),
         Err(r) => words::refused(r),
     }
 }

@@ -13,6 +13,8 @@ use Rattle.asbestos_forms.specs.Forms.{names, born_form, table_forms, asked_form
 use Rattle.asbestos_forms.proofs.Printed.{printed-append}
 use Rattle.asbestos_forms.proofs.Examples.{states}
 use Rattle.std.specs.Prelude.{Ok, Err}
+use Rattle.rows.specs.Rows.{number_of}
+use Rattle.rows.specs.declared.Refusal.{Refusal}
 use Rattle.rows.specs.declared.Row.TheVariants.{Processes}
 use Rattle.asbestos_writer.specs.Writing.{Leaves}
 
@@ -29,9 +31,9 @@ text-parts kinds port level =
     four a b c d = rw (append_assoc (a ++ b) c d, append_assoc a b (c ++ d), append_assoc b c d)
 
 -- WHAT THE CALL LEAVES
-pub leaves-refused : (t : Bool) → t ≡ true → (s out : List ℕ) → Leaves t s out (Err (record { row = Processes; line = 0 })) out
-leaves-refused true e s out = ((refl, refl), refl)
-leaves-refused false e s out = absurd (false≢true e)
+pub leaves-refused : (t : Bool) → t ≡ true → (s out : List ℕ) {r : Refusal} → (r.row ≡ Processes) × (r.line ≡ 0) → Leaves t s out (Err r) out
+leaves-refused true e s out h = ((ap number_of h.0, h.1), refl)
+leaves-refused false e s out h = absurd (false≢true e)
 
 pub leaves-written : (t : Bool) → t ≡ false → {s out : List ℕ} {n : ℕ} {out' : List ℕ} → Writes out 0 s n out' → Leaves t s out (Ok n) out'
 leaves-written true e w = absurd (true≢false e)

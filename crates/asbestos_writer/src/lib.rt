@@ -31,6 +31,7 @@ struct Kind {
 }
 
 // Kind i of the cells.
+// Kind i stays read by its number: the law of `as_chunks` gives the cells by a recursion of its own, so that a lemma from it to `kind_at` would stand beside two loops that are no shorter.
 fn kind_of(kinds: &[u32; CELLS], i: usize) -> Kind
     requires { i < most }
     ensures { Is result (kind_at kinds.now i) }
@@ -43,7 +44,8 @@ fn kind_of(kinds: &[u32; CELLS], i: usize) -> Kind
 }
 
 // Writes the bytes, and the digit of a level behind them.
-// A level stays a number and the place a parameter: levels are counted up, looked up in a table and given by C, and each call writes behind the one before.
+// A level stays a number and the place a parameter: a type of levels would be made of a loop's number by this very clause, to be taken apart for its digit, and each call answers the place of the next one.
+// It and all that is written by it stay beside `Display`, as `listing_bytes::put_numeral` does: the slice that C lends has the room that each contract asks for.
 fn put_level(out: &mut [u8], at: usize, bytes: &[u8], level: u32) -> usize
     requires { (level < levels) × (at + length bytes.now + 1 ≤ length out.old) }
     ensures { Writes out.old at (levelled bytes.now level) result out.new }
@@ -101,7 +103,7 @@ fn put_entry(out: &mut [u8], at: usize, a: u32, b: u32) -> usize
 }
 
 // Writes the lines of a row of the table, its columns up to the port level.
-// The port level stays a number: C gives it so, and it bounds the columns.
+// The port level stays a number: a type of levels would be taken apart here at once, since it ends a loop over numbers.
 fn put_row(out: &mut [u8], at: usize, port: u32, a: u32) -> usize
     requires { (port < levels) × (a < levels) × (at + 500 ≤ length out.old) }
     ensures { Writes out.old at (printed (row_forms port a)) result out.new }
@@ -210,6 +212,7 @@ fn all_proper(kinds: &[u32; CELLS], count: usize) -> bool
 
 // The call is refused, with so many bytes of output.
 // The cells, their count and the two levels stay parameters: these are what C gives, checked here.
+// The tests stay one after the other: joined by `||` five of them make one goal of nested alternatives, whose proof did not close.
 fn refused(kinds: &[u32; CELLS], count: usize, port: u32, level: u32, room: usize) -> bool
     ensures { result ≡ refuses (kinds_of kinds.now count) port level room }
 {
@@ -257,10 +260,7 @@ pub fn write_text(
     ensures { Desks (kinds_of kinds.now count) port level out.old result out.new }
 {
     if refused(kinds, count, port, level, out.len()) {
-        return Err(Refusal {
-            row: Row::Processes,
-            line: 0,
-        });
+        return Err(Row::Processes.refusal());
     }
     Ok(put_text(out, kinds, count, port, level))
 }

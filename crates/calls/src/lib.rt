@@ -36,13 +36,12 @@ pub fn early(bytes: usize, short: bool, long: bool) -> Result<(), Refusal>
 pub fn short(bytes: usize, places: usize) -> bool
     ensures { result ≡ too_short bytes places }
 {
-    if bytes < WORK {
-        return true;
-    }
-    places < RUN
+    bytes < WORK || places < RUN
 }
 
 // Sets the work bytes to zero.
+// The line stays a function: how much of the lent bytes a call works in belongs here, so that those who decide and replay name no number for it.
+// The table of facts, the deciding, this call and the answer stay four lines in five callers: a function over a closure would have the table's room, which `facts_heads` counts from the layout above this crate, and the closure's `pre` and `post` in its contract, and the four callers that lend no table or decide after this call would stay beside it.
 pub fn wipe(work: &mut [u8])
     requires { limit.work ≤ length work.old }
     ensures { work.new ≡ wiped work.old }

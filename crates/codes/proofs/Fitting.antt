@@ -10,7 +10,8 @@ use lib.Dec.{eqb, ltb}
 use lib.ListN.{length}
 use borrow.Author.Tests.{ltb-false}
 use Rattle.std.proofs.lemmas.Bool.{cases_Bool}
-use Rattle.std.specs.Prelude.{Result, Ok, Err}
+use Rattle.std.specs.Prelude.{Result, Ok, Err, Some, None}
+use Rattle.std.specs.Prelude as std
 use Rattle.rows.specs.declared.Refusal.{Refusal}
 use Rattle.limits.specs.Limits as limit
 use Rattle.semantics.specs.Models.{Program, Question}
@@ -27,10 +28,10 @@ use Rattle.marker_worth.specs.Worth.{Worth}
 use Rattle.marker.specs.Marking.{Marked}
 use Rattle.handin.proofs.Runs.{run-writable}
 use Rattle.display_shapes.specs.declared.Span.{Span}
-use Rattle.display_shapes.specs.Rows.{pick, Shows}
+use Rattle.display_shapes.specs.Rows.{pick, Shown}
 use Rattle.display.specs.declared.Declaration.{Declaration}
-use Rattle.display.specs.Shown.{relation_at, ShowsRelation}
-use Rattle.codes.specs.Ranges.{ShortRun, LowPlace}
+use Rattle.display.specs.Shown.{relation_at, FindsRelation}
+use Rattle.codes.specs.Ranges.{ShortRun, LowPlace, Near, NearName}
 
 -- WHAT A HAND-IN SAYS
 pub said_fits : (handin : List ℕ) (h : Handin) → reading handin ≡ h → ShortRun (told h)
@@ -61,15 +62,18 @@ text-size text D P Q e = ⊎_elim
     (λ (q : (eqb (length text) 0 || ltb limit.text (length text)) ≡ false). ltb-false limit.text (length text) (or-false (eqb (length text) 0) (ltb limit.text (length text)) q).1)
     (cases_Bool (eqb (length text) 0 || ltb limit.text (length text)))
 
-name-fits : (text : List ℕ) (d : Option (Word × ℕ)) (r : Declaration) → length text ≤ limit.text → ShowsRelation text d r → (r.from ≤ limit.text) × (r.size ≤ limit.text)
-name-fits text none r h s = (omega (arith, s.0), omega (arith, s.1))
-name-fits text (some d) r h s = (omega (arith, s.0), omega (arith, s.0))
+name-fits : (text : List ℕ) (d : Option (Word × ℕ)) (r : std.Option Declaration) → length text ≤ limit.text → FindsRelation text d r → NearName r
+name-fits text d None h s = tt
+name-fits text none (Some r) h s = absurd s
+name-fits text (some d) (Some r) h s = (omega (arith, s.0), omega (arith, s.0))
 
-pub relation-fits : (text : List ℕ) (o : Outcome) (i : ℕ) (r : Declaration) → outcome text ≡ o → ShowsRelation text (relation_at o i) r → (r.from ≤ limit.text) × (r.size ≤ limit.text)
-relation-fits text (refused n l) i r e s = (omega (arith, s.0), omega (arith, s.1))
+pub relation-fits : (text : List ℕ) (o : Outcome) (i : ℕ) (r : std.Option Declaration) → outcome text ≡ o → FindsRelation text (relation_at o i) r → NearName r
+relation-fits text (refused n l) i None e s = tt
+relation-fits text (refused n l) i (Some r) e s = absurd s
 relation-fits text (accepted D P Q) i r e s = name-fits text (pick D i) r (text-size text D P Q e) s
 
 -- A PART OF A LINE
-pub part-fits : (line : List ℕ) (part : Option (List ℕ)) (r : Span) → length line ≤ limit.text → Shows line part r → (r.from ≤ limit.text) × (r.to ≤ limit.text)
-part-fits line none r h s = (omega (arith, s.0), omega (arith, s.1))
-part-fits line (some w) r h s = (omega (arith, s.0, s.1), omega (arith, s.1))
+pub part-fits : (line : List ℕ) (part : Option (List ℕ)) (r : std.Option Span) → length line ≤ limit.text → Shown line part r → Near r
+part-fits line part None h s = tt
+part-fits line none (Some r) h s = absurd s
+part-fits line (some w) (Some r) h s = (omega (arith, s.0, s.1), omega (arith, s.1))

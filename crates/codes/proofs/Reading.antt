@@ -10,6 +10,7 @@ use lib.Dec.{eqb, ltb}
 use lib.ListN.{length, length-append}
 use borrow.Author.Tests.{ltb-false}
 use Rattle.std.proofs.lemmas.Bool.{cases_Bool}
+use Rattle.std.specs.Prelude.{Some}
 use Rattle.limits.specs.Limits as limit
 use Rattle.semantics.specs.Runs.{Place, step, meet}
 use Rattle.grammar.specs.Bytes.{Word, bytes, Line, ended, unended, in_front, lines}
@@ -24,7 +25,7 @@ use Rattle.handin.proofs.Runs.{run-writable}
 use Rattle.display_shapes.specs.declared.Span.{Span}
 use Rattle.display_shapes.specs.Rows.{pick}
 use Rattle.display.specs.declared.Declaration.{Declaration}
-use Rattle.display.specs.Shown.{relation_at, ShowsRelation}
+use Rattle.display.specs.Shown.{relation_at, FindsRelation}
 use Rattle.codes.specs.Codes.{spanned, declared}
 use Rattle.codes.proofs.Fitting.{relation-fits}
 
@@ -182,7 +183,7 @@ module _ (first : ℕ) (ps : List Place) where
     breaks-read k h = let f = first_small handin e in let n = (run-writable handin first ps e).0 in (omega arith, omega arith, omega arith)
 
 -- A PART OF A LINE
-pub span-read : (s : Span) → s.from ≤ limit.text → s.to ≤ limit.text → (spanned s / 4294967296 ≡ s.from) × (spanned s % 4294967296 ≡ s.to)
+pub span-read : (s : Span) → s.from ≤ limit.text → s.to ≤ limit.text → (spanned (Some s) / 4294967296 ≡ s.from) × (spanned (Some s) % 4294967296 ≡ s.to)
 span-read s h k = (omega arith, omega arith)
 
 -- A DECLARED RELATION
@@ -191,17 +192,17 @@ code-small [] i d e h = absurd (none-ne-some d e)
 code-small (x ∷ D) zero d e h = let q : x.1 ≡ d.1 = cc in omega (arith, q, h 0 (omega arith))
 code-small (x ∷ D) (suc i) d e h = code-small D i d e (λ j l. h (suc j) (omega arith))
 
-code_fits : (text : List ℕ) (o : Outcome) (i : ℕ) (r : Declaration) → outcome text ≡ o → ShowsRelation text (relation_at o i) r → r.code < 128
-code_fits text (refused n l) i r e s = omega (arith, s.2)
+code_fits : (text : List ℕ) (o : Outcome) (i : ℕ) (r : Declaration) → outcome text ≡ o → FindsRelation text (relation_at o i) (Some r) → r.code < 128
+code_fits text (refused n l) i r e s = absurd s
 code_fits text (accepted D P Q) i r e s = go (pick D i) refl s
   where
-    go : (d : Option (Word × ℕ)) → pick D i ≡ d → ShowsRelation text d r → r.code < 128
-    go none q s = omega (arith, s.2)
+    go : (d : Option (Word × ℕ)) → pick D i ≡ d → FindsRelation text d (Some r) → r.code < 128
+    go none q s = absurd s
     go (some d) q s = omega (arith, s.2, code-small D i d q (λ j l. ((accepted-sound text D P Q e).lines.declarations.order j l).0))
 
-pub relation-read : (text : List ℕ) (i : ℕ) (r : Declaration) → ShowsRelation text (relation_at (outcome text) i) r
-    → (declared r / 4294967296 ≡ r.from) × (declared r % 4294967296 / 65536 ≡ r.size) × (declared r % 65536 ≡ r.code)
+pub relation-read : (text : List ℕ) (i : ℕ) (r : Declaration) → FindsRelation text (relation_at (outcome text) i) (Some r)
+    → (declared (Some r) / 4294967296 ≡ r.from) × (declared (Some r) % 4294967296 / 65536 ≡ r.size) × (declared (Some r) % 65536 ≡ r.code)
 relation-read text i r s =
-    let f = relation-fits text (outcome text) i r refl s in
+    let f = relation-fits text (outcome text) i (Some r) refl s in
     let c = code_fits text (outcome text) i r refl s in
     (omega (arith, f.0, f.1, c), omega (arith, f.0, f.1, c), omega (arith, f.0, f.1, c))

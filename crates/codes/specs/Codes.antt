@@ -24,10 +24,12 @@ marked (Ok Right) = code 6 0
 marked (Ok (Other reached)) = code 7 (if reached then 1 else 0)
 marked (Ok (Breaks place l)) = code 8 (place * 65536 + l)
 
--- A PART OF A LINE: where it begins, and where it ends
-abbrev pub spanned : Span → ℕ
-spanned s = s.from * 4294967296 + s.to
+-- A PART OF A LINE: where it begins, and where it ends; 0 where there is none
+abbrev pub spanned : Option Span → ℕ
+spanned None = 0
+spanned (Some s) = s.from * 4294967296 + s.to
 
--- A DECLARED RELATION: where its name begins, the name's bytes, and its code
-abbrev pub declared : Declaration → ℕ
-declared d = d.from * 4294967296 + (d.size * 65536 + d.code)
+-- A DECLARED RELATION: where its name begins, the name's bytes, and its code; 0 where there is none
+abbrev pub declared : Option Declaration → ℕ
+declared None = 0
+declared (Some d) = d.from * 4294967296 + (d.size * 65536 + d.code)

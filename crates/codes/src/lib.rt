@@ -1,10 +1,9 @@
 // The numbers of what is answered for a mark and for display.
 #![tactic(auto)]
 
-ghost use Rattle.std.specs.Prelude.{◌≡◌, ◌≤◌};
-ghost use Rattle.limits.specs.Limits as limit;
+ghost use Rattle.std.specs.Prelude.{◌≡◌};
 ghost use Rattle.codes.specs.Codes.{handed as handin_code, marked as mark_code, spanned as span_code, declared as declaration_code};
-ghost use Rattle.codes.specs.Ranges.{ShortRun, LowPlace};
+ghost use Rattle.codes.specs.Ranges.{ShortRun, LowPlace, Near, NearName};
 
 use display::Declaration;
 use display_shapes::Span;
@@ -14,6 +13,7 @@ use rows::Refusal;
 use words::Kind;
 
 // The number of what a hand-in says.
+// It and the functions below stay functions and no `From`: neither what they take nor `u64` is a type of this crate.
 pub fn handed(said: Result<Option<Run>, Unreadable>) -> u64
     requires { ShortRun said }
     ensures { result ≡ handin_code said }
@@ -41,18 +41,21 @@ pub fn marked(mark: Result<Mark, Refusal>) -> u64
     }
 }
 
-// The number of a part of a line.
-pub fn spanned(span: Span) -> u64
-    requires { (span.from ≤ limit.text) × (span.to ≤ limit.text) }
+// The number of a part of a line, if there is one.
+// 0 stays for none, here and in `declared`: this is the word that C reads.
+pub fn spanned(span: Option<Span>) -> u64
+    requires { Near span }
     ensures { result ≡ span_code span }
 {
-    span.from as u64 * 4_294_967_296 + span.to as u64
+    span.map_or(0, |s| s.from as u64 * 4_294_967_296 + s.to as u64)
 }
 
-// The number of a declared relation.
-pub fn declared(relation: Declaration) -> u64
-    requires { (relation.from ≤ limit.text) × (relation.size ≤ limit.text) }
+// The number of a declared relation, if there is one.
+pub fn declared(relation: Option<Declaration>) -> u64
+    requires { NearName relation }
     ensures { result ≡ declaration_code relation }
 {
-    relation.from as u64 * 4_294_967_296 + (relation.size as u64 * 65_536 + relation.code as u64)
+    relation.map_or(0, |r| {
+        r.from as u64 * 4_294_967_296 + (r.size as u64 * 65_536 + r.code as u64)
+    })
 }

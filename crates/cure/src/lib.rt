@@ -15,7 +15,7 @@ use strike_list::{Lines, MOST};
 use strike_table::Table;
 
 // How many lines the choice strikes; a reached one counts as eleven, more than any strikes.
-// Eleven stays for a reached choice: sizes are compared, and an Option would need a case more for that.
+// Eleven stays for a reached choice: `filter` would leave it out, but the proof over `filter` and `min_by_key` did not close, as at `soonest`.
 fn size(l: Lines, reached: bool, n: u32) -> usize
     requires { l.count ≤ most }
     ensures { result ≡ size_of (listed l) reached n }
@@ -28,6 +28,7 @@ fn size(l: Lines, reached: bool, n: u32) -> usize
 }
 
 // The number of the smallest unreached choice, the highest of equally small ones.
+// The loop stays beside `filter` and `min_by_key`: neither that each choice left can be asked for its size nor which of equal sizes is taken could be proved, and no lemma of the library says it of a reversed range.
 fn soonest(l: Lines, t: Table) -> Option<usize>
     requires { (l.count ≤ most) × (t.total ≤ 1024) }
     ensures { Soonest (size_at (listed l) t.said) t.total result }

@@ -6,7 +6,6 @@ use Prim.Native.Nat.{ℕ, zero, suc, ◌-◌, ◌≤◌, ◌<◌}
 use native.Mathlib.Omega.{arith}
 use lib.ListN.{length, drop, get_or, length-append, length-drop}
 use lib.Seq.{slice, get_or-take, take_at}
-use Rattle.limits.specs.Limits as limit
 use Rattle.model.specs.declared.Model.{Model}
 use Rattle.model.specs.Records.{name_of}
 use Rattle.grammar.specs.Bytes.{Word}
@@ -17,8 +16,7 @@ use Rattle.grammar.specs.Texts.{outcome}
 use Rattle.acceptance.specs.Represents.{codes_of}
 use Rattle.text_scan.proofs.Laws.{slice-part}
 use Rattle.text.specs.Reading.{Accepts}
-use Rattle.text.proofs.Laws.{read-well-formed}
-use Rattle.display_shapes.specs.Rows.{pick, Stands, Picked, Shown, Shows}
+use Rattle.display_shapes.specs.Rows.{pick, Stands, Picked, Shown}
 use Rattle.display_shapes.proofs.Rows.{pick-in, pick_out}
 use Rattle.display_shapes.specs.declared.Span.{Span}
 use Rattle.display_parts.specs.Parts as parts
@@ -27,8 +25,7 @@ use Rattle.display_parts.specs.declared.Part.{Part}
 use Rattle.display_variables.specs.Order.{before, Within}
 use Rattle.std.specs.Prelude as std
 use Rattle.std.specs.Prelude.{Some, None}
-use Rattle.std.proofs.Common.{unwrap_or}
-use Rattle.display.specs.Shown.{relation_at, FindsRelation, ShowsRelation, span_of}
+use Rattle.display.specs.Shown.{relation_at, FindsRelation}
 use Rattle.display.specs.declared.Declaration.{Declaration}
 use Rattle.display.proofs.Printed.{literal-printed}
 
@@ -45,9 +42,6 @@ module _ (text : List ℕ) (m : Model) (a : Accepts (outcome text) text m) (i : 
       let D = a.declared in
       let r = a.represents in
       rw (a.says, pick_out D i (let c = r.declared in omega arith)) tt
-
-  pub few-relations : m.relations.count ≤ limit.declared
-  few-relations = (read-well-formed text m a).relations.count
 
   pub declared-relation : i < m.relations.count → (d : Declaration) → d.from ≡ (name_of m i).start → d.size ≡ (name_of m i).len → d.code ≡ get_or m.relations.codes i 0
       → FindsRelation text (relation_at (outcome text) i) (Some d)
@@ -70,19 +64,6 @@ literal-shown line none None h = h
 literal-shown line none (Some r) h = h
 literal-shown line (some l) None h = h
 literal-shown line (some l) (Some r) (a, b, c) = (a, b, slice_of line r.from r.to (print_literal l) (omega arith) b (literal-printed (drop r.from line) c))
-
--- what is found is shown, or 0 and 0
-pub shown-span : (line : List ℕ) (o : Option (List ℕ)) (r : std.Option Span) → Shown line o r → Shows line o (span_of r)
-shown-span line none None h = (refl, refl)
-shown-span line none (Some r) h = absurd h
-shown-span line (some w) None h = absurd h
-shown-span line (some w) (Some r) h = h
-
-pub shown_relation : (text : List ℕ) (o : Option (Word × ℕ)) (r : std.Option Declaration) → FindsRelation text o r → ShowsRelation text o (unwrap_or r (record { from = 0; size = 0; code = 0 }))
-shown_relation text none None h = (refl, refl, refl)
-shown_relation text none (Some r) h = absurd h
-shown_relation text (some d) None h = absurd h
-shown_relation text (some d) (Some r) h = h
 
 -- no part is given
 pub no_part : (line : List ℕ) (o : Option parts.Part) → Gives line o None → (f : parts.Part → Option (List ℕ)) → Shown line (o >>= f) None

@@ -10,7 +10,6 @@ use Rattle.grammar.specs.Shapes.{◌>>=◌}
 use Rattle.grammar.specs.Declarations.{extend, variables}
 use Rattle.grammar.specs.Texts.{Outcome, accepted, refused}
 use Rattle.display_shapes.specs.Rows.{pick}
-use Rattle.display_shapes.specs.declared.Span.{Span}
 use Rattle.display_parts.specs.Parts.{part_of}
 use Rattle.display.specs.declared.Declaration.{Declaration}
 
@@ -19,22 +18,12 @@ abbrev pub relation_at : Outcome → ℕ → Option (Word × ℕ)
 relation_at (accepted D P Q) i = pick D i
 relation_at (refused n l) i = none
 
--- the name stands in the text, and the code is the relation's; all three are 0 where there is no relation
-abbrev pub ShowsRelation : List ℕ → Option (Word × ℕ) → Declaration → Type 0
-ShowsRelation text none r = (r.from ≡ 0) × (r.size ≡ 0) × (r.code ≡ 0)
-ShowsRelation text (some d) r = (r.from + r.size ≤ length text) × (slice r.from (r.from + r.size) text ≡ d.0) × (r.code ≡ d.1)
-
--- a declared relation is found, if there is one
+-- a declared relation is found, if there is one: the name stands in the text, and the code is the relation's
 abbrev pub FindsRelation : List ℕ → Option (Word × ℕ) → std.Option Declaration → Type 0
 FindsRelation text none None = Unit {0}
 FindsRelation text none (Some r) = ⊥
 FindsRelation text (some d) None = ⊥
-FindsRelation text (some d) (Some r) = ShowsRelation text (some d) r
-
--- the span of what is found, or 0 and 0
-abbrev pub span_of : std.Option Span → Span
-span_of None = record { from = 0; to = 0 }
-span_of (Some r) = r
+FindsRelation text (some d) (Some r) = (r.from + r.size ≤ length text) × (slice r.from (r.from + r.size) text ≡ d.0) × (r.code ≡ d.1)
 
 -- literal k of part n of a line, from 0, as it is printed
 abbrev pub literal_at : List ℕ → ℕ → ℕ → Option (List ℕ)

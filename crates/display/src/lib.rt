@@ -5,8 +5,8 @@ ghost use Rattle.std.specs.Prelude.{◌≡◌, ◌<◌, slice_index};
 ghost use Rattle.limits.specs.Limits as limit;
 ghost use Rattle.model.specs.Records.{name_of};
 ghost use Rattle.grammar.specs.Texts.{outcome};
-ghost use Rattle.display_shapes.specs.Rows.{Shown, Shows};
-ghost use Rattle.display.specs.Shown.{relation_at, FindsRelation, ShowsRelation, literal_at, variable_at, span_of};
+ghost use Rattle.display_shapes.specs.Rows.{Shown};
+ghost use Rattle.display.specs.Shown.{relation_at, FindsRelation, literal_at, variable_at};
 
 use display_parts::locate;
 use display_shapes::{Literal, Span, item_at};
@@ -35,69 +35,28 @@ fn recorded(m: &Model, i: usize) -> Declaration
 }
 
 // Declared relation i of an accepted text, from 0.
-fn relation_in(text: &[u8], i: usize) -> Option<Declaration>
+pub fn relation(text: &[u8], i: usize) -> Option<Declaration>
     ensures { FindsRelation text.now (relation_at (outcome text.now) i) result }
 {
-    match text::read(text) {
-        Ok(m) => {
-            if i < m.relations.count {
-                Some(recorded(&m, i))
-            } else {
-                None
-            }
-        }
-        Err(_) => None,
+    let m = text::read(text).ok()?;
+    if m.relations.count <= i {
+        return None;
     }
+    Some(recorded(&m, i))
 }
 
-// Declared relation i of an accepted text, from 0; all 0 where there is none.
-// All 0 stays for none: `codes` makes of these numbers the word that C reads, which is 0 for none.
-pub fn relation(text: &[u8], i: usize) -> Declaration
-    ensures { ShowsRelation text.now (relation_at (outcome text.now) i) result }
-{
-    relation_in(text, i).unwrap_or(Declaration {
-        from: 0,
-        size: 0,
-        code: 0,
-    })
-}
-
-// What is shown of something found: its span, or 0 and 0.
-// 0 and 0 stay for none: `codes` makes of them the word that C reads, which is 0 for none.
-fn shown(found: Option<Span>) -> Span
-    ensures { result ≡ span_of found }
-{
-    found.unwrap_or(Span { from: 0, to: 0 })
-}
-
-// Literal k, from 0, of part n of a line.
-fn literal_in(line: &[u8], n: usize, k: usize) -> Option<Span>
+// Literal k, from 0, of a line's clause, which is part 0, or of stage n of an `ask` line, from 1.
+pub fn literal(line: &[u8], n: usize, k: usize) -> Option<Span>
     ensures { Shown line.now (literal_at line.now n k) result }
 {
     let p = locate(line, n)?;
     item_at::<Literal>(line, p.body, k)
 }
 
-// Literal k, from 0, of a line's clause, which is part 0, or of stage n of an `ask` line, from 1; 0 and 0 where there is none.
-// 0 and 0 stay for none: `codes` makes of them the word that C reads, which is 0 for none.
-pub fn literal(line: &[u8], n: usize, k: usize) -> Span
-    ensures { Shows line.now (literal_at line.now n k) result }
-{
-    shown(literal_in(line, n, k))
-}
-
-// Variable j, from 0, of part n of a line.
-fn variable_in(line: &[u8], n: usize, j: usize) -> Option<Span>
+// Variable j, from 0, of that part in order of first appearance, those of a clause's head first.
+pub fn variable(line: &[u8], n: usize, j: usize) -> Option<Span>
     ensures { Shown line.now (variable_at line.now n j) result }
 {
     let p = locate(line, n)?;
     variable_of(line, p, j)
-}
-
-// Variable j, from 0, of that part in order of first appearance, those of a clause's head first; 0 and 0 where there is none.
-// 0 and 0 stay for none: `codes` makes of them the word that C reads, which is 0 for none.
-pub fn variable(line: &[u8], n: usize, j: usize) -> Span
-    ensures { Shows line.now (variable_at line.now n j) result }
-{
-    shown(variable_in(line, n, j))
 }

@@ -1,7 +1,7 @@
 -- Laws of the parts of a line.
 use mathlib.Core.Path.{◌≡◌, refl, sym, ap, ◌∙◌, subst}
 use mathlib.Core.Logic.{⊎_elim}
-use mathlib.Core.Bool.{true, false}
+use mathlib.Core.Bool.{Bool, true, false}
 use mathlib.Core.List.{List, [], ◌∷◌, ◌++◌, append_assoc}
 use mathlib.Core.Option.{Option, none, some}
 use Prim.Native.Nat.{ℕ, ◌-◌, ◌≤◌, ◌<◌}
@@ -18,8 +18,8 @@ use Rattle.grammar.specs.Declarations.{variables}
 use Rattle.text_scan.specs.Found.{NameEnd}
 use Rattle.text_scan.proofs.Laws.{next}
 use Rattle.std.specs.Prelude as std
-use Rattle.std.specs.Prelude.{Some, None}
-use Rattle.display_shapes.specs.Ends.{after_space, EndsAt}
+use Rattle.std.specs.Prelude.{Some, None, MatchOption}
+use Rattle.display_shapes.specs.Ends.{after_space, EndsAt, Ends}
 use Rattle.display_shapes.proofs.Rows.{same_read, some-none}
 use Rattle.display_shapes.specs.Rows.{pick, Row, Stands}
 use Rattle.display_shapes.specs.declared.Span.{Span}
@@ -172,14 +172,13 @@ module _ {A : Type 0} (read : List ℕ → Read A) (s : List ℕ) (b : ℕ) wher
       let d = sym t ∙ next s e (omega (arith, v.ends)) in
       absurd (let y : ◌≡◌ {A = ℕ} 0 1 = cc in omega arith)
 
-  pub closes-eq : {e : ℕ} → EndsAt read s b e → Closes read s b (eqb e (length s))
-  closes-eq {e} v = ⊎_elim
+  -- it ends with the line, if there is something
+  pub closes-said : {P : ℕ → Type 0} (e : std.Option ℕ) (r : Bool) → Ends read s b e → MatchOption e (r ≡ false) P → ((x : ℕ) → P x → r ≡ eqb x (length s)) → Closes read s b r
+  closes-said None r v h k = rw h (λ x q. some-none q v)
+  closes-said (Some e) r v h k = rw (k e h) (⊎_elim
       (λ (q : eqb e (length s) ≡ true). rw q (closes-end v (eqb-true e (length s) q)))
       (λ (q : eqb e (length s) ≡ false). rw q (closes-before v (eqb-false e (length s) q)))
-      (cases_Bool (eqb e (length s)))
-
-  pub closes-none : read (drop b s) ≡ none → Closes read s b false
-  closes-none h x q = some-none q h
+      (cases_Bool (eqb e (length s))))
 
   -- nothing is read, or something is left
   not-to-end : Closes read s b false → (f : A → Form) → whole (read (drop b s) >>= λ r. some (f r.0, r.1)) ≡ none

@@ -31,10 +31,7 @@ fn closes<T: Item>(line: &[u8], at: usize, n: usize) -> bool
     requires { at ≤ length line.now }
     ensures { Closes (rest T.read n) line.now at result }
 {
-    match items_end::<T>(line, at, n) {
-        Some(end) => end == line.len(),
-        None => false,
-    }
+    items_end::<T>(line, at, n).is_some_and(|end| end == line.len())
 }
 
 // The clause with those places, if at most eight literals behind `body` end the line.

@@ -1,17 +1,17 @@
 -- Laws of the ends of lists, atoms, literals and stages.
-use mathlib.Core.Path.{◌≡◌, refl}
-use mathlib.Core.List.{List, [], ◌∷◌}
-use mathlib.Core.Option.{none, some}
-use Prim.Native.Nat.{ℕ, ◌+◌, ◌-◌, ◌≤◌, ◌<◌}
+use mathlib.Core.Path.{◌≡◌, refl, sym, ap, ◌∙◌}
+use mathlib.Core.List.{List, [], ◌∷◌, ◌++◌, append-nil}
+use mathlib.Core.Option.{Option, none, some}
+use Prim.Native.Nat.{ℕ, zero, suc, ◌+◌, ◌-◌, ◌≤◌, ◌<◌}
 use native.Mathlib.Omega.{arith}
 use lib.ListN.{length, drop, length-drop}
 use Rattle.limits.specs.Limits as limit
 use Rattle.grammar.specs.Bytes.{bytes}
 use Rattle.grammar.specs.Forms.{plain, negated}
-use Rattle.grammar.specs.Shapes.{Read, after, name, rest, bracket, atom, literal, list, stage}
-use Rattle.grammar.proofs.Reading.{Reading, reading-start, reading-more, reading-closed, reading-full, reading-ends, reading-fails}
+use Rattle.grammar.specs.Shapes.{Read, ◌>>=◌, after, name, rest, bracket, atom, literal, list, stage}
+use Rattle.grammar.proofs.Reading.{onto, onto-nothing, onto-more, rest-closes, rest-full, rest-ends, rest-fails, rest-item}
 use Rattle.text_scan.specs.Found.{NameEnd}
-use Rattle.display_shapes.specs.Ends.{after_space, EndsAt, Ends}
+use Rattle.display_shapes.specs.Ends.{after_space, Closed, EndsAt, Ends}
 use Rattle.std.specs.Prelude as std
 use Rattle.std.specs.Prelude.{Some, None}
 use lib.Seq.{slice}
@@ -28,30 +28,52 @@ module _ {A : Type 0} (read : List ℕ → Read A) (text : List ℕ) (at : ℕ) 
   space-found h None v = rw h v
   space-found h (Some e) v = ends_some {x = v.value} (omega (arith, v.begins)) v.ends (rw h v.found)
 
--- ITEMS, one after the other
+-- ITEMS, one after the other: those more were read from at to i, of at most n items; at most k are left
 pub record Going {A : Type 0} (item : List ℕ → Read A) (text : List ℕ) (at n i k : ℕ) : Type 0 where
   pub more : List A
-  pub so : Reading item text at n more i k
+  pub begins : at ≤ i
+  pub ends : i ≤ length text
+  pub read : rest item n (drop at text) ≡ onto more (rest item k (drop i text))
 
 pub going_start : {A : Type 0} {item : List ℕ → Read A} {text : List ℕ} {at n : ℕ} → at ≤ length text → Going item text at n at n
-going_start h = record { more = []; so = reading-start h }
+going_start {item} {text} {at} {n} h = record { more = []; begins = omega arith; ends = h; read = sym (onto-nothing (rest item n (drop at text))) }
+
+module _ {A : Type 0} (item : List ℕ → Read A) where
+  -- an item behind a space is read
+  rest-spaced : (k : ℕ) (s : List ℕ) {x : A} {u : List ℕ} → 0 < k → after (bytes ")") s ≡ none → after_space item s ≡ some (x, u) → rest item k s ≡ onto (x ∷ []) (rest item (k - 1) u)
+  rest-spaced zero s h p q = absurd (omega arith)
+  rest-spaced (suc k) s {x} {u} h p q = go (after (bytes " ") s) refl q
+    where
+      go : (o : Option (List ℕ)) → after (bytes " ") s ≡ o → (o >>= item) ≡ some (x, u) → rest item (suc k) s ≡ onto (x ∷ []) (rest item (suc k - 1) u)
+      go none e r = absurd (let z : ◌≡◌ {A = ℕ} 0 1 = cc in omega arith)
+      go (some t) e r = let z : suc k - 1 ≡ k = omega arith in rw z (rest-item item k s p e r)
+
+  -- neither the bracket nor an item behind a space is read
+  rest-stops : (k : ℕ) (s : List ℕ) → after (bytes ")") s ≡ none → after_space item s ≡ none → rest item k s ≡ none
+  rest-stops k s p q = go (after (bytes " ") s) refl q
+    where
+      go : (o : Option (List ℕ)) → after (bytes " ") s ≡ o → (o >>= item) ≡ none → rest item k s ≡ none
+      go none e r = rest-ends item k s p e
+      go (some t) e r = rest-fails item k s p e r
 
 module _ {A : Type 0} {item : List ℕ → Read A} {text : List ℕ} {at n i k : ℕ} (go : Going item text at n i k) where
-  pub going_more : {e : ℕ} → 0 < k → after (bytes ")") (drop i text) ≡ none → after (bytes " ") (drop i text) ≡ some (drop (i + 1) text)
-      → EndsAt item text (i + 1) e → Going item text at n e (k - 1)
-  going_more h p q v = record { more = _; so = reading-more go.so {x = v.value} h p q v.begins v.ends v.found }
+  pub going_more : {e : ℕ} → 0 < k → after (bytes ")") (drop i text) ≡ none → EndsAt (after_space item) text i e → Going item text at n e (k - 1)
+  going_more {e} h p v = record {
+    more = go.more ++ (v.value ∷ []);
+    begins = omega (arith, go.begins, v.begins);
+    ends = v.ends;
+    read = go.read ∙ (ap (onto go.more) (rest-spaced item k (drop i text) h p v.found) ∙ onto-more go.more v.value (rest item (k - 1) (drop e text)));
+  }
 
-  pub going-closed : i < length text → after (bytes ")") (drop i text) ≡ some (drop (i + 1) text) → EndsAt (rest item n) text at (i + 1)
-  going-closed h p = ends_some (omega (arith, go.so.begins)) (omega arith) (reading-closed go.so p)
+  pub going-closed : {e : ℕ} → Closed text i (Some e) → EndsAt (rest item n) text at e
+  going-closed (z, l, p) = ends_some {x = go.more} (omega (arith, go.begins, z)) l (go.read ∙ rw (rest-closes item k (drop i text) p, append-nil))
 
-  pub going-fails : after (bytes ")") (drop i text) ≡ none → after (bytes " ") (drop i text) ≡ some (drop (i + 1) text) → item (drop (i + 1) text) ≡ none → rest item n (drop at text) ≡ none
-  going-fails p q r = reading-fails go.so p q r
+  pub going-stops : after (bytes ")") (drop i text) ≡ none → after_space item (drop i text) ≡ none → rest item n (drop at text) ≡ none
+  going-stops p q = go.read ∙ rw (rest-stops item k (drop i text) p q)
 
-  pub going-ends : after (bytes ")") (drop i text) ≡ none → after (bytes " ") (drop i text) ≡ none → rest item n (drop at text) ≡ none
-  going-ends p q = reading-ends go.so p q
-
-  pub going-full : k ≤ 0 → after (bytes ")") (drop i text) ≡ none → rest item n (drop at text) ≡ none
-  going-full h p = reading-full go.so h p
+  pub going-last : k ≤ 0 → (e : std.Option ℕ) → Closed text i e → Ends (rest item n) text at e
+  going-last h None p = let z : k ≡ 0 = omega arith in go.read ∙ rw (z, rest-full item (drop i text) p)
+  going-last h (Some e) c = going-closed c
 
 -- BRACKETS
 module _ (text : List ℕ) (at : ℕ) where
@@ -109,13 +131,10 @@ module _ (text : List ℕ) (at : ℕ) where
     not-missing z = rw (h, z)
 
     module _ {e : ℕ} (v : EndsAt atom text (at + 5) e) where
-      pub not-unclosed : after (bytes ")") (drop e text) ≡ none → literal (drop at text) ≡ none
+      pub not-closed : (r : std.Option ℕ) → Closed text e r → Ends literal text at r
       unfolding literal
-      not-unclosed k = rw (h, v.found, k)
-
-      pub not_found : e < length text → after (bytes ")") (drop e text) ≡ some (drop (e + 1) text) → EndsAt literal text at (e + 1)
-      unfolding literal
-      not_found g k = ends_some {x = negated v.value} (omega (arith, v.begins)) (omega arith) (rw (h, v.found, k))
+      not-closed None k = rw (h, v.found, k)
+      not-closed (Some r) (z, l, k) = ends_some {x = negated v.value} (omega (arith, v.begins, z)) l (rw (h, v.found, k))
 
   pub plain-found : after (bytes "(not ") (drop at text) ≡ none → (e : std.Option ℕ) → Ends atom text at e → Ends literal text at e
   unfolding literal

@@ -47,8 +47,3 @@ Shown line none None = Unit {0}
 Shown line none (Some r) = ⊥
 Shown line (some w) None = ⊥
 Shown line (some w) (Some r) = (r.from < r.to) × (r.to ≤ length line) × (slice r.from r.to line ≡ w)
-
--- the same, with 0 and 0 where there is nothing to show
-abbrev pub Shows : List ℕ → Option (List ℕ) → Span → Type 0
-Shows line none r = (r.from ≡ 0) × (r.to ≡ 0)
-Shows line (some w) r = (r.from < r.to) × (r.to ≤ length line) × (slice r.from r.to line ≡ w)

@@ -5,7 +5,7 @@ ghost use Rattle.std.specs.Prelude.{◌≤◌, length, List, ℕ};
 ghost use Rattle.grammar.specs.Bytes.{Word};
 ghost use Rattle.grammar.specs.Forms as form;
 ghost use Rattle.grammar.specs.Shapes.{Read, name, rest, atom, literal, list, stage};
-ghost use Rattle.display_shapes.specs.Ends.{Ends, after_space};
+ghost use Rattle.display_shapes.specs.Ends.{Closed, Ends, after_space};
 ghost use Rattle.display_shapes.specs.Rows.{Behind, Picked};
 
 use limits::{BODY, LIST};
@@ -78,11 +78,7 @@ impl Item for Literal {
     fn end(text: &[u8], at: usize) -> Option<usize> {
         if at_bytes(text, at, b"(not ") {
             let e = atom_end(text, at + 5)?;
-            if at_byte(text, e, b')') {
-                Some(e + 1)
-            } else {
-                None
-            }
+            close(text, e)
         } else {
             atom_end(text, at)
         }
@@ -104,6 +100,15 @@ impl Item for Stage {
             None
         }
     }
+}
+
+// Where the closing bracket that is next ends.
+// The line and a place stay two parameters, as at `Item::end`.
+fn close(text: &[u8], at: usize) -> Option<usize>
+    requires { at ≤ length text.now }
+    ensures { Closed text.now at result }
+{
+    at_byte(text, at, b')').then_some(at + 1)
 }
 
 // Where a space and the item behind it end.
@@ -130,19 +135,13 @@ pub fn items_end<T: Item>(text: &[u8], at: usize, n: usize) -> Option<usize>
         if at_byte(text, i, b')') {
             return Some(i + 1);
         }
-        if !at_byte(text, i, b' ') {
-            return None;
-        }
-        i = T::end(text, i + 1)?;
+        i = spaced_end::<T>(text, i)?;
     }
-    if at_byte(text, i, b')') {
-        Some(i + 1)
-    } else {
-        None
-    }
+    close(text, i)
 }
 
 // Where the atom that is next ends.
+// It and the end of a `Literal` stay beside `text_items::read_atom` and `read_literal`: those ask for a text of fewer than 2^32 bytes, to count an atom's variables, and a line is shown at any length.
 // The line and a place stay two parameters, as at `Item::end`.
 pub fn atom_end(text: &[u8], at: usize) -> Option<usize>
     requires { at ≤ length text.now }

@@ -1,7 +1,7 @@
 -- Laws of variables in order of first appearance.
 use mathlib.Core.Path.{◌≡◌, refl, sym, ap, ◌∙◌, subst}
 use mathlib.Core.Logic.{⊎_elim}
-use mathlib.Core.Bool.{true, false, ◌||◌, or_assoc, or-false}
+use mathlib.Core.Bool.{Bool, true, false, ◌||◌, or_assoc, or-false}
 use mathlib.Core.List.{List, [], ◌∷◌, ◌++◌, append_assoc, append-nil}
 use mathlib.Core.Option.{none, some}
 use Prim.Native.Nat.{ℕ, zero, suc, ◌+◌, ◌-◌, ◌≤◌, ◌<◌}
@@ -17,13 +17,13 @@ use Rattle.grammar.specs.Declarations.{member, extend}
 use Rattle.grammar.proofs.Words.{same-eq, member-append, extend-append}
 use Rattle.text_scan.proofs.Laws.{next, slice-part}
 use Rattle.std.specs.Prelude as std
-use Rattle.std.specs.Prelude.{Some, None}
+use Rattle.std.specs.Prelude.{Some, None, MatchOption}
 use Rattle.std.specs.List.{list_any, range_with_len}
 use Rattle.display_shapes.specs.declared.Span.{Span}
 use Rattle.display_shapes.specs.Rows.{pick, Shown}
 use Rattle.display_parts.specs.Placed.{behind, spaced, leading, heading, Heads}
 use Rattle.display_parts.specs.declared.Part.{Part}
-use Rattle.display_shapes.specs.Ends.{after_space, EndsAt}
+use Rattle.display_shapes.specs.Ends.{after_space, EndsAt, Ends}
 use Rattle.display_shapes.proofs.Rows.{some-none, pick_out}
 use Rattle.display_parts.proofs.Inverse.{name-inverse, name-joined}
 use Rattle.display_variables.specs.Order.{behind_at, before, Within, BehindEnd, IsStale, FreshEnd}
@@ -93,8 +93,14 @@ spaced-first : (line : List ℕ) (i e : ℕ) → i < e → i < length line → s
 unfolding behind_at
 spaced-first line i e h l = let z : e - i ≡ suc (e - (i + 1)) = omega arith in rw (z, next line i l)
 
-pub same-behind : (line : List ℕ) (i x : ℕ) (w : Word) → BehindEnd line i x → same w (take (x - (i + 1)) (drop (i + 1) line)) ≡ member w (behind_at line i)
+same-behind : (line : List ℕ) (i x : ℕ) (w : Word) → BehindEnd line i x → same w (take (x - (i + 1)) (drop (i + 1) line)) ≡ member w (behind_at line i)
 same-behind line i x w v = rw (v.read, member-one w (slice (i + 1) x line), slice-part line (i + 1) x (omega (arith, v.begins)))
+
+-- whether the word stands behind byte i, where the name there ends, if there is one
+pub behind-said : (line : List ℕ) (i : ℕ) (w : Word) → i < length line → {P : ℕ → Type 0} (e : std.Option ℕ) (r : Bool) → Ends (after_space name) line i e → MatchOption e (r ≡ false) P
+    → ((x : ℕ) → P x → r ≡ same w (take (x - (i + 1)) (drop (i + 1) line))) → r ≡ member w (behind_at line i)
+behind-said line i w l None r v h k = rw (behind_none line i l v) h
+behind-said line i w l (Some x) r v h k = k x h ∙ same-behind line i x w (behind-found line i l v)
 
 -- whether the word stands behind one of the n bytes from i on
 pub stands-any : (line : List ℕ) (w : Word) (n i : ℕ) → i + n ≤ length line → list_any (λ k. member w (behind_at line k)) (range_with_len i n) ≡ member w (spaced n (drop i line))

@@ -16,10 +16,7 @@ fn is_behind(line: &[u8], i: usize, name: &[u8]) -> bool
     requires { i < length line.now }
     ensures { result ≡ member name.now (behind_at line.now i) }
 {
-    match spaced_end::<Name>(line, i) {
-        Some(end) => same_words(name, &line[i + 1..end]),
-        None => false,
-    }
+    spaced_end::<Name>(line, i).is_some_and(|end| same_words(name, &line[i + 1..end]))
 }
 
 // Whether the name stands behind a space that is among the bytes from `from` to `to`.
@@ -35,10 +32,7 @@ fn is_head(line: &[u8], head: Option<Span>, name: &[u8]) -> bool
     requires { Heads line.now head }
     ensures { result ≡ member name.now (heading line.now head) }
 {
-    match head {
-        Some(h) => same_words(name, &line[h.from..h.to]),
-        None => false,
-    }
+    head.is_some_and(|h| same_words(name, &line[h.from..h.to]))
 }
 
 // Whether the name stands in the part before byte i.
@@ -63,6 +57,7 @@ fn fresh_end(line: &[u8], p: Part, i: usize) -> Option<usize>
 }
 
 // Variable j of a part, of which n variables stand in its head and j is none.
+// The count stays by hand: `filter_map` with `nth` would be shorter here, but its law asks for each byte's span as a function, a second definition beside `FreshEnd`, which says of each answer where the name ends already.
 fn later(line: &[u8], p: Part, n: usize, j: usize) -> Option<Span>
     requires { Within line.now p × (length (heading line.now p.head) ≡ n) × (n ≤ j) }
     ensures { Shown line.now (pick (extend [] (before line.now p p.end)) j) result }

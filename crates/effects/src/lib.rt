@@ -1,24 +1,17 @@
 // What a line makes of an object: the state that a `new` line creates it with, or that a `next` line gives it.
 #![tactic(auto)]
 
-ghost use Rattle.std.specs.Prelude.{◌≡◌, ◌≢◌, ℕ, ◌<◌, MatchOption};
+ghost use Rattle.std.specs.Prelude.{◌≡◌};
 ghost use Rattle.semantics.specs.Models.{line as line_in};
-ghost use Rattle.model.specs.Records.{clause_at, program_of};
+ghost use Rattle.model.specs.Records.{program_of};
 ghost use Rattle.model.specs.WellFormed.{WellFormed};
 ghost use Rattle.grammar.specs.Texts.{outcome};
 ghost use Rattle.effects.specs.Effects.{action_made, made as made_on, effect_at};
 
 use model::{Action, Model};
 
-// Which clause stands on a line.
-fn clause_on(m: &Model, line: u32) -> Option<usize>
-    requires { WellFormed m.now }
-    ensures { MatchOption result ((k : ℕ) → k < m.now.clausecount → (clause_at m.now k).line ≢ line) (λ i. (i < m.now.clausecount) × ((clause_at m.now i).line ≡ line) × ((k : ℕ) → k < i → (clause_at m.now k).line ≢ line)) }
-{
-    (0..m.clausecount).find(|i| m.clauses[*i].line == line)
-}
-
 // The number of what a clause makes of an object in a state.
+// The kinds 2 and 3 stay numbers, as in `lines::describe`: each stands once, beside the action whose kind it is.
 fn made(action: Action, state: u32) -> u64
     ensures { result ≡ action_made action state }
 {
@@ -36,10 +29,7 @@ fn on_line(m: &Model, line: u32, state: u32) -> u64
     requires { WellFormed m.now }
     ensures { result ≡ made_on (line_in (program_of m.now) line) state }
 {
-    match clause_on(m, line) {
-        Some(i) => made(m.clauses[i].action, state),
-        None => 0,
-    }
+    m.clause_on(line).map_or(0, |c| made(c.action, state))
 }
 
 // What a line of an accepted text makes of an object in a state: 2 × 2^32 and the state of an object that a `new` line creates, 3 × 2^32 and the state that a `next` line gives it; 0 otherwise.
@@ -47,8 +37,5 @@ fn on_line(m: &Model, line: u32, state: u32) -> u64
 pub fn effect(text: &[u8], line: u32, state: u32) -> u64
     ensures { result ≡ effect_at (outcome text.now) line state }
 {
-    match text::read(text) {
-        Ok(m) => on_line(&m, line, state),
-        Err(_) => 0,
-    }
+    text::read(text).map_or(0, |m| on_line(&m, line, state))
 }

@@ -17,6 +17,7 @@ const INPUT: usize = TEXT + 1;
 
 // Reads until the buffer is full or the input ends, and says how many bytes were read.
 // The loop stays: a reader may give fewer bytes than are asked for, until it gives none.
+// The program's own error stays: with `?` it would be whatever error the reader gave, and the program is to end as it did.
 fn read_input<R: Read>(source: &mut R, text: &mut [u8]) -> io::Result<usize>
     ensures { IfOk result (λ count. count ≤ length text.new) }
 {

@@ -24,7 +24,7 @@ use facts_heads::ROOM;
 use limits::RUN;
 use model::Model;
 use reasons::Reason;
-use replay_runs::Ending;
+use replay_runs::Ended;
 use replay_session::{Answer, Session};
 use rows::Refusal;
 
@@ -37,31 +37,29 @@ pub enum Explanation {
 }
 
 // Why a place is not allowed in a state that fits.
-// `WellFormed m` stays a clause: it speaks by recursion over the model's lists, which a ghost field cannot hold, and behind an `impl Model` other crates would read a model only through a method that gives it out whole; the length of `run` stays one too, since C lends a run that may be shorter, and that of `work`, as `replay_runs` asks for it in a clause and not in a type.
+// `WellFormed m` stays a clause: a record is blank before a text is read into it, which is not well formed, and a second type around a well-formed record would be opened wherever a field of it is read; the lengths of `run` and `work` stay clauses too, since C lends a run that may be shorter, and `replay_runs` takes any area of at least so many bytes.
 fn why(m: Model, s: Session, n: u32, work: &mut [u8]) -> Reason
     requires { WellFormed m × Fits m s × (s.kept < limit.run) × (room ≤ length work.old) }
     ensures { ((p : runs.Place) → place_of n ≡ some p → Explains m s p result) × (length work.new ≡ length work.old) }
 {
-    let v = replay_view::arrange(&s.states[..s.objects], work);
-    let need = replay_places::needs(&m, n);
-    replay_runs::derive(m, need, v.count, work);
+    let v = replay_runs::sight(m, s, n, work);
     reasons::why_place(&m, &v.slots, work, s.position(), n)
 }
 
 // Why a run breaks at a place, in the state to which the places before it lead.
-// The model and the run stay apart from the work area: they are only read, and it is written.
+// The model, the run and the work area stay apart: `why` takes no run and `tell` no second buffer, so that a struct of them would be taken apart from call to call.
 fn why_broken(m: Model, s: Session, place: usize, run: &[u32], work: &mut [u8]) -> Reason
     requires { WellFormed m × (length run.now ≤ limit.run) × (room ≤ length work.old) × Replays (program_of m) (question_of m) (start []) run.now 0 (BrokenAt place) × Stopped m run.now place s }
     ensures { Reasoned (program_of m) (question_of m) run.now place result × (length work.new ≡ length work.old) }
 {
-    if place >= run.len() {
+    let Some(&n) = run.get(place) else {
         return Reason::Ends;
-    }
-    why(m, s, run[place], work)
+    };
+    why(m, s, n, work)
 }
 
 // Explains how a run ended.
-fn tell(m: Model, ending: Ending, run: &[u32], work: &mut [u8]) -> Explanation
+fn tell(m: Model, ending: Ended<Answer>, run: &[u32], work: &mut [u8]) -> Explanation
     requires { WellFormed m × (length run.now ≤ limit.run) × (room ≤ length work.old) × Replays (program_of m) (question_of m) (start []) run.now 0 ending.answer × Ends m run.now ending.answer ending.session }
     ensures { Tells (program_of m) (question_of m) run.now ending.answer result × (length work.new ≡ length work.old) }
 {
@@ -76,7 +74,7 @@ fn tell(m: Model, ending: Ending, run: &[u32], work: &mut [u8]) -> Explanation
 }
 
 // Replays a run over a model and explains the answer, and notes who stood by.
-// The run and the two buffers stay apart: the run is only read, `stood` is lent by C, and `work` is a local of `explain_model`.
+// The run and the two buffers stay apart: `play_run` takes both and `tell` one of them, so that a struct of them would be taken apart here.
 fn explain_run(m: Model, run: &[u32], work: &mut [u8], stood: &mut [u32]) -> Explanation
     requires { WellFormed m × (length run.now ≤ limit.run) × (room ≤ length work.old) × (limit.run ≤ length stood.old) }
     ensures { Told (program_of m) (question_of m) run.now result × Notes (program_of m) (question_of m) (start []) run.now stood.old stood.new × (length work.new ≡ length work.old) }

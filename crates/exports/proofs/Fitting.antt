@@ -6,15 +6,15 @@ use mathlib.Core.List.{List, [], ◌∷◌}
 use Prim.Native.Nat.{ℕ, suc, ◌+◌, ◌≤◌, ◌<◌}
 use native.Mathlib.Omega.{arith}
 use lib.Dec.{eqb, ltb}
-use lib.ListN.{length, length-take}
+use lib.ListN.{length, get_or, length-take}
 use borrow.Author.Tests.{eqb-true, eqb-false, ltb-false}
 use Rattle.std.proofs.lemmas.Bool.{cases_Bool}
 use Rattle.std.specs.Prelude.{Result, Ok, Err}
 use Rattle.rows.specs.declared.Refusal.{Refusal}
 use Rattle.limits.specs.Limits as limit
-use Rattle.semantics.specs.Models.{Line, rule, new, next, other, line, Program, Question}
+use Rattle.semantics.specs.Models.{Line, rule, new, next, other, line, Program, Question, carriers}
 use Rattle.semantics.specs.Runs as runs
-use Rattle.semantics.specs.Runs.{step, meet, start, after}
+use Rattle.semantics.specs.Runs.{step, meet, start, Allowed, after}
 use Rattle.grammar.specs.Declarations.{Declared}
 use Rattle.grammar.specs.Texts.{Outcome, accepted, refused, outcome}
 use Rattle.acceptance.proofs.Acceptance.{accepted-sound}
@@ -27,6 +27,7 @@ use Rattle.replay_session.specs.declared.Session.{Session}
 use Rattle.replay_session.specs.Sessions.{session_of, Fits, stepped, taken}
 use Rattle.replay_session.specs.Replays.{Replays}
 use Rattle.replay_session.specs.Notes.{Stands}
+use Rattle.replay_session.proofs.Carrying.{cell-after}
 use Rattle.replay_session.proofs.Noting.{standing-small}
 use Rattle.replay_runs.specs.Replies.{PlaceReply}
 use Rattle.replay.specs.Replies.{Replayed, Put}
@@ -67,13 +68,22 @@ replay-fits text run work table short (Ok a) work' table' (accepted D P Q) e h =
 -- ONE PLACE
 stepped-small : (Q : Question) (d : ℕ) (s : Session) → Fits d Q s → Small s → (o : ℕ) (l : Line) → Small (stepped s o l)
 stepped-small Q d s f h o (rule r xs b) = h
-stepped-small Q d s f h o (new t b) = record { objects = omega (arith, f.objects); met = h.met; kept = omega (arith, f.places) }
-stepped-small Q d s f h o (next x plus minus b) = record { objects = h.objects; met = h.met; kept = omega (arith, f.places) }
+stepped-small Q d s f h o (new t b) = record { objects = omega (arith, f.objects); met = h.met; carried = h.carried; kept = omega (arith, f.places) }
+stepped-small Q d s f h o (next x plus minus b) = record { objects = h.objects; met = h.met; carried = h.carried; kept = omega (arith, f.places) }
 stepped-small Q d s f h o other = h
 
-taken-small : (P : Program) (Q : Question) (d : ℕ) (s : Session) → length Q ≤ 4 → Fits d Q s → Small s → (p : runs.Place) → Small (taken P Q s p)
-taken-small P Q d s few f h (step ℓ o) = stepped-small Q d s f h o (line P ℓ)
-taken-small P Q d s few f h (meet i os) = record { objects = h.objects; met = omega (arith, f.stages); kept = omega (arith, f.places) }
+taken-small : (P : Program) (Q : Question) (d : ℕ) (s : Session) → length Q ≤ 4 → Fits d Q s → Small s → (p : runs.Place) → Allowed P Q (session_of Q s) p → Small (taken P Q s p)
+taken-small P Q d s few f h (step ℓ o) a = stepped-small Q d s f h o (line P ℓ)
+taken-small P Q d s few f h (meet i os) a =
+    record {
+      objects = h.objects;
+      met = omega (arith, f.stages);
+      carried = λ v l. ⊎_elim
+          (λ e. rw e (h.carried v l))
+          (λ r. rw r.2 (omega (arith, a.3.0 r.0 r.1, f.objects, length-take s.objects s.states)))
+          (cell-after (carriers Q) (get_or Q s.met []) os s.carried v);
+      kept = omega (arith, f.places);
+    }
 
 number_small : (P : Program) (Q : Question) (d : ℕ) (s : Session) → Fits d Q s → (p : runs.Place) (k : ℕ) → Stands P (session_of Q s) p k → k < 4294967296
 number_small P Q d s f p k h =
@@ -81,7 +91,7 @@ number_small P Q d s f p k h =
 
 reply-fits : (P : Program) (Q : Question) (d : ℕ) (s : Session) (n : ℕ) (a : PlaceAnswer) (t : Session) → length Q ≤ 4 → Small s → PlaceReply d P Q s n a t → LowNumber (Ok a) × Small t
 reply-fits P Q d s n a t few h r = ⊎_elim (λ w. (rw w.answer (omega arith), rw w.left h))
-    (λ w. ⊎_elim (λ k. (rw k.answer (number_small P Q d s w.0 k.place k.stood k.stands), rw k.taken (taken-small P Q d s few w.0 h k.place)))
+    (λ w. ⊎_elim (λ k. (rw k.answer (number_small P Q d s w.0 k.place k.stood k.stands), rw k.taken (taken-small P Q d s few w.0 h k.place k.allowed)))
     (λ b. (rw b.answer h.kept, rw b.left h)) w.1) r
 
 pub place-fits : (text : List ℕ) (short long : Bool) (s : Session) (n : ℕ) (work : List ℕ) (a : Result PlaceAnswer Refusal) (t : Session) (work' : List ℕ) → Small s

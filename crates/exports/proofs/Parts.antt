@@ -6,7 +6,8 @@ use Prim.Native.Nat.{ℕ, ◌<◌}
 use lib.ListN.{length}
 use borrow.Author.Tests.{lt-ltb}
 use Rattle.limits.specs.Limits as limit
+use Rattle.std.specs.Prelude.{None}
 use Rattle.exports.specs.Calls.{Spanned}
 
 pub long-line : (line : List ℕ) (part : Option (List ℕ)) → limit.text < length line → Spanned line part 0
-long-line line part h = record { span = record { from = 0; to = 0 }; shows = rw (lt-ltb limit.text (length line) h) (refl, refl); number = refl }
+long-line line part h = record { span = None; shows = rw (lt-ltb limit.text (length line) h) tt; number = refl }

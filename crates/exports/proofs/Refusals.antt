@@ -29,7 +29,7 @@ use Rattle.analyzer_verdict.specs.declared.Analysis.{Analysis}
 use Rattle.calls.specs.Crowding.{too_many}
 use Rattle.analyzer_verdict.specs.Judging.{Answered}
 use Rattle.analyzer.specs.Analyzing.{Leaves, Analyzes}
-use Rattle.exports.specs.Codes.{code}
+use Rattle.words.specs.Words.{code}
 
 -- THE ROWS of a line
 cond-most : (b : Bool) (x y : ℕ) → x ≤ 11 → y ≤ 11 → cond b x y ≤ 11

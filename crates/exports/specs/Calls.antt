@@ -1,5 +1,6 @@
 -- WHAT THE EXPORTED CALLS ANSWER: each passes on the whole contract of the public call, its answer as a number and its records as cells.
 use Rattle.std.specs.Prelude.{◌≡◌, if◌then◌else◌, List, ◌++◌, map, ℕ, nat_lt, length, drop, Result}
+use Rattle.std.specs.Prelude as std
 use Rattle.std.proofs.Math.Option.{Option, none}
 use Rattle.limits.specs.Limits as limit
 use Rattle.grammar.specs.Texts.{outcome}
@@ -18,9 +19,9 @@ use Rattle.handin.specs.Answers.{told}
 use Rattle.marker_worth.specs.declared.Mark.{Mark}
 use Rattle.marker.specs.Marking.{Marks}
 use Rattle.display_shapes.specs.declared.Span.{Span}
-use Rattle.display_shapes.specs.Rows.{Shows}
+use Rattle.display_shapes.specs.Rows.{Shown}
 use Rattle.display.specs.declared.Declaration.{Declaration}
-use Rattle.display.specs.Shown.{relation_at, ShowsRelation}
+use Rattle.display.specs.Shown.{relation_at, FindsRelation}
 use Rattle.explain.specs.declared.Explanation.{Explanation}
 use Rattle.explain.specs.Explains.{Explained}
 use Rattle.asbestos.specs.Messages.{Process}
@@ -85,16 +86,16 @@ pub record Reasoned (text run work table : List ℕ) (n : ℕ) (work' table' : L
   pub explains : Explained (run_outcome text run work table) run work table explanation work' table'
   pub number : n ≡ explained explanation
 
--- A DECLARED RELATION of a text
+-- A DECLARED RELATION of a text, if there is one
 pub record Declared (text : List ℕ) (i n : ℕ) : Type 0 where
-  pub relation : Declaration
-  pub shows : ShowsRelation text (relation_at (outcome text) i) relation
+  pub relation : std.Option Declaration
+  pub shows : FindsRelation text (relation_at (outcome text) i) relation
   pub number : n ≡ codes.declared relation
 
 -- A PART OF A LINE; a line that is longer than a text has none
 pub record Spanned (line : List ℕ) (part : Option (List ℕ)) (n : ℕ) : Type 0 where
-  pub span : Span
-  pub shows : Shows line (if nat_lt limit.text (length line) then none else part) span
+  pub span : std.Option Span
+  pub shows : Shown line (if nat_lt limit.text (length line) then none else part) span
   pub number : n ≡ codes.spanned span
 
 -- THE TEXT THAT A DESK for Asbestos labels writes, with the output after it

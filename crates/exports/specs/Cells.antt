@@ -1,10 +1,11 @@
 -- CELLS: rows of numbers in place of records.
-use Rattle.std.specs.Prelude.{List, [], ◌∷◌, ◌++◌, ℕ, ◌+◌, ◌-◌, take, slice_index}
+use Rattle.std.specs.Prelude.{Option, unwrap_or, List, [], ◌∷◌, ◌++◌, map, ℕ, ◌+◌, ◌-◌, take, slice_index}
 use Rattle.limits.specs.Limits as limit
 use Rattle.analyzer_verdict.specs.declared.Answer.{Answer}
 use Rattle.analyzer_verdict.specs.declared.Answer.TheVariants.{Reached, Unreached, Refused}
 use Rattle.analyzer_verdict.specs.declared.Analysis.{Analysis}
 use Rattle.replay_session.specs.declared.Session.{Session}
+use Rattle.replay_meetings.specs.Carried.{object_of}
 
 -- the number of the shown run's last place, 0 where there is no run
 abbrev pub last_number : Answer → List ℕ → ℕ
@@ -16,16 +17,20 @@ last_number (Refused n l) run = 0
 abbrev pub table : Analysis → ℕ → List ℕ
 table a last = a.count ∷ (a.states ++ (last ∷ []))
 
--- THE REPLAY'S STATE: 255 atomic states, the number of objects, the stages met, the first and the second carried object, the places kept
+-- THE REPLAY'S STATE: 255 atomic states, the number of objects, the stages met, the first and the second carried object, 255 for none, the places kept
 abbrev pub state_of : List ℕ → Session
 state_of cells =
     record {
       states = take limit.objects cells;
       objects = slice_index cells limit.objects;
       met = slice_index cells (limit.objects + 1);
-      carried = slice_index cells (limit.objects + 2) ∷ slice_index cells (limit.objects + 3) ∷ [];
+      carried = object_of (slice_index cells (limit.objects + 2)) ∷ object_of (slice_index cells (limit.objects + 3)) ∷ [];
       kept = slice_index cells (limit.objects + 4);
     }
 
+-- the cell of a carried object
+abbrev pub cell_of : Option ℕ → ℕ
+cell_of o = unwrap_or o limit.none
+
 abbrev pub cells_of : Session → List ℕ
-cells_of s = s.states ++ (s.objects ∷ s.met ∷ (s.carried ++ (s.kept ∷ [])))
+cells_of s = s.states ++ (s.objects ∷ s.met ∷ (map cell_of s.carried ++ (s.kept ∷ [])))

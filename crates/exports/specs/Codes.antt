@@ -1,17 +1,14 @@
 -- THE NUMBERS OF ANSWERS: kind × 2^32 + value.
-use Rattle.std.specs.Prelude.{ℕ, ◌+◌, ◌*◌, Result, Ok, Err}
+use Rattle.std.specs.Prelude.{ℕ, Result, Ok, Err}
 use Rattle.rows.specs.Rows.{number_of}
 use Rattle.rows.specs.declared.Refusal.{Refusal}
-use Rattle.words.specs.Words.{refusal}
+use Rattle.words.specs.Words.{code, refusal}
 use Rattle.analyzer_verdict.specs.declared.Answer.{Answer}
 use Rattle.analyzer_verdict.specs.declared.Answer.TheVariants.{Reached, Unreached, Refused}
 use Rattle.replay_session.specs.declared.Answer as session
 use Rattle.replay_session.specs.declared.Answer.TheVariants as reply
 use Rattle.replay_session.specs.declared.PlaceAnswer as place
 use Rattle.replay_session.specs.declared.PlaceAnswer.TheVariants as place_reply
-
-abbrev pub code : ℕ → ℕ → ℕ
-code kind value = kind * 4294967296 + value
 
 -- THE ANSWER OF THE ANALYSIS: kind 0 is unreached, kind 1 reached with the number of places
 abbrev pub coded : Answer → ℕ

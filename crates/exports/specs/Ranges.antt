@@ -1,5 +1,5 @@
 -- NUMBERS THAT FIT their cells and codes.
-use Rattle.std.specs.Prelude.{ℕ, ◌≤◌, ◌<◌, Result, Ok, Err}
+use Rattle.std.specs.Prelude.{ℕ, ◌≤◌, ◌<◌, None, IfSome, Result, Ok, Err, slice_index_or}
 use Rattle.rows.specs.declared.Refusal.{Refusal}
 use Rattle.limits.specs.Limits as limit
 use Rattle.analyzer_verdict.specs.declared.Answer.{Answer}
@@ -34,8 +34,9 @@ LowNumber (Ok (place_reply.Kept stood)) = stood < 4294967296
 LowNumber (Ok (place_reply.Broken place)) = place < 4294967296
 LowNumber (Err x) = Unit {0}
 
--- and so are the counts of a state
+-- and so are the counts of a state, and its carried objects
 pub record Small (s : Session) : Type 0 where
   pub objects : s.objects < 4294967296
   pub met : s.met < 4294967296
+  pub carried : (v : ℕ) → v < limit.carried → IfSome (slice_index_or s.carried v None) (λ o. o < 4294967296)
   pub kept : s.kept < 4294967296

@@ -1,8 +1,7 @@
 // The public calls for C and Rust: answers as numbers, records as rows of cells (include/eon.h).
 #![tactic(auto)]
 
-ghost use Rattle.std.specs.Prelude.{◌≡◌, ◌+◌, ◌≤◌, length};
-ghost use Rattle.std.proofs.Math.Seq.{paste};
+ghost use Rattle.std.specs.Prelude.{◌≡◌, ◌≤◌, length};
 ghost use Rattle.limits.specs.Limits as limit;
 ghost use Rattle.grammar.specs.Texts.{outcome};
 ghost use Rattle.lines.specs.Lines.{line_at};
@@ -19,16 +18,18 @@ ghost use Rattle.exports.specs.Ranges.{ShortRun, LowPlace, LowNumber, Shown, Sma
 use analyzer_verdict::Analysis;
 use asbestos_writer::CELLS;
 use handin::{Run, Unreadable};
-use limits::{LISTED, OBJECTS, RUN, TEXT};
+use limits::{LISTED, NONE, OBJECTS, RUN, TEXT};
 use replay_session::{PlaceAnswer, Session};
 use rows::{Refusal, Row};
+use words::Kind;
 
 // The cells beside an answer of the analysis, of which the last has the shown run's last place.
 const LAST: usize = LISTED + 1;
 
 const OUT: usize = LISTED + 2;
 
-// The cells of a replay's state: behind the objects' states their number, the stages met, the first and the second carried object and the places kept.
+// The cells of a replay's state: behind the objects' states their number, the stages met, the first and the second carried object, and the places kept.
+// 255 stays there for a carried object that is none: C lends these cells and reads them.
 const MET: usize = OBJECTS + 1;
 
 const FIRST: usize = OBJECTS + 2;
@@ -39,23 +40,17 @@ const KEPT: usize = OBJECTS + 4;
 
 const SESSION: usize = OBJECTS + 5;
 
-// Copies the numbers into the cells from place `at` on.
-// It stays a function of its own: it adds the place to the library's `copy_from_slice`, which takes two slices of one length.
-fn copy(cells: &mut [u32], at: usize, numbers: &[u32])
-    requires { at + length numbers.now ≤ length cells.old }
-    ensures { cells.new ≡ paste cells.old at numbers.now (length numbers.now) }
-{
-    cells[at..at + numbers.len()].copy_from_slice(numbers);
-}
-
 // The number of an analysis's answer.
+// It and the two functions for a replay's answer and a place's stay functions, for the reason at `unpack`.
 fn coded(answer: analyzer_verdict::Answer) -> u64
     requires { ShortRun answer }
     ensures { result ≡ code_of answer }
 {
     match answer {
-        analyzer_verdict::Answer::Unreached => 0,
-        analyzer_verdict::Answer::Reached { places, .. } => 4_294_967_296 + places as u64,
+        analyzer_verdict::Answer::Unreached => words::word(Kind::Unreached, 0),
+        analyzer_verdict::Answer::Reached { places, .. } => {
+            words::word(Kind::Reached, places as u64)
+        }
         analyzer_verdict::Answer::Refused { number, line } => words::refusal(number, line),
     }
 }
@@ -66,8 +61,8 @@ fn replied(answer: Result<replay_session::Answer, Refusal>) -> u64
     ensures { result ≡ reply_code answer }
 {
     match answer {
-        Ok(replay_session::Answer::Kept) => 3 * 4_294_967_296,
-        Ok(replay_session::Answer::Broken { place }) => 4 * 4_294_967_296 + place as u64,
+        Ok(replay_session::Answer::Kept) => words::word(Kind::Kept, 0),
+        Ok(replay_session::Answer::Broken { place }) => words::word(Kind::Broken, place as u64),
         Err(r) => words::refused(r),
     }
 }
@@ -78,8 +73,8 @@ fn put(answer: Result<PlaceAnswer, Refusal>) -> u64
     ensures { result ≡ place_code answer }
 {
     match answer {
-        Ok(PlaceAnswer::Kept { stood }) => 3 * 4_294_967_296 + stood as u64,
-        Ok(PlaceAnswer::Broken { place }) => 4 * 4_294_967_296 + place as u64,
+        Ok(PlaceAnswer::Kept { stood }) => words::word(Kind::Kept, stood as u64),
+        Ok(PlaceAnswer::Broken { place }) => words::word(Kind::Broken, place as u64),
         Err(r) => words::refused(r),
     }
 }
@@ -106,28 +101,40 @@ fn table(a: Analysis, last: u32) -> [u32; OUT]
     let mut cells = [0u32; OUT];
     cells[0] = a.count as u32;
     cells[LAST] = last;
-    copy(&mut cells, 1, &states);
+    cells[1..LAST].copy_from_slice(&states);
     cells
 }
 
-// The replay's state that the cells say.
+// Writes the cells beside the answer of an analysis, and answers its number.
+fn told(a: Analysis, run: &[u32], out: &mut [u32; OUT]) -> u64
+    requires { ShortRun a.answer × Shown (length run.now) a.answer × (a.count ≤ limit.listed) }
+    ensures { (result ≡ code_of a.answer) × (out.new ≡ table_of a (last_number a.answer run.now)) }
+{
+    let last = last_number(a.answer, run);
+    let cells = table(a, last);
+    *out = cells;
+    coded(a.answer)
+}
+
+// The replay's state that the cells say, where 255 is no carried object.
 // It stays a function: neither `Session` nor the array is a type of this crate, so that no `From` can be written here.
 fn unpack(cells: [u32; SESSION]) -> Session
     ensures { (result ≡ state_of cells) × Small result }
 {
     let mut states = [0u32; OBJECTS];
-    copy(&mut states, 0, &cells[..OBJECTS]);
-    let carried = [cells[FIRST], cells[SECOND]];
+    states.copy_from_slice(&cells[..OBJECTS]);
+    let first = replay_meetings::as_object(cells[FIRST]);
+    let second = replay_meetings::as_object(cells[SECOND]);
     Session {
         states,
         objects: cells[OBJECTS] as usize,
         met: cells[MET] as usize,
-        carried,
+        carried: [first, second],
         kept: cells[KEPT] as usize,
     }
 }
 
-// The cells of a replay's state.
+// The cells of a replay's state, with 255 for a carried object that is none.
 // It stays a function: neither `Session` nor the array is a type of this crate, so that no `From` can be written here.
 fn pack(s: Session) -> [u32; SESSION]
     requires { Small s }
@@ -138,10 +145,10 @@ fn pack(s: Session) -> [u32; SESSION]
     let mut cells = [0u32; SESSION];
     cells[OBJECTS] = s.objects as u32;
     cells[MET] = s.met as u32;
-    cells[FIRST] = carried[0];
-    cells[SECOND] = carried[1];
+    cells[FIRST] = carried[0].unwrap_or(NONE as usize) as u32;
+    cells[SECOND] = carried[1].unwrap_or(NONE as usize) as u32;
     cells[KEPT] = s.kept as u32;
-    copy(&mut cells, 0, &states);
+    cells[..OBJECTS].copy_from_slice(&states);
     cells
 }
 
@@ -156,11 +163,7 @@ pub extern "C" fn eon_analyze(
     ensures { Analyzed text.now work.old run.old result work.new run.new out.new }
 {
     let analysis = analyzer::analyze(text, work, run);
-    let answer = analysis.answer;
-    let last = last_number(answer, run);
-    let cells = table(analysis, last);
-    *out = cells;
-    coded(answer)
+    told(analysis, run, out)
 }
 
 // Asks what can still become of an object after the places.
@@ -176,11 +179,7 @@ pub extern "C" fn eon_from(
     ensures { Asked text.now before.now object work.old run.old result work.new run.new out.new }
 {
     let analysis = from_here::from_here(text, before, object, work, run);
-    let answer = analysis.answer;
-    let last = last_number(answer, run);
-    let cells = table(analysis, last);
-    *out = cells;
-    coded(answer)
+    told(analysis, run, out)
 }
 
 // Replays a run over a text, and notes who stood by at each kept step.
@@ -233,10 +232,7 @@ pub extern "C" fn eon_handin(handin: &[u8], run: &mut [u32]) -> u64
     ensures { Handed handin.now run.old result run.new }
 {
     if run.len() < RUN {
-        return words::refused(Refusal {
-            row: Row::Lent,
-            line: 0,
-        });
+        return words::refused(Row::Lent.refusal());
     }
     let said = handin::read(handin);
     write_run(handin, said, run);

@@ -7,6 +7,7 @@ ghost use Rattle.exports_cure.specs.Calls.{Advised};
 
 use rows::Refusal;
 use strike_list::{Lines, MOST};
+use words::Kind;
 
 // The number of an answer.
 fn coded(advice: Result<Option<Lines>, Refusal>) -> u64
@@ -14,13 +15,14 @@ fn coded(advice: Result<Option<Lines>, Refusal>) -> u64
     ensures { result ≡ code_of advice }
 {
     match advice {
-        Ok(Some(l)) => 11 * 4_294_967_296 + l.count as u64,
-        Ok(None) => 12 * 4_294_967_296,
+        Ok(Some(l)) => words::word(Kind::Strike, l.count as u64),
+        Ok(None) => words::word(Kind::NoChoice, 0),
         Err(r) => words::refused(r),
     }
 }
 
 // The cells beside an answer.
+// It stays a `match` over the three cases: as `map_or` it would be one closure inside the other, with the zeros written twice.
 fn cells(advice: Result<Option<Lines>, Refusal>) -> [u32; MOST]
     ensures { result ≡ cells_of advice }
 {

@@ -1,14 +1,14 @@
 -- THE NUMBER OF AN ANSWER: kind × 2^32 + value; and the cells beside it.
-use Rattle.std.specs.Prelude.{List, replicate, ℕ, ◌+◌, ◌*◌, ◌≤◌, Result, Ok, Err}
+use Rattle.std.specs.Prelude.{List, replicate, ℕ, ◌≤◌, Result, Ok, Err}
 use Rattle.limits.specs.Limits as limit
 use Rattle.rows.specs.Rows.{number_of}
 use Rattle.rows.specs.declared.Refusal.{Refusal}
-use Rattle.words.specs.Words.{refusal}
+use Rattle.words.specs.Words.{code, refusal}
 use Rattle.game_answer.specs.declared.Game.{Game}
 
 -- kind 2 is a refusal, with number × 65,536 + line; kind 15 a game that is told, with the number of states
 abbrev pub coded : Result Game Refusal → ℕ
-coded (Ok g) = 15 * 4294967296 + g.count
+coded (Ok g) = code 15 g.count
 coded (Err x) = refusal (number_of x.row) x.line
 
 -- the states, and their numbers of moves; zeros beside a refusal

@@ -2,12 +2,13 @@
 #![tactic(auto)]
 
 ghost use Rattle.std.specs.Prelude.{◌≡◌};
-ghost use Rattle.exports_game.specs.Codes.{coded as code_of, states as states_of, moves as moves_of, Few};
+ghost use Rattle.exports_game.specs.Codes.{coded as code_of, Few};
 ghost use Rattle.exports_game.specs.Calls.{Tells};
 
 use game_answer::Game;
 use limits::LISTED;
 use rows::Refusal;
+use words::Kind;
 
 // The number of an answer, with how many states stand beside it.
 fn coded(game: Result<Game, Refusal>) -> u64
@@ -15,30 +16,8 @@ fn coded(game: Result<Game, Refusal>) -> u64
     ensures { result ≡ code_of game }
 {
     match game {
-        Ok(g) => 15 * 4_294_967_296 + g.count as u64,
+        Ok(g) => words::word(Kind::Told, g.count as u64),
         Err(r) => words::refused(r),
-    }
-}
-
-// The cells of the states.
-// The two rows stay two functions: an array field cannot be made part of a pair straight.
-fn listed(game: Result<Game, Refusal>) -> [u32; LISTED]
-    ensures { result ≡ states_of game }
-{
-    match game {
-        Ok(g) => g.states,
-        Err(_) => [0u32; LISTED],
-    }
-}
-
-// The cells of their numbers of moves.
-// The two rows stay two functions: an array field cannot be made part of a pair straight.
-fn counted(game: Result<Game, Refusal>) -> [u32; LISTED]
-    ensures { result ≡ moves_of game }
-{
-    match game {
-        Ok(g) => g.moves,
-        Err(_) => [0u32; LISTED],
     }
 }
 
@@ -55,9 +34,7 @@ pub extern "C" fn eon_game(
     ensures { Tells text.now attacker.now guardian.now work.old result work.new states.new moves.new }
 {
     let game = game::play(text, attacker, guardian, work);
-    let listing = listed(game);
-    *states = listing;
-    let counts = counted(game);
-    *moves = counts;
+    *states = game.map_or([0; LISTED], |g| g.states);
+    *moves = game.map_or([0; LISTED], |g| g.moves);
     coded(game)
 }

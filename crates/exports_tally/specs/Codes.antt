@@ -1,13 +1,13 @@
 -- THE NUMBER OF AN ANSWER: kind × 2^32 + value; and the cells beside it.
-use Rattle.std.specs.Prelude.{List, [], ◌∷◌, ℕ, ◌*◌, replicate, Result, Ok, Err}
+use Rattle.std.specs.Prelude.{List, [], ◌∷◌, ℕ, replicate, Result, Ok, Err}
 use Rattle.rows.specs.Rows.{number_of}
 use Rattle.rows.specs.declared.Refusal.{Refusal}
-use Rattle.words.specs.Words.{refusal}
+use Rattle.words.specs.Words.{code, refusal}
 use Rattle.tally.specs.declared.Count.{Count}
 
 -- kind 2 is a refusal, with number × 65,536 + line; kind 13 is counted
 abbrev pub coded : Result Count Refusal → ℕ
-coded (Ok c) = 13 * 4294967296
+coded (Ok c) = code 13 0
 coded (Err x) = refusal (number_of x.row) x.line
 
 -- the reached and the unreached choices, the reached share in whole hundredths and its remainder; zeros beside a refusal

@@ -2,11 +2,12 @@
 #![tactic(auto)]
 
 ghost use Rattle.std.specs.Prelude.{◌≡◌};
-ghost use Rattle.exports_tally.specs.Codes.{coded as code_of, counts as counts_of};
+ghost use Rattle.exports_tally.specs.Codes.{coded as code_of};
 ghost use Rattle.exports_tally.specs.Calls.{Counted};
 
 use rows::Refusal;
 use tally::Count;
+use words::Kind;
 
 // The cells beside an answer: the reached and the unreached choices, the reached share and its remainder.
 const COUNTS: usize = 4;
@@ -16,18 +17,8 @@ fn coded(count: Result<Count, Refusal>) -> u64
     ensures { result ≡ code_of count }
 {
     match count {
-        Ok(_) => 13 * 4_294_967_296,
+        Ok(_) => words::word(Kind::Counted, 0),
         Err(r) => words::refused(r),
-    }
-}
-
-// The cells beside an answer.
-fn counts(count: Result<Count, Refusal>) -> [u32; COUNTS]
-    ensures { result ≡ counts_of count }
-{
-    match count {
-        Ok(c) => [c.reached, c.unreached, c.share, c.remainder],
-        Err(_) => [0u32; COUNTS],
     }
 }
 
@@ -42,7 +33,9 @@ pub extern "C" fn eon_tally(
     ensures { Counted text.now list.now work.old result work.new out.new }
 {
     let count = tally::tally(text, list, work);
-    let cells = counts(count);
-    *out = cells;
+    *out = count.map_or(
+        [0; COUNTS],
+        |c| [c.reached, c.unreached, c.share, c.remainder],
+    );
     coded(count)
 }

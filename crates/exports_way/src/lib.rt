@@ -6,6 +6,7 @@ ghost use Rattle.exports_way.specs.Codes.{coded as code_of, Few};
 ghost use Rattle.exports_way.specs.Calls.{Looks};
 
 use rows::Refusal;
+use words::Kind;
 
 // The number of an answer.
 fn coded(steps: Result<Option<usize>, Refusal>) -> u64
@@ -13,8 +14,8 @@ fn coded(steps: Result<Option<usize>, Refusal>) -> u64
     ensures { result ≡ code_of steps }
 {
     match steps {
-        Ok(Some(n)) => 16 * 4_294_967_296 + n as u64,
-        Ok(None) => 17 * 4_294_967_296,
+        Ok(Some(n)) => words::word(Kind::Way, n as u64),
+        Ok(None) => words::word(Kind::NoWay, 0),
         Err(r) => words::refused(r),
     }
 }

@@ -44,7 +44,6 @@ use Rattle.witness.proofs.Laws.{last-number}
 use Rattle.witness_from.specs.From as witness
 use Rattle.witness_from.specs.From.{Openable}
 use Rattle.analyzer_verdict.specs.declared.Analysis.{Analysis}
-use Rattle.search_states.specs.Listed.{Listed}
 use Rattle.analyzer_verdict.proofs.Laws.{parts}
 use Rattle.from_here_verdict.specs.From.{ShownFrom, Refuses, Asked, Put}
 use Rattle.from_here_verdict.specs.Standing.{Ready, there, Told}
@@ -97,16 +96,6 @@ module _ (m : Model) (s : Session) (o : ℕ) (h : Ready m s o) (w : List ℕ) (r
 
   pub unreached : r.reached ≡ false → ReachedFrom (program_of m) (question_of m) (there m s) (first_variable m) o → ⊥
   unreached e h = false≢true (sym e ∙ verdict.1 h)
-
-  -- the states by rising number
-  pub listed : Listed (program_of m) r.explored.listing.states r.explored.listing.count
-  listed =
-      record {
-        count = f.explored.listing.count;
-        rising = f.explored.listing.rising;
-        reachable = λ t. ((λ e. (f.explored.listing.same t).1 ((f.explored.reachable t).0 e)), λ e. (f.explored.reachable t).1 ((f.explored.listing.same t).0 e));
-        rest = f.explored.listing.rest;
-      }
 
   -- WHAT IT RECORDED
   pub recorded : Recorded m w r.explored.states r.levels.rows r.explored.moves.table r.explored.moves.steps r.explored.moves.ways

@@ -21,7 +21,7 @@ use search::Explored;
 use search_states::{Listing, States};
 
 // The reachable states by rising number, the empty one first, for each the fewest moves of the attacker, 255 where it is the guardian's, and how many states they are.
-// The count stays beside two arrays, and 255 stays for the guardian: C lends the cells of both, and the count is a part of the number that it is told.
+// The count stays beside two arrays, and 255 stays for the guardian: `eon_game` copies both rows as they stand into the cells that C lends, where Options would be turned into these numbers one by one.
 #[derive(Clone, Copy)]
 pub struct Game {
     pub states: [u32; LISTED],
@@ -43,7 +43,7 @@ fn arranged(s: States, listing: Listing, ranks: [Option<u32>; LISTED]) -> [u32; 
 }
 
 // The game over the explored states.
-// `WellFormed m` stays a clause: it speaks by recursion over the model's lists, which a ghost field cannot hold, and behind an `impl Model` other crates would read a model only through a method that gives it out whole; the two lists stay beside the model, since C lends them apart.
+// `WellFormed m` stays a clause: a record is blank before a text is read into it, which is not well formed, and a second type around a well-formed record would be opened wherever a field of it is read; the two lists stay beside the model, since C lends them apart.
 fn tell(m: Model, attacker: &[u32], guardian: &[u32], facts: &[u8], found: Explored) -> Game
     requires { WellFormed m × OneVariable m × Surveyed m facts.now found }
     ensures { Telling (program_of m) (question_of m) attacker.now guardian.now result }
@@ -64,6 +64,7 @@ fn tell(m: Model, attacker: &[u32], guardian: &[u32], facts: &[u8], found: Explo
 }
 
 // Explores a well-formed model and tells the game, or that there are too many states; it leaves the work bytes zero.
+// `let .. else` stays: `ok_or(CROWDED)?` would save two lines here and cost a lemma about `ok_or` in the proof, which the crate does not need for anything else.
 fn explored(m: Model, attacker: &[u32], guardian: &[u32], work: &mut [u8]) -> Result<Game, Refusal>
     requires { WellFormed m × (limit.work ≤ length work.old) × (faulted (program_of m) attacker.now guardian.now ≡ false) × OneVariable m }
     ensures { Settles (program_of m) (question_of m) attacker.now guardian.now work.old result work.new }

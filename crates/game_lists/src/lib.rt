@@ -20,18 +20,12 @@ fn relabels(action: Action) -> bool
 }
 
 // Does a `next` line stand on the line of that number?
-// That the model is well-formed stays in clauses: a model is a value of any numbers, which acceptance alone makes well-formed.
+// That the model is well formed stays a clause: a record is blank before a text is read into it, which is not well formed, and a second type around a well-formed record would be opened wherever a field of it is read.
 fn next_line(m: Model, line: u32) -> bool
     requires { WellFormed m }
     ensures { result ≡ is_next (line_at (program_of m) line) }
 {
-    for i in 0..m.clausecount {
-        let c = m.clauses[i];
-        if c.line == line {
-            return relabels(c.action);
-        }
-    }
-    false
+    m.clause_on(line).is_some_and(|c| relabels(c.action))
 }
 
 // Does the list name a line that is no `next` line?

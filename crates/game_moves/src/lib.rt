@@ -49,6 +49,7 @@ fn lead_clause(states: &[u32], c: Clause, table: &[u8; TABLE], i: usize, moves: 
 }
 
 // The moves of a side that has the lines of a list.
+// The loop stays over the numbers of the clauses: the table's rows stand by the number, and `enumerate` would only give a name to the clause, which is read once.
 pub fn own(m: Model, s: States, table: &[u8; TABLE], list: &[u32]) -> [u8; MATRIX]
     requires { WellFormed m × Proper s × Whole (program_of m) (row s) × Marks table.now (CanTake m s) }
     ensures { Marks result (OwnMoves (program_of m) (row s) list.now) }

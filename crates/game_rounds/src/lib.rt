@@ -24,10 +24,7 @@ enum Side {
 fn sooner(rank: Option<u32>, round: u32) -> bool
     ensures { result ≡ before round (rank_of rank) }
 {
-    match rank {
-        Some(number) => number < round,
-        None => false,
-    }
+    rank.is_some_and(|number| number < round)
 }
 
 // Has some slot of row e a number below the round's?
@@ -61,6 +58,7 @@ fn all_sooner(
 }
 
 // Can the side get a number at slot e in this round? A side without a move passes.
+// The `match` over the two sides stays: their tests are `any` and `all` over one row, and a closure for the test would go through `solve`, `turn` and this one to be called here alone.
 fn ready(
     side: Side,
     moves: &[u8; MATRIX],

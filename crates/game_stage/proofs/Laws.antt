@@ -7,7 +7,7 @@ use Prim.Native.Nat.{ℕ, ◌+◌, ◌/◌, ◌<◌}
 use native.Mathlib.Omega.{arith}
 use borrow.Author.Tests.{eqb-true, eq-eqb}
 use lib.Dec.{eqb}
-use lib.ListN.{length, replicate}
+use lib.ListN.{length, take, drop, replicate}
 use Rattle.std.proofs.lemmas.Bool.{or_cases}
 use Rattle.limits.specs.Limits as limit
 use Rattle.semantics.specs.Models.{elem, Body, vars, supported, Supported}
@@ -28,7 +28,10 @@ use Rattle.facts_candidates.specs.declared.Choice.{Choice}
 use Rattle.facts_candidates.specs.Choices.{element_of}
 use Rattle.std.specs.Prelude.{Option, Some, unwrap_or}
 use Rattle.facts_find.specs.Bodies.{Fixed}
+use Rattle.model.specs.Literals.{body_of}
+use Rattle.model.proofs.Bodies.{own-body}
 use Rattle.facts_holds.specs.Shows.{Evaluable}
+use Rattle.facts_holds.proofs.Laws.{part-evaluable}
 use Rattle.facts.specs.Facts.{Exact}
 use Rattle.game_lists.specs.Lists.{OneVariable}
 use Rattle.game_stage.specs.Meeting.{ShowsWith, MetAt}
@@ -62,13 +65,16 @@ module _ (m : Model) (wf : WellFormed m) (one : OneVariable m) where
   here : 0 < m.stagecount
   here = omega (arith, one.0)
 
-  pub evaluable : Evaluable m.literals (record { first = g.first; count = g.count; variables = g.variables })
-  evaluable =
-      record {
-        inside = let p = (wf.stage 0 here).part.within in omega (arith, p, wf.literalcount, wf.literals);
-        body = stage_body_lem m wf 0 here;
-        safe = local-supported f b (stage-different m wf 0 here) (rw (stage-here m wf 0 here) at (wf.safely 0));
-      }
+  -- its body by itself
+  abbrev pub codes : List ℕ
+  codes = take g.count (drop g.first m.literals)
+
+  pub codes-say : body_of codes (length codes) ≡ b
+  codes-say = own-body (drop g.first m.literals) g.count (stage_body_lem m wf 0 here).within
+
+  pub evaluable : Evaluable codes 1
+  evaluable = subst (Evaluable codes) one.1 (part-evaluable (drop g.first m.literals) g.count g.variables (stage_body_lem m wf 0 here)
+      (local-supported f b (stage-different m wf 0 here) (rw (stage-here m wf 0 here) at (wf.safely 0))))
 
   -- its one variable
   only : (x : ℕ) → elem x (vars b) ≡ true → x ≡ 0

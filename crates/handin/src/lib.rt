@@ -77,7 +77,7 @@ fn behind(left: &[u8], end: usize) -> &[u8]
 
 // Past the lines that say nothing, from line 2 on.
 // The bound on the bytes stays a clause: they are a slice, and a struct with the bound would be made of them for each of the three calls.
-// The walk stays a `while`: the line that ends it is read again, and a `for` would have taken it.
+// The walk stays a `while`: the answer is what the iterator has left, and a `for` would hold the iterator, so that each line would be cut off the bytes a second time.
 fn preface_end(left: &[u8]) -> Start<'_>
     requires { length left.now ≤ limit.handin }
     ensures { PrefaceEnd left.now result }

@@ -9,22 +9,22 @@ use Rattle.std.specs.Prelude as std
 use Rattle.std.specs.Prelude.{Some, None}
 use Rattle.std.specs.Cmp.Lexicographic.{pointwise}
 use Rattle.std.specs.Option.{MatchOption}
+use Rattle.std.specs.Bool.{then_some}
 use denote.Ref.{Bor}
 use Prim.Native.Nat.{ℕ, zero, suc, ◌+◌, ◌-◌, ◌≤◌, ◌<◌}
 use native.Mathlib.Omega.{arith}
-use lib.Dec.{eqb}
+use lib.Dec.{eqb, ltb}
 use lib.ListN.{length, take, drop, get_or, length-drop}
 use lib.Seq.{length-slice, take-length}
-use borrow.Author.Tests.{le-leb, lt-ltb, le-ltb, eqb-true, eqb-false, eq-eqb, ne_eqb}
-use Rattle.grammar.specs.Bytes.{bytes, digit, Word}
+use borrow.Author.Tests.{le-leb, le-ltb, ltb-true, ltb-false, eqb-true, eqb-false, eq-eqb, ne_eqb}
+use Rattle.grammar.specs.Bytes.{bytes, digit, Word, same}
 use Rattle.grammar.specs.Shapes.{Read, ◌>>=◌, after, word, rest, whole}
 use Rattle.grammar.proofs.Tests.{clash, and_left, and_right}
 use Rattle.grammar.proofs.Reading.{onto, rest-closes, rest-ends, rest-fails, rest-item}
 use Rattle.listing_bytes.specs.Numerals.{value_after}
 use Rattle.text_scan.specs.Found.{WordEnd}
-use Rattle.text_scan.proofs.Laws.{next, nothing as no_bytes}
 use Rattle.handin_lines.specs.Lines.{digits, after_digits, is_numeral, number, below, letters, Said, nothing, states_rest, atomic_rest}
-use Rattle.handin_lines.specs.Found.{cut, DigitsEnd, NumberAt, BelowAt, BelowEnd, object, last}
+use Rattle.handin_lines.specs.Found.{cut, DigitsEnd, NumberAt, NumberEnd, BelowEnd, object, last}
 use Rattle.handin_lines.specs.declared.Number.{Number}
 
 -- DIGITS
@@ -58,12 +58,16 @@ stripped w s None h = next-missing w s h
 stripped w s (Some x) h = next-found w s h.0 ∙ ap some (sym h.1)
 
 -- THE END OF A LINE
-module _ (line : List ℕ) where
-  pub ends_there : 0 < length line → after (bytes ")") line ≡ some (drop 1 line) → eqb (length line) 1 ≡ last (after (bytes ")") line)
-  ends_there h e = rw e (⊎_elim
-      (λ (q : eqb (length line) 1 ≡ true). rw (q, no_bytes line 1 (omega (arith, eqb-true (length line) 1 q))))
-      (λ (q : eqb (length line) 1 ≡ false). rw (q, next line 1 (omega (arith, eqb-false (length line) 1 q))))
-      (cases_Bool (eqb (length line) 1)))
+end-byte : (b : ℕ) → eqb b 41 ≡ eqb 41 b
+end-byte b = ⊎_elim
+    (λ (q : eqb 41 b ≡ true). rw (q, eq-eqb b 41 (sym (eqb-true 41 b q))) refl)
+    (λ (q : eqb 41 b ≡ false). rw (q, ne_eqb b 41 (λ e. eqb-false 41 b q (sym e))) refl)
+    (cases_Bool (eqb 41 b))
+
+pub ends_there : (line : List ℕ) → same line (bytes ")") ≡ last (after (bytes ")") line)
+ends_there [] = refl
+ends_there (b ∷ []) = rw (end-byte b) (⊎_elim (λ (q : eqb 41 b ≡ true). rw q refl) (λ (q : eqb 41 b ≡ false). rw q refl) (cases_Bool (eqb 41 b)))
+ends_there (b ∷ c ∷ s) = rw (end-byte b) (⊎_elim (λ (q : eqb 41 b ≡ true). rw q refl) (λ (q : eqb 41 b ≡ false). rw q refl) (cases_Bool (eqb 41 b)))
 
 pub whole-last : {A : Type 0} (x : A) (o : Option (List ℕ)) → whole (o >>= λ t. some (x, t)) ≡ cond (last o) (some x) none
 whole-last x none = refl
@@ -138,20 +142,17 @@ module _ {line : List ℕ} {r : Number} (end : DigitsEnd line r) where
     pub number-found : (get_or line 0 0 ≡ 48 → ⊥) → NumberAt line r
     number-found z = numbered (many ∙ rw (ne_eqb (get_or line 0 0) 48 z))
 
-pub below-none : (n : ℕ) (s : List ℕ) → number s ≡ none → below n s ≡ none
+-- the number is kept if it is below n
+pub below-said : {P : Number → Bool → Type 0} (line : List ℕ) (n : ℕ) (o r : std.Option Number) → n ≤ 8388608 → NumberEnd line o → MatchOption o (r ≡ None) (λ x. (b : Bool) × P x b × (r ≡ then_some b x))
+    → ((x : Number) (b : Bool) → P x b → b ≡ ltb x.value n) → BelowEnd n (below n line) r
 unfolding below
-below-none n s z = rw z
-
-module _ {line : List ℕ} (n : ℕ) {r : Number} (end : NumberAt line r) where
-  pub below-found : n ≤ 8388608 → r.value < n → BelowAt n (below n line) r
-  unfolding below
-  below-found h k =
-      let e : end.number ≡ r.value = omega (arith, end.value) in
-      record { small = k; found = rw (end.read, e, lt-ltb r.value n k) }
-
-  pub below-large : n ≤ r.value → below n line ≡ none
-  unfolding below
-  below-large h = rw (end.read, le-ltb end.number n (omega (arith, end.value)))
+below-said line n None r h end m k = rw (m, end) refl
+below-said line n (Some x) r h end (b, p, e) k = rw (e, k x b p) (⊎_elim
+    (λ (q : ltb x.value n ≡ true).
+    let z : end.number ≡ x.value = omega (arith, end.value, ltb-true x.value n q) in
+    rw q (record { small = ltb-true x.value n q; found = rw (end.read, z, q) }))
+    (λ (q : ltb x.value n ≡ false). rw q (rw (end.read, le-ltb end.number n (omega (arith, end.value, ltb-false x.value n q)))))
+    (cases_Bool (ltb x.value n)))
 
 -- OBJECTS
 module _ (line : List ℕ) where
@@ -163,14 +164,11 @@ module _ (line : List ℕ) where
   object-missing e = rw e
 
 -- LINES THAT SAY NOTHING
-pub states-missing : (s : List ℕ) → number s ≡ none → whole (states_rest s) ≡ none
+pub states-said : {P : Number → Type 0} (line : List ℕ) (o : std.Option Number) (r : Bool) → NumberEnd line o → MatchOption o (r ≡ false) P
+    → ((n : Number) → P n → r ≡ last (after (bytes ")") n.rest.now)) → whole (states_rest line) ≡ cond r (some nothing) none
 unfolding states_rest
-states-missing s z = rw z
-
-module _ {line : List ℕ} {n : Number} (end : NumberAt line n) where
-  pub states-found : {r : Bool} → r ≡ last (after (bytes ")") n.rest.now) → whole (states_rest line) ≡ cond r (some nothing) none
-  unfolding states_rest
-  states-found e = rw (end.read, e) (whole-last nothing (after (bytes ")") n.rest.now))
+states-said line None r end m k = rw (m, end)
+states-said line (Some n) r end m k = rw (end.read, k n m) (whole-last nothing (after (bytes ")") n.rest.now))
 
 -- what stands after a space is no end
 pub space-open : (s : List ℕ) {t : List ℕ} → after (bytes " ") s ≡ some t → after (bytes ")") s ≡ none

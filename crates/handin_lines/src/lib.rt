@@ -11,7 +11,7 @@ ghost use Rattle.grammar.specs.Shapes.{after, whole};
 ghost use Rattle.handin_lines.specs.Lines.{verdict, below, nothing, states_rest, atomic_rest, step_rest, meet_rest, said_by};
 ghost use Rattle.handin_lines.specs.Found.{cut, DigitsEnd, NumberEnd, BelowEnd, object, last, met, is_silent, number_said, clear};
 
-use limits::NONE;
+use limits::{NONE, OBJECTS};
 use model::{Place, number_of};
 use text_scan::{at_byte, same_words, word_end};
 
@@ -26,6 +26,7 @@ struct Number<'a> {
 const LARGE: u32 = 8_388_608;
 
 // What is left of the line behind these bytes, if they are next.
+// It stays a function beside `strip_prefix`: its one proof joins the library's law with the grammar's `after` for all that ask for a first word.
 fn behind<'a>(line: &'a [u8], bytes: &[u8]) -> Option<&'a [u8]>
     ensures { MatchOption result (after bytes.now line.now ≡ none) (λ rest. after bytes.now line.now ≡ some rest.now) }
 {
@@ -36,7 +37,7 @@ fn behind<'a>(line: &'a [u8], bytes: &[u8]) -> Option<&'a [u8]>
 fn ends(line: &[u8]) -> bool
     ensures { result ≡ last (after (bytes ")") line.now) }
 {
-    at_byte(line, 0, b')') && line.len() == 1
+    same_words(line, b")")
 }
 
 // Whether words are next, up to the end of the line.
@@ -102,8 +103,7 @@ fn read_below(line: &[u8], n: u32) -> Option<Number<'_>>
     requires { n ≤ 8388608 }
     ensures { BelowEnd n (below n line.now) result }
 {
-    let r = read_number(line)?;
-    if r.value < n { Some(r) } else { None }
+    read_number(line).filter(|r| r.value < n)
 }
 
 // The object that is next in a bracket.
@@ -111,24 +111,21 @@ fn read_object(line: &[u8]) -> Option<Number<'_>>
     ensures { BelowEnd limit.objects (object line.now) result }
 {
     let rest = behind(line, b" ")?;
-    read_below(rest, NONE)
+    read_below(rest, OBJECTS as u32)
 }
 
 // What is left of a `states` line after its first word.
 fn is_number(line: &[u8]) -> bool
     ensures { whole (states_rest line.now) ≡ (if result then some nothing else none) }
 {
-    match read_number(line) {
-        Some(n) => ends(n.rest),
-        None => false,
-    }
+    read_number(line).is_some_and(|n| ends(n.rest))
 }
 
 // The number of the place, if the line ends with the bracket that is next.
 fn end_place(line: &[u8], p: Place) -> Option<u32>
     ensures { result ≡ met line.now (numeral p) }
 {
-    if ends(line) { Some(number_of(p)) } else { None }
+    ends(line).then_some(number_of(p))
 }
 
 // The number of the place that is left of a `step` line after its first word.

@@ -8,7 +8,7 @@ ghost use Rattle.lines.specs.Lines.{nothing, recorded, line_at};
 use model::{Action, Clause};
 
 // The line of a clause and what stands on it: line × 4, and 1 for a rule, 2 for a `new` line, 3 for a `next` line.
-// The kinds stay numbers: they are a part of the word that C is told.
+// The kinds stay numbers in the word that C is told: each stands once, beside the action whose kind it is, and an enum of them would list the actions a second time.
 fn describe(c: Clause) -> u64
     ensures { result ≡ recorded c }
 {
@@ -25,10 +25,7 @@ fn describe(c: Clause) -> u64
 fn describe_at(row: &[Clause], i: usize) -> u64
     ensures { result ≡ (if nat_lt i (length row.now) then recorded (slice_index_or row.now i nothing) else 0) }
 {
-    match row.get(i) {
-        Some(c) => describe(*c),
-        None => 0,
-    }
+    row.get(i).map_or(0, |c| describe(*c))
 }
 
 // Clause i of an accepted text, from 0: its line and what stands on it; 0 where there is none.
@@ -36,8 +33,5 @@ fn describe_at(row: &[Clause], i: usize) -> u64
 pub fn line(text: &[u8], i: usize) -> u64
     ensures { result ≡ line_at (outcome text.now) i }
 {
-    match text::read(text) {
-        Ok(m) => describe_at(&m.clauses[..m.clausecount], i),
-        Err(_) => 0,
-    }
+    text::read(text).map_or(0, |m| describe_at(&m.clauses[..m.clausecount], i))
 }

@@ -26,7 +26,7 @@ fn put_summary(out: &mut [u8], reached: bool, n: u32) -> usize
 }
 
 // Writes the line of an atomic state from place `at` on.
-// The text and the model stay beside the slice: both are read only to find a name, and the slice is borrowed anew for each line.
+// The text and the model stay two parameters: a struct of both would be made in `put_listing` for this one line and taken apart again where a name is found, with the same two facts as its invariant.
 fn put_state(out: &mut [u8], at: usize, text: &[u8], m: &Model, set: u32) -> usize
     requires { GoodRelations m.now × Named text.now m.now × (at + longest ≤ length out.old) }
     ensures { Writes out.old at (atomic_line text.now m.now set) result out.new × (result ≤ at + longest) }

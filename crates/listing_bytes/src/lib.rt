@@ -16,6 +16,7 @@ pub fn put_byte(out: &mut [u8], at: usize, b: u8) -> usize
 }
 
 // Writes the bytes from place `at` on.
+// It stays beside `write_str`, which takes a `&str` and may answer an error: here bytes are written, of which the contract asks nothing but that the slice that C lends has room for them.
 pub fn put_bytes(out: &mut [u8], at: usize, bytes: &[u8]) -> usize
     requires { at + length bytes.now ≤ length out.old }
     ensures { Writes out.old at bytes.now result out.new }
@@ -26,6 +27,7 @@ pub fn put_bytes(out: &mut [u8], at: usize, bytes: &[u8]) -> usize
 }
 
 // Writes the numeral of n, its last digit last.
+// It stays beside `Display`, whose law says what is written only where the writer answers no error: the slice that C lends has the room that the contract asks for, so that no call here fails, and through a writer each would have a failure to hand on.
 pub fn put_numeral(out: &mut [u8], at: usize, n: u32) -> usize
     requires { at + length (decimal n) ≤ length out.old }
     ensures { Writes out.old at (decimal n) result out.new }
@@ -38,6 +40,7 @@ pub fn put_numeral(out: &mut [u8], at: usize, n: u32) -> usize
 }
 
 // Writes a number as an item: a space and its numeral.
+// It stays beside `Display`, as `put_numeral` does.
 pub fn put_number(out: &mut [u8], at: usize, n: u32) -> usize
     requires { at + 11 ≤ length out.old }
     ensures { Writes out.old at (32 ∷ decimal n) result out.new }
@@ -47,6 +50,7 @@ pub fn put_number(out: &mut [u8], at: usize, n: u32) -> usize
 }
 
 // Writes a name as an item: a space and the name.
+// It stays beside `Display`, as `put_bytes` does.
 pub fn put_name(out: &mut [u8], at: usize, name: &[u8]) -> usize
     requires { at + 1 + length name.now ≤ length out.old }
     ensures { Writes out.old at (32 ∷ name.now) result out.new }
@@ -64,6 +68,7 @@ pub fn put_end(out: &mut [u8], at: usize) -> usize
 }
 
 // Writes two numbers as items and the end of the line.
+// It stays beside `Display`, as `put_numeral` does.
 pub fn put_pair(out: &mut [u8], at: usize, a: u32, b: u32) -> usize
     requires { at + 24 ≤ length out.old }
     ensures { Writes out.old at (items (decimal a ∷ decimal b ∷ []) ++ quoted ")\n") result out.new }

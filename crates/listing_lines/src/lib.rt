@@ -20,6 +20,8 @@ use model::{Model, Place, place_of};
 pub const LONGEST: usize = 9 + STATES * (1 + NAME);
 
 // Writes the names of the set's relations as items, in order of declaration.
+// It stays beside `Display`, as `listing_bytes::put_bytes` does.
+// The loop stays over numbers: the contract counts the relations by them, and over `zip` of the codes and the names the invariant would also say what is left of both, and which of them ends first.
 fn put_names(out: &mut [u8], at: usize, text: &[u8], m: &Model, set: u32) -> usize
     requires { GoodRelations m.now × Named text.now m.now × (at + limit.states * (1 + limit.name) ≤ length out.old) }
     ensures { Writes out.old at (items (names_in text.now m.now set m.now.relations.count)) result out.new × (result ≤ at + limit.states * (1 + limit.name)) }
@@ -38,6 +40,7 @@ fn put_names(out: &mut [u8], at: usize, text: &[u8], m: &Model, set: u32) -> usi
 
 // Writes the objects of a meeting as items, up to the first 255.
 // 255 stays for no object: a place has it from its number in the run table that C lends.
+// The three tests stay in place of a loop: a place has its objects as three fields, of which an array would be made here for one walk that ends at the first 255.
 fn put_objects(out: &mut [u8], at: usize, first: u32, second: u32, third: u32) -> usize
     requires { at + 33 ≤ length out.old }
     ensures { Writes out.old at (items (map decimal (objects (first ∷ second ∷ third ∷ [])))) result out.new }
@@ -57,7 +60,7 @@ fn put_objects(out: &mut [u8], at: usize, first: u32, second: u32, third: u32) -
 }
 
 // Writes the line of the verdict.
-// That the slice is long enough stays a clause: each line is written into a slice that another call lends.
+// That the slice is long enough stays a clause: an array type would ask more of callers than so many bytes at least, and `listing` lends all that is left of its own slice.
 pub fn verdict_line(out: &mut [u8], reached: bool) -> usize
     requires { longest ≤ length out.old }
     ensures { WritesLine out.old (verdict_line reached) result out.new }
@@ -70,6 +73,7 @@ pub fn verdict_line(out: &mut [u8], reached: bool) -> usize
 }
 
 // Writes the line of the number of reachable atomic states.
+// It stays beside `Display`, as `listing_bytes::put_numeral` does.
 pub fn states_line(out: &mut [u8], n: u32) -> usize
     requires { longest ≤ length out.old }
     ensures { WritesLine out.old (states_line n) result out.new }
@@ -80,6 +84,7 @@ pub fn states_line(out: &mut [u8], n: u32) -> usize
 }
 
 // Writes the line of an atomic state.
+// It stays beside `Display`, as `listing_bytes::put_bytes` does.
 pub fn atomic_line(out: &mut [u8], text: &[u8], m: &Model, set: u32) -> usize
     requires { GoodRelations m.now × Named text.now m.now × (longest ≤ length out.old) }
     ensures { WritesLine out.old (atomic_line text.now m.now set) result out.new }
@@ -90,6 +95,8 @@ pub fn atomic_line(out: &mut [u8], text: &[u8], m: &Model, set: u32) -> usize
 }
 
 // Writes the line of a step.
+// It stays beside `refused_line`: one function for both would take the word and ask for its room in a clause, and each would still be a call of it under its own contract.
+// It stays beside `Display`, as `listing_bytes::put_numeral` does.
 fn step_line(out: &mut [u8], line: u32, object: u32) -> usize
     requires { longest ≤ length out.old }
     ensures { WritesLine out.old (place_line (step line object)) result out.new }
@@ -99,6 +106,7 @@ fn step_line(out: &mut [u8], line: u32, object: u32) -> usize
 }
 
 // Writes the line of a meeting; from the first 255 on there is no object.
+// It stays beside `Display`, as `listing_bytes::put_numeral` does.
 // 255 stays for no object: a place has it from its number in the run table that C lends.
 fn meet_line(out: &mut [u8], stage: u32, first: u32, second: u32, third: u32) -> usize
     requires { longest ≤ length out.old }
@@ -111,6 +119,7 @@ fn meet_line(out: &mut [u8], stage: u32, first: u32, second: u32, third: u32) ->
 }
 
 // Writes the line of the place that n stands for, and nothing where it stands for none.
+// It stays beside a `Display` of a place, as `listing_bytes::put_numeral` does.
 pub fn place_line(out: &mut [u8], n: u32) -> usize
     requires { longest ≤ length out.old }
     ensures { WritesLine out.old (line_for (place_of n)) result out.new }
@@ -128,6 +137,7 @@ pub fn place_line(out: &mut [u8], n: u32) -> usize
 }
 
 // Writes the line of a refusal.
+// It stays beside a `Display` of a refusal, as `listing_bytes::put_numeral` does.
 // The number stays in place of the row: it is printed, and the analyzer's answer has no row.
 pub fn refused_line(out: &mut [u8], number: u32, line: u32) -> usize
     requires { longest ≤ length out.old }

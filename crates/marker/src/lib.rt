@@ -24,7 +24,7 @@ fn short(bytes: usize, places: usize, standing: usize) -> bool
 }
 
 // The mark of a yes: its run is written into the table, and replayed.
-// The hand-in and the three buffers stay apart, since C lends them so.
+// The hand-in and the three buffers stay apart, since C lends them so; what the run says stays beside the hand-in of which it is read.
 fn mark_yes(
     m: Model,
     handin: &[u8],

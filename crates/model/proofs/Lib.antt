@@ -7,3 +7,4 @@ pub mod Accepted
 pub mod Carried
 pub mod Office
 pub mod Places
+pub mod Bodies

@@ -1,4 +1,5 @@
 pub mod Literals
 pub mod Records
+pub mod Lookups
 pub mod WellFormed
 pub mod Places

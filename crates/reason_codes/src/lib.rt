@@ -10,6 +10,7 @@ use rows::Refusal;
 use words::Kind;
 
 // The number of a reason, and the place of the literal that is to blame.
+// The numbers stay written out: a reason that carries a literal's place cannot be cast, and they stand nowhere else.
 fn reasoned(reason: Reason) -> u64
     ensures { (result ≡ reason_code reason) × (result < 4096) }
 {

@@ -32,7 +32,7 @@ use Rattle.replay_session.proofs.Carrying.{stands-cell, cell-stands}
 use Rattle.replay_session.proofs.Effects.{size}
 use Rattle.replay_view.specs.declared.View.{View}
 use Rattle.replay_steps.specs.Tries.{Ready, Holding}
-use Rattle.std.specs.Prelude.{Option, Some, unwrap_or}
+use Rattle.std.specs.Prelude.{Option, Some, None, unwrap_or}
 use Rattle.replay_meetings.specs.Carried.{choice_of}
 use Rattle.replay_meetings.proofs.Objects.{pick-place, objects-chosen}
 use Rattle.replay_meetings.proofs.Meetings.{carried-in}
@@ -47,12 +47,12 @@ at-elem (x ∷ xs) zero l = elem-here x xs
 at-elem (x ∷ xs) (suc i) l = or_right (eqb (get_or xs i 0) x) (elem (get_or xs i 0) xs) (at-elem xs i (omega arith))
 
 -- the carried variables of a model in their cells
-module _ (m : Model) (w : WellFormed m) (g : Stage) (carried : List ℕ) (c : Choice) where
-  pub swapped-cell : AnySwapped m.carried g carried c → (u : ℕ) × (u < limit.carried) × Swapped g (carried_at m u) (get_or carried u 0) c
-  swapped-cell (u, l, h) = (u, l, subst (λ (k : ℕ). Swapped g k (get_or carried u 0) c) (carried-in m w u l) h)
+module _ (m : Model) (w : WellFormed m) (g : Stage) (carried : List (Option ℕ)) (c : Choice) where
+  pub swapped-cell : AnySwapped m.carried g carried c → (u : ℕ) × (u < limit.carried) × Swapped g (carried_at m u) (get_or carried u None) c
+  swapped-cell (u, l, h) = (u, l, subst (λ (k : ℕ). Swapped g k (get_or carried u None) c) (carried-in m w u l) h)
 
-  pub none-swapped : (AnySwapped m.carried g carried c → ⊥) → (u : ℕ) × (u < limit.carried) × Swapped g (carried_at m u) (get_or carried u 0) c → ⊥
-  none-swapped none (u, l, h) = none (u, l, subst (λ (k : ℕ). Swapped g k (get_or carried u 0) c) (sym (carried-in m w u l)) h)
+  pub none-swapped : (AnySwapped m.carried g carried c → ⊥) → (u : ℕ) × (u < limit.carried) × Swapped g (carried_at m u) (get_or carried u None) c → ⊥
+  none-swapped none (u, l, h) = none (u, l, subst (λ (k : ℕ). Swapped g k (get_or carried u None) c) (sym (carried-in m w u l)) h)
 
 module _ (m : Model) (s : Session) (v : View) (w : List ℕ) (ready : Ready m s v w) (left : s.met < m.stagecount) (a b c : ℕ) where
   abbrev P : Program
@@ -116,14 +116,14 @@ module _ (m : Model) (s : Session) (v : View) (w : List ℕ) (ready : Ready m s 
     Other = (u : ℕ) × (u < limit.carried) × Swapped g (carried_at m u) (carried_in s u) (choice_of a b c)
 
     pub swapped : Other → Explains m s (meet i os) Carried
-    swapped (u, h, (held, (x, l, e, n))) _ = (
+    swapped (u, h, (d, held, (x, l, e, n))) _ = (
       stage-left,
       (
         meets,
         subst (λ (body : Body). (y d : ℕ) × ((session_of m s).carried y ≡ some d) × (elem y (vars body) ≡ true) × (named body os y ≢ d)) (sym here) (
           carried_at m u,
-          carried_in s u,
-          cell-stands m ready.accepted s ready.cells u s.met h (subst (λ (body : Body). elem (carried_at m u) (vars body) ≡ true) (sym here) stands) held,
+          d,
+          cell-stands m ready.accepted s ready.cells u s.met d h (subst (λ (body : Body). elem (carried_at m u) (vars body) ≡ true) (sym here) stands) held,
           stands,
           λ q. n (some-there (element_of (choice_of a b c) x) (objects-chosen a b c x (omega arith)).1 ∙ ap (λ (y : ℕ). Some y) (sym (object x l) ∙ ap (named stage os) e ∙ q)),
         ),
@@ -147,10 +147,9 @@ module _ (m : Model) (s : Session) (v : View) (w : List ℕ) (ready : Ready m s 
         let y = elem-of-map (number_in g) x (vars local) (subst (λ (l : List ℕ). elem x l ≡ true) (vars-renamed (number_in g) local) h) in
         let l = (stage-vars m ready.accepted s.met left y.0).0 y.1 in
         ap (named stage os) y.2 ∙ object y.0 l ∙ ⊎_elim
-        (λ (z : chosen (choice_of a b c) y.0 ≡ carried_in s r.0). z)
-        (λ (z : chosen (choice_of a b c) y.0 ≢ carried_in s r.0). absurd (none (r.0, r.1, ((λ q. r.4 (sym r.3 ∙ q)), (y.0, l, sym y.2 ∙ sym r.2, λ w. z (ap (λ (o : Option ℕ). unwrap_or o 255) w))))))
-        (same? (chosen (choice_of a b c) y.0) (carried_in s r.0))
-        ∙ r.3
+        (λ (z : chosen (choice_of a b c) y.0 ≡ d). z)
+        (λ (z : chosen (choice_of a b c) y.0 ≢ d). absurd (none (r.0, r.1, (d, r.3, (y.0, l, sym y.2 ∙ sym r.2, λ w. z (ap (λ (o : Option ℕ). unwrap_or o 255) w))))))
+        (same? (chosen (choice_of a b c) y.0) d)
 
     allowed : (Other → ⊥) → (σ : ℕ → ℕ) → Held σ → Allowed P (question_of m) (session_of m s) (meet i os)
     allowed none σ h =

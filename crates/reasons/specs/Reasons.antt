@@ -1,5 +1,5 @@
 -- WHY A PLACE IS NOT ALLOWED.
-use Rattle.std.specs.Prelude.{Option, Some, ◌≡◌, ◌≢◌, true, List, ℕ, suc, ◌≤◌, ◌<◌, length, slice_index}
+use Rattle.std.specs.Prelude.{Option, Some, None, ◌≡◌, ◌≢◌, true, List, ℕ, suc, ◌≤◌, ◌<◌, length, slice_index, slice_index_or}
 use Rattle.std.proofs.Math.Option.{some}
 use Rattle.limits.specs.Limits as limit
 use Rattle.semantics.specs.Models.{elem, Line, rule, new, next, other, Program, line, Question, vars, names}
@@ -96,12 +96,12 @@ abbrev pub Explains : Model → state.Session → Place → Reason → Type 0
 Explains m s p r = (Allowed (program_of m) (question_of m) (session_of m s) p → ⊥) → Because (program_of m) (question_of m) (session_of m s) p r
 
 -- an object is carried, and the choice has another for the stage's variable of that number
-abbrev pub Swapped : Stage → ℕ → ℕ → Choice → Type 0
-Swapped g number carried c = (carried ≢ limit.none) × ((x : ℕ) × (x < g.variables) × (number_in g x ≡ number) × (element_of c x ≢ Some carried))
+abbrev pub Swapped : Stage → ℕ → Option ℕ → Choice → Type 0
+Swapped g number carried c = (d : ℕ) × (carried ≡ Some d) × ((x : ℕ) × (x < g.variables) × (number_in g x ≡ number) × (element_of c x ≢ Some d))
 
 -- the choice has another object than the carried one for some carried variable, whose numbers are ns
-abbrev pub AnySwapped : List ℕ → Stage → List ℕ → Choice → Type 0
-AnySwapped ns g carried c = (v : ℕ) × (v < limit.carried) × Swapped g (slice_index ns v) (slice_index carried v) c
+abbrev pub AnySwapped : List ℕ → Stage → List (Option ℕ) → Choice → Type 0
+AnySwapped ns g carried c = (v : ℕ) × (v < limit.carried) × Swapped g (slice_index ns v) (slice_index_or carried v None) c
 
 -- there is no object, or it lies beyond the objects of a database
 abbrev pub Absent : Option ℕ → ℕ → Type 0

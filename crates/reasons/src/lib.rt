@@ -39,7 +39,7 @@ fn why_step(m: &Model, slots: &[u8], work: &[u8], at: Position, line: u32, objec
     ensures { (v : View) (states : List ℕ) → Open m.now v (session_in states at) slots.now work.now (step line object) → Explains m.now (session_in states at) (step line object) result }
 {
     let n = at.objects;
-    let Some(c) = replay_steps::clause_on(m, line) else {
+    let Some(c) = m.clause_on(line) else {
         return Reason::NoLine;
     };
     let Some(fixed) = replay_steps::fixed(c.action, n, object) else {
@@ -49,16 +49,7 @@ fn why_step(m: &Model, slots: &[u8], work: &[u8], at: Position, line: u32, objec
             Action::Next { .. } => Reason::NoObject,
         };
     };
-    let index = reasons_bodies::blame(
-        &m.literals,
-        slots,
-        work,
-        n,
-        c.first,
-        c.count,
-        c.variables,
-        fixed,
-    );
+    let index = reasons_bodies::blame(c.body(&m.literals), &slots[..n], work, c.variables, fixed);
     Reason::Literal { index }
 }
 
@@ -66,10 +57,7 @@ fn why_step(m: &Model, slots: &[u8], work: &[u8], at: Position, line: u32, objec
 fn absent(object: Option<usize>, objects: usize) -> bool
     ensures { Says (Absent object objects) result }
 {
-    match object {
-        Some(e) => e >= objects,
-        None => true,
-    }
+    object.is_none_or(|e| e >= objects)
 }
 
 // Is one of the n objects of a choice not there, in a database of so many?
@@ -80,21 +68,24 @@ fn beyond(c: Choice, n: usize, objects: usize) -> bool
 }
 
 // Does a choice have another object than the carried one for the stage's variable of a number?
-// NONE stays for none: the carried object is a word of the state that C lends.
-fn swapped(g: Stage, number: u32, carried: u32, c: Choice) -> bool
+fn swapped(g: Stage, number: u32, carried: Option<usize>, c: Choice) -> bool
     requires { g.variables ≤ limit.variables }
     ensures { Says (Swapped g number carried c) result }
 {
-    if carried == NONE {
+    let Some(held) = carried else {
         return false;
-    }
+    };
     let n = g.variables as usize;
-    (0..n).any(|x| g.numbers[x] == number
-        && facts_candidates::element(c, x) != Some(carried as usize))
+    (0..n).any(|x| g.numbers[x] == number && facts_candidates::element(c, x) != Some(held))
 }
 
 // Does a choice have another object than the carried one for some of the carried variables of these numbers?
-fn any_swapped(numbers: [u32; CARRIED], g: Stage, carried: [u32; CARRIED], c: Choice) -> bool
+fn any_swapped(
+    numbers: [u32; CARRIED],
+    g: Stage,
+    carried: [Option<usize>; CARRIED],
+    c: Choice,
+) -> bool
     requires { g.variables ≤ limit.variables }
     ensures { Says (AnySwapped numbers g carried c) result }
 {
@@ -136,16 +127,7 @@ fn why_meeting(
     if any_swapped(m.carried, g, carried, fixed) {
         return Reason::Carried;
     }
-    let index = reasons_bodies::blame(
-        &m.literals,
-        slots,
-        work,
-        n,
-        g.first,
-        g.count,
-        g.variables,
-        fixed,
-    );
+    let index = reasons_bodies::blame(g.body(&m.literals), &slots[..n], work, g.variables, fixed);
     Reason::Literal { index }
 }
 

@@ -5,8 +5,8 @@ ghost use Rattle.std.specs.Prelude.{MatchResult, Ok, Err};
 ghost use Rattle.replay.specs.Replies.{run_outcome, Replayed, place_outcome, Put};
 
 use limits::{RUN, WORK};
-use replay_runs::Reply;
-use replay_session::{Answer, Session};
+use replay_runs::Ended;
+use replay_session::{Answer, PlaceAnswer, Session};
 use rows::Refusal;
 
 // Replays a run over a text, and notes in the table who stood by at each kept step.
@@ -24,7 +24,12 @@ pub fn replay(
 }
 
 // Puts one place to a state over a text; a refusal leaves the state.
-pub fn place(text: &[u8], s: Session, n: u32, work: &mut [u8]) -> Result<Reply, Refusal>
+pub fn place(
+    text: &[u8],
+    s: Session,
+    n: u32,
+    work: &mut [u8],
+) -> Result<Ended<PlaceAnswer>, Refusal>
     ensures { MatchResult result (λ r. Put (place_outcome text.now s work.old) s n work.old (Ok r.answer) r.session work.new) (λ x. Put (place_outcome text.now s work.old) s n work.old (Err x) s work.new) }
 {
     let m = text::accept(text, work.len() < WORK, s.kept == RUN)?;

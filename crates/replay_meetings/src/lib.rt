@@ -6,11 +6,10 @@ ghost use Rattle.limits.specs.Limits as limit;
 ghost use Rattle.semantics.specs.Runs.{meet};
 ghost use Rattle.model.specs.Places.{objects};
 ghost use Rattle.model.specs.WellFormed.{WellFormed};
-ghost use Rattle.facts_candidates.specs.Choices.{chosen};
 ghost use Rattle.replay_session.specs.Sessions.{Says, session_in};
 ghost use Rattle.replay_view.specs.declared.View.{View};
 ghost use Rattle.replay_steps.specs.Tries.{Rests, Open, Gives, TriedBy};
-ghost use Rattle.replay_meetings.specs.Carried.{object_of, choice_of, Named, Agrees, carried_on, AllNamed, AllAgree, AllCarried};
+ghost use Rattle.replay_meetings.specs.Carried.{object_of, choice_of, Named, Agrees, AllNamed, AllAgree, AllCarried};
 
 use facts_bits::BYTES;
 use facts_candidates::Choice;
@@ -20,7 +19,7 @@ use replay_session::Position;
 use replay_steps::Outcome;
 
 // How many objects a meeting names.
-// The three numbers stay apart, here and below: they are parts of a place's number, which the place's case has taken apart.
+// The three numbers stay apart, here and below: the comment at `model::Place` says why.
 pub fn count(first: u32, second: u32, third: u32) -> u32
     ensures { result ≡ length (objects (first ∷ second ∷ third ∷ [])) }
 {
@@ -33,15 +32,11 @@ pub fn count(first: u32, second: u32, third: u32) -> u32
 }
 
 // The object of a number, which is NONE for none.
-// NONE stays for none in numbers: they are words of the run table that C lends.
-fn as_object(number: u32) -> Option<usize>
+// NONE stays for none in numbers: they are words of the run table and cells of the state that C lends.
+pub fn as_object(number: u32) -> Option<usize>
     ensures { result ≡ object_of number }
 {
-    if number == NONE {
-        None
-    } else {
-        Some(number as usize)
-    }
+    (number != NONE).then_some(number as usize)
 }
 
 // The choice of a meeting's objects.
@@ -55,38 +50,25 @@ pub fn choice(first: u32, second: u32, third: u32) -> Choice
     }
 }
 
-// The object that a choice has for the stage's variable of a number, or NONE.
-// NONE stays for none: the carried objects are words of the state that C lends, with which the answer is compared.
-fn named(g: Stage, number: u32, c: Choice) -> u32
-    requires { (g.variables ≤ limit.variables) × ((x : ℕ) → chosen c x < 256) }
+// The object that a choice has for the stage's variable of a number, if the stage has that variable.
+fn named(g: Stage, number: u32, c: Choice) -> Option<usize>
+    requires { g.variables ≤ limit.variables }
     ensures { Named g number c result }
 {
-    let n = g.variables as usize;
-    let Some(x) = g.numbers[..n].iter().position(|own| *own == number) else {
-        return NONE;
-    };
-    facts_candidates::object(n, x, c)
+    let x = g.seat(number)?;
+    facts_candidates::element(c, x)
 }
 
 // Whether an object may be met where another, or none, is carried.
-// NONE stays for none: both are compared as words of the state that C lends.
-fn agrees(carried: u32, object: u32) -> bool
+fn agrees(carried: Option<usize>, object: Option<usize>) -> bool
     ensures { Says (Agrees carried object) result }
 {
-    carried == NONE || object == NONE || object == carried
+    carried.is_none() || object.is_none() || object == carried
 }
 
-// The carried object after the meeting.
-// NONE stays for none: the answer is a word of the state that C lends.
-fn carry(carried: u32, object: u32) -> u32
-    ensures { result ≡ carried_on carried object }
-{
-    if object == NONE { carried } else { object }
-}
-
-// The objects that a choice has for the carried variables of these numbers, NONE for one that the stage does not have.
-fn all_named(numbers: [u32; CARRIED], g: Stage, c: Choice) -> [u32; CARRIED]
-    requires { (g.variables ≤ limit.variables) × ((x : ℕ) → chosen c x < 256) }
+// The objects that a choice has for the carried variables of these numbers, none for one that the stage does not have.
+fn all_named(numbers: [u32; CARRIED], g: Stage, c: Choice) -> [Option<usize>; CARRIED]
+    requires { g.variables ≤ limit.variables }
     ensures { AllNamed numbers g c result }
 {
     let first = named(g, numbers[0], c);
@@ -95,7 +77,7 @@ fn all_named(numbers: [u32; CARRIED], g: Stage, c: Choice) -> [u32; CARRIED]
 }
 
 // Whether the objects may be met where these, or none, are carried.
-fn all_agree(carried: [u32; CARRIED], objects: [u32; CARRIED]) -> bool
+fn all_agree(carried: [Option<usize>; CARRIED], objects: [Option<usize>; CARRIED]) -> bool
     ensures { Says (AllAgree carried objects) result }
 {
     carried
@@ -105,10 +87,13 @@ fn all_agree(carried: [u32; CARRIED], objects: [u32; CARRIED]) -> bool
 }
 
 // The carried objects after the meeting.
-fn carry_all(carried: [u32; CARRIED], objects: [u32; CARRIED]) -> [u32; CARRIED]
+fn carry_all(
+    carried: [Option<usize>; CARRIED],
+    objects: [Option<usize>; CARRIED],
+) -> [Option<usize>; CARRIED]
     ensures { AllCarried carried objects result }
 {
-    [carry(carried[0], objects[0]), carry(carried[1], objects[1])]
+    [objects[0].or(carried[0]), objects[1].or(carried[1])]
 }
 
 // The derived relations that a meeting of a stage rests on, as a row of bits.
@@ -120,7 +105,7 @@ pub fn needs(m: &Model, stage: u32) -> [u8; BYTES]
         return [0u8; BYTES];
     }
     let g = m.stages[stage as usize - 1];
-    facts_rests::add([0u8; BYTES], &m.literals, g.first, g.count)
+    facts_rests::add([0u8; BYTES], g.body(&m.literals))
 }
 
 // The meeting of a stage with objects, the named ones first.
@@ -134,7 +119,7 @@ pub fn meet_place(
     second: u32,
     third: u32,
 ) -> Option<Outcome>
-    requires { ((v : View) × (states : List ℕ) × Open m.now v (session_in states at) slots.now work.now (meet stage (objects (first ∷ second ∷ third ∷ [])))) × (first < 256) × (second < 256) × (third < 256) }
+    requires { (v : View) × (states : List ℕ) × Open m.now v (session_in states at) slots.now work.now (meet stage (objects (first ∷ second ∷ third ∷ []))) }
     ensures tried_by { (v : View) (states : List ℕ) → Open m.now v (session_in states at) slots.now work.now (meet stage (objects (first ∷ second ∷ third ∷ []))) → TriedBy m.now states at (meet stage (objects (first ∷ second ∷ third ∷ []))) result }
     ensures gives { IfSome result (Gives at) }
 {
@@ -153,16 +138,7 @@ pub fn meet_place(
         return None;
     }
     let n = at.objects;
-    replay_steps::decide(
-        &m.literals,
-        slots,
-        work,
-        n,
-        g.first,
-        g.count,
-        g.variables,
-        fixed,
-    )?;
+    replay_steps::decide(g.body(&m.literals), &slots[..n], work, g.variables, fixed)?;
     Some(Outcome {
         given: None,
         at: Position {

@@ -5,6 +5,7 @@ use mathlib.Core.Bool.{true}
 use mathlib.Core.List.{List, [], ◌∷◌}
 use mathlib.Core.Option.{some}
 use Prim.Native.Nat.{ℕ, zero, suc, ◌+◌, ◌≤◌, ◌<◌}
+use Rattle.std.specs.Prelude.{Option, None}
 use native.Mathlib.Omega.{arith}
 use native.Mathlib.Numerals.{add-one}
 use native.Mathlib.Nat.{not-suc-le-zero}
@@ -23,9 +24,10 @@ use Rattle.model.specs.WellFormed.{WellFormed}
 use Rattle.model.proofs.Places.{number-of-place}
 use Rattle.model.proofs.Accepted.{stages}
 use Rattle.facts_table.specs.Table.{Consistent}
+use Rattle.std.specs.Prelude.{Option, Some}
 use Rattle.facts_derived.specs.declared.Stock.{Stock}
-use Rattle.facts_derived.specs.Stocks.{ExactFor, Stocked, Enough, Supplied}
-use Rattle.facts_derived.proofs.Users.{there, supplied}
+use Rattle.facts_derived.specs.Stocks.{ExactFor, StockedIfAny, Enough, Supplied}
+use Rattle.facts_derived.proofs.Users.{any, there, supplied}
 use Rattle.replay_session.specs.declared.Answer.{Answer}
 use Rattle.replay_session.specs.declared.Answer.TheVariants.{Kept, Broken}
 use Rattle.replay_session.specs.declared.Session.{Session}
@@ -51,7 +53,7 @@ fresh-fits m =
       objects = omega arith;
       relations = λ o a l. absurd (not-suc-le-zero l);
       stages = omega arith;
-      carried = λ v l. inl (get_or-replicate limit.carried v limit.none 0 l);
+      carried = λ v l. rw (get_or-replicate {A = Option ℕ} limit.carried v None None l) tt;
       places = omega arith;
     }
 
@@ -105,7 +107,7 @@ pub record Running (m : Model) (run : List ℕ) (i : ℕ) (s : Session) : Type 0
   pub leads : Leads (program_of m) (question_of m) (start []) run i (session_of m s)
 
 pub running-start : (m : Model) (run : List ℕ) → Running m run 0 fresh
-running-start m run = record { kept = refl; fits = fresh-fits m; long = fresh-long; cells = length-replicate {A = ℕ} limit.carried limit.none; rest = λ a h. rw (← fresh-session m) h; leads = fresh-session m }
+running-start m run = record { kept = refl; fits = fresh-fits m; long = fresh-long; cells = length-replicate {A = Option ℕ} limit.carried None; rest = λ a h. rw (← fresh-session m) h; leads = fresh-session m }
 
 module _ (m : Model) (w : WellFormed m) (run : List ℕ) (i : ℕ) (s : Session) (r : Running m run i s) where
   module _ (l : i < length run) (few : length run ≤ limit.run) where
@@ -147,11 +149,11 @@ module _ (m : Model) (w : WellFormed m) (run : List ℕ) (i : ℕ) (s : Session)
 pub running-ends : (m : Model) (run : List ℕ) (i : ℕ) (s : Session) → Running m run i s → i ≤ length run → (t : Session) → t ≡ s → Stopped m run i t
 running-ends m run i s r l t e = subst (Stopped m run i) (sym e) (record { within = l; kept = r.kept; fits = r.fits; long = r.long; cells = r.cells; leads = r.leads })
 
--- WHAT THE RUN SEES of its database: a view, a work area that shows its row, and a stock of facts over it
-pub record Seen (m : Model) (plans : List ℕ) (db : Database) (v : View) (s : Stock) (units w d : List ℕ) : Type 0 where
+-- WHAT THE RUN SEES of its database: a view, a work area that shows its row, and a stock of facts over it, if any are begun
+pub record Seen (m : Model) (plans : List ℕ) (db : Database) (v : View) (s : Option Stock) (units w d : List ℕ) : Type 0 where
   pub views : Views db v
   pub shown : Arranged (row_of v) w
-  pub stocked : Stocked m v.count plans s units w d
+  pub stocked : StockedIfAny m v.count plans s units w d
 
 pub row-length : (db : Database) (v : View) → Views db v → length (row_of v) ≡ v.count
 row-length db v h = let g = h.good in length-take-le v.count v.row (let a = g.few in let b = g.row in omega arith)
@@ -160,7 +162,7 @@ row-length db v h = let g = h.good in length-take-le v.count v.row (let a = g.fe
 pub exact-known : (m : Model) (R S w : List ℕ) → Consistent w → ExactFor m R S w → Known (program_of m) R S w
 exact-known m R S w c e = record { agree = c; states = e.states; facts = e.facts }
 
-module _ (m : Model) (plans need : List ℕ) (db : Database) (v : View) (s : Stock) (units w d : List ℕ) (seen : Seen m plans db v s units w d) where
+module _ (m : Model) (plans need : List ℕ) (db : Database) (v : View) (s : Option Stock) (units w d : List ℕ) (seen : Seen m plans db v s units w d) where
   pub seen-enough : Enough s need true → Sees m need db v w
   seen-enough h =
       record {
@@ -176,8 +178,8 @@ module _ (m : Model) (plans need : List ℕ) (db : Database) (v : View) (s : Sto
           known = exact-known m need (row_of v) w' h.stock.agree (supplied m v.count plans need s' units w d units' w' d' h (row_of v) (row-length db v seen.views) seen.shown.states);
         }
 
-    pub seen-still : Seen m plans db v s' units' w' d'
-    seen-still = record { views = seen.views; shown = record { agree = h.stock.agree; states = h.stays.rows (row_of v) seen.shown.states }; stocked = h.stock }
+    pub seen-still : Seen m plans db v (Some s') units' w' d'
+    seen-still = record { views = seen.views; shown = record { agree = h.stock.agree; states = h.stays.rows (row_of v) seen.shown.states }; stocked = any m v.count plans s' units' w' d' h.stock }
 
 -- WHAT IS LENT to the next place of a run, which rests on what is needed
 pub running-lent : (m : Model) → WellFormed m → (run : List ℕ) (i : ℕ) (s : Session) → Running m run i s → i < limit.run → (slots w : List ℕ) (v : View) (need : List ℕ) (n : ℕ) → Sees m need (take s.objects s.states) v w

@@ -1,5 +1,5 @@
 -- WHAT THE REPLAY REPLIES over a text's program P and question Q.
-use Rattle.std.specs.Prelude.{◌≡◌, ◌⊎◌, ℕ, replicate}
+use Rattle.std.specs.Prelude.{◌≡◌, ◌⊎◌, None, ℕ, replicate}
 use Rattle.std.proofs.Math.Option.{some}
 use Rattle.limits.specs.Limits as limit
 use Rattle.semantics.specs.Models.{Program, Question}
@@ -15,7 +15,7 @@ use Rattle.replay_session.specs.Notes.{Stands}
 
 -- the state before the first place: no objects, no stage met, none carried, no place kept
 abbrev pub fresh : Session
-fresh = record { states = replicate limit.objects 0; objects = 0; met = 0; carried = replicate limit.carried limit.none; kept = 0 }
+fresh = record { states = replicate limit.objects 0; objects = 0; met = 0; carried = replicate limit.carried None; kept = 0 }
 
 -- ONE PLACE put to a lent state: "kept then means that one place, and a broken place is answered broken at the count of places kept and leaves it as before".
 -- The text declares so many state relations.

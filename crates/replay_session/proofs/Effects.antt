@@ -1,6 +1,6 @@
 -- What a place makes of the replay's state is what the semantics make of it, and it fits the text again.
 use mathlib.Core.Path.{◌≡◌, sym, ap, ◌∙◌, fun_ext}
-use mathlib.Core.Logic.{inl, inr, ⊎_elim, ◌≢◌}
+use mathlib.Core.Logic.{⊎_elim, ◌≢◌}
 use mathlib.Core.Bool.{true, not, ◌||◌, and-eq-true_iff}
 use mathlib.Core.List.{List, [], ◌∷◌, ◌++◌}
 use Prim.Native.Nat.{ℕ, ◌+◌, ◌<◌}
@@ -9,6 +9,7 @@ use native.Mathlib.Numerals.{add-one}
 use lib.ListN.{length, take, set, get_or}
 use lib.Seq.{length-take-le, take-suc-set, take-set-lt, get_or-take, get_or-set_same, get_or-set_other}
 use Rattle.std.proofs.lemmas.Bool.{or_cases}
+use Rattle.std.proofs.lemmas.Option.{IfSome_then}
 use Rattle.limits.specs.Limits as limit
 use Rattle.semantics.specs.Labels.{has, relabel}
 use Rattle.semantics.specs.Models.{elem, Body, Line, rule, new, next, other, line, vars, carriers}
@@ -27,7 +28,7 @@ use Rattle.model.specs.WellFormed.{declared_in, GoodAction, WellFormed}
 use Rattle.model.proofs.Lines.{every-line}
 use Rattle.model.proofs.Accepted.{stages}
 use Rattle.replay_session.specs.declared.Session.{Session}
-use Rattle.replay_session.specs.Sessions.{state_in, stepped}
+use Rattle.replay_session.specs.Sessions.{state_in, carried_in, stepped}
 use Rattle.replay_session.specs.Records.{session_of, Fits, taken}
 use Rattle.replay_session.proofs.Relations.{Among, among_below}
 use Rattle.replay_session.proofs.Carrying.{cell-after, carried-after}
@@ -92,7 +93,7 @@ module _ (m : Model) (w : WellFormed m) (s : Session) (long : length s.states �
             (λ (n : p ≢ s.objects). rw (get_or-set_other s.states s.objects p t 0 n) (f.relations p a (omega arith)))
             (same? p s.objects);
         stages = f.stages;
-        carried = λ v n. ⊎_elim (λ i. inl i) (λ l. inr (omega arith)) (f.carried v n);
+        carried = λ v n. IfSome_then (carried_in s v) (f.carried v n) (λ d l. omega arith);
         places = omega arith;
       }
   stepped-fits o (next x plus minus b) g h k e =
@@ -122,7 +123,7 @@ module _ (m : Model) (w : WellFormed m) (s : Session) (long : length s.states �
     named-below x e = let l = allowed.3.0 x e in let z = size in omega arith
 
     met-after : length s.carried ≡ limit.carried → session_of m (taken m s (meet i os)) ≡ after (program_of m) (question_of m) (session_of m s) (meet i os)
-    met-after cells = λ j. record { db = db; met = add-one s.met j; carried = fun_ext (carried-after m w s cells s.met os (λ y e q. let l = named-below y e in let k = f.objects in absurd (omega arith))) j }
+    met-after cells = λ j. record { db = db; met = add-one s.met j; carried = fun_ext (carried-after m w s cells s.met os) j }
 
     met-fits : s.kept < limit.run → Fits m (taken m s (meet i os))
     met-fits k =
@@ -134,7 +135,7 @@ module _ (m : Model) (w : WellFormed m) (s : Session) (long : length s.states �
           stages = omega arith;
           carried = λ v n. ⊎_elim
               (λ e. rw e (f.carried v n))
-              (λ r. inr (rw r.2 (named-below r.0 r.1)))
+              (λ r. rw r.2 (named-below r.0 r.1))
               (cell-after (carriers (question_of m)) stage os s.carried v);
           places = omega arith;
         }

@@ -1,6 +1,6 @@
 -- The tests of a lent state together say whether it fits.
 use mathlib.Core.Path.{◌≡◌}
-use mathlib.Core.Logic.{◌⊎◌}
+use Rattle.std.specs.Prelude.{IfSome}
 use mathlib.Core.Bool.{Bool, true, false}
 use native.Mathlib.Omega.{arith}
 use Prim.Native.Nat.{ℕ, ◌≤◌, ◌<◌}
@@ -15,7 +15,7 @@ use Rattle.replay_session.specs.declared.Session.{Session}
 use Rattle.replay_session.specs.Sessions.{Says, carried_in}
 use Rattle.replay_session.specs.Records.{Fits}
 
-pub fits-says : (m : Model) (s : Session) (b : Bool) → length s.states ≡ 255 → s.objects ≤ 255 → s.met ≤ length (question_of m) → s.kept ≤ limit.run → ((v : ℕ) → v < limit.carried → (carried_in s v ≡ limit.none) ⊎ (carried_in s v < s.objects))
+pub fits-says : (m : Model) (s : Session) (b : Bool) → length s.states ≡ 255 → s.objects ≤ 255 → s.met ≤ length (question_of m) → s.kept ≤ limit.run → ((v : ℕ) → v < limit.carried → IfSome (carried_in s v) (λ o. o < s.objects))
     → Says ((o a : ℕ) → o < length (take s.objects s.states) → has (get_or (take s.objects s.states) o 0) a ≡ true → a < declared_in m 0) b → Says (Fits m s) b
 fits-says m s true n o t k c r = record { objects = o; relations = λ p a l e. r p a (rw length-take (omega arith)) (rw (get_or-take s.objects s.states p 0 l) e); stages = t; carried = c; places = k }
 fits-says m s false n o t k c r = λ f. r (λ p a l e. let h : p < s.objects = omega (arith, length-take s.objects s.states) in f.relations p a h (rw (get_or-take s.objects s.states p 0 h) at e))

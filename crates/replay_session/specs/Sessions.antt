@@ -1,5 +1,6 @@
 -- THE REPLAY'S STATE: "a database, the stages met, the carried object and the count of places kept"; document 02, R-5: "A lent state has a carried object for each, in order of first appearance."
-use Rattle.std.specs.Prelude.{◌≡◌, ◌⊎◌, Bool, true, false, if◌then◌else◌, List, [], ◌∷◌, ℕ, ◌+◌, ◌≤◌, ◌<◌, ◌==◌, length, take, set, slice_index, slice_index_or}
+use Rattle.std.specs.Prelude as prelude
+use Rattle.std.specs.Prelude.{◌≡◌, Bool, true, false, if◌then◌else◌, IfSome, List, [], ◌∷◌, ℕ, ◌+◌, ◌≤◌, ◌<◌, ◌==◌, length, take, set, slice_index, slice_index_or}
 use Rattle.std.proofs.Math.Option.{Option, none, some}
 use Rattle.limits.specs.Limits as limit
 use Rattle.semantics.specs.Labels.{has, relabel}
@@ -14,12 +15,13 @@ abbrev pub Says : Type 0 → Bool → Type 0
 Says A true = A
 Says A false = A → ⊥
 
--- the object, where 255 stands for none
-abbrev pub optional : ℕ → Option ℕ
-optional o = if o == limit.none then none else some o
+-- the object, if there is one
+abbrev pub optional : prelude.Option ℕ → Option ℕ
+optional prelude.None = none
+optional (prelude.Some o) = some o
 
 -- the object that stands for x, where os are the objects of the carried variables cs, in their order
-abbrev pub carried_for : List ℕ → List ℕ → ℕ → Option ℕ
+abbrev pub carried_for : List ℕ → List (prelude.Option ℕ) → ℕ → Option ℕ
 carried_for [] os x = none
 carried_for (c ∷ cs) [] x = none
 carried_for (c ∷ cs) (o ∷ os) x = if x == c then optional o else carried_for cs os x
@@ -32,9 +34,9 @@ session_of Q s = record { db = take s.objects s.states; met = s.met; carried = c
 abbrev pub state_in : Session → ℕ → ℕ
 state_in s o = slice_index s.states o
 
--- the carried object of a cell
-abbrev pub carried_in : Session → ℕ → ℕ
-carried_in s v = slice_index s.carried v
+-- the carried object of a cell, if there is one
+abbrev pub carried_in : Session → ℕ → prelude.Option ℕ
+carried_in s v = slice_index_or s.carried v prelude.None
 
 -- the state with these states of the objects, in the position
 abbrev pub session_in : List ℕ → Position → Session
@@ -49,7 +51,7 @@ pub record Fits (declared : ℕ) (Q : Question) (s : Session) : Type 0 where
   pub objects : s.objects ≤ limit.objects
   pub relations : (o a : ℕ) → o < s.objects → has (state_in s o) a ≡ true → a < declared
   pub stages : s.met ≤ length Q
-  pub carried : (v : ℕ) → v < limit.carried → (carried_in s v ≡ limit.none) ⊎ (carried_in s v < s.objects)
+  pub carried : (v : ℕ) → v < limit.carried → IfSome (carried_in s v) (λ o. o < s.objects)
   pub places : s.kept ≤ limit.run
 
 -- THE STATE AFTER A PLACE. An object is created with a set of relations
@@ -69,7 +71,7 @@ relabeled s o plus minus =
     }
 
 -- a stage is met, and these objects are carried from now on
-abbrev pub met : Session → List ℕ → Session
+abbrev pub met : Session → List (prelude.Option ℕ) → Session
 met s os = record { states = s.states; objects = s.objects; met = s.met + 1; carried = os; kept = s.kept + 1 }
 
 -- a step of a line
@@ -80,10 +82,10 @@ stepped s o (next x plus minus b) = relabeled s o plus minus
 stepped s o other = s
 
 -- the objects of the carried variables cs after the meeting of stage b with the objects os, where held are those before it: "where it has none the next meeting with the carried variable sets it"; a variable that does not stand in the stage keeps its own
-abbrev pub carried_by : List ℕ → Body → List ℕ → List ℕ → List ℕ
+abbrev pub carried_by : List ℕ → Body → List ℕ → List (prelude.Option ℕ) → List (prelude.Option ℕ)
 carried_by [] b os held = held
 carried_by (c ∷ cs) b os [] = []
-carried_by (c ∷ cs) b os (h ∷ hs) = (if elem c (vars b) then named b os c else h) ∷ carried_by cs b os hs
+carried_by (c ∷ cs) b os (h ∷ hs) = (if elem c (vars b) then prelude.Some (named b os c) else h) ∷ carried_by cs b os hs
 
 abbrev pub taken : Program → Question → Session → runs.Place → Session
 taken P Q s (step ℓ o) = stepped s o (line P ℓ)

@@ -3,8 +3,8 @@ use mathlib.Core.Path.{◌≡◌, refl, sym, ap, ◌∙◌, subst}
 use mathlib.Core.Logic.{◌≢◌, ⊎_elim, ◌↔◌}
 use mathlib.Core.Bool.{true}
 use mathlib.Core.List.{List, [], ◌++◌, map}
-use Rattle.std.specs.Prelude.{Some}
-use Prim.Native.Nat.{ℕ, ◌≤◌, ◌<◌}
+use Rattle.std.specs.Prelude.{Option, Some, None}
+use Prim.Native.Nat.{ℕ, ◌+◌, ◌≤◌, ◌<◌}
 use native.Mathlib.Omega.{arith}
 use borrow.Author.Tests.{eq-eqb, ne_eqb}
 use lib.ListN.{length, take, drop}
@@ -21,7 +21,9 @@ use Rattle.model.specs.declared.Action.{Action}
 use Rattle.model.specs.declared.Action.TheVariants.{Rule, New, Next}
 use Rattle.model.specs.declared.Clause.{Clause}
 use Rattle.model.specs.declared.Model.{Model}
-use Rattle.model.specs.Literals.{GoodBody}
+use Rattle.model.specs.Literals.{body_of, GoodBody}
+use Rattle.model.proofs.Bodies as bodies
+use Rattle.model.specs.Lookups.{OnLine}
 use Rattle.model.specs.Records.{up_from, head_of, line_of, clause_body, clause_line, program_of, clause_at}
 use Rattle.model.specs.WellFormed.{WellFormed}
 use Rattle.model.proofs.Accepted.{on_line, clause-safe, clause-vars, clause-body, stages}
@@ -34,7 +36,15 @@ use Rattle.replay_session.specs.Sessions.{created, relabeled, stepped}
 use Rattle.replay_session.specs.Notes.{standing}
 use Rattle.replay_session.proofs.Effects.{size}
 use Rattle.replay_view.specs.declared.View.{View}
-use Rattle.replay_steps.specs.Tries.{OnLine, line_body, Ready, Open, Stepping, Holding, only, Fixes, Taken, Barred}
+use Rattle.replay_view.specs.Views.{slots_of}
+use Rattle.replay_steps.specs.Tries.{line_body, Ready, Open, Stepping, Holding, only, Fixes, Taken, Barred}
+
+-- a choice that has an object for variable 0 alone
+abbrev three : Option ℕ → Option ℕ → Option ℕ → Choice
+three x y z = record { first = x; second = y; third = z }
+
+pub only_one : (c : Choice) (o : ℕ) → element_of c 0 ≡ Some o → element_of c 1 ≡ None → element_of c 2 ≡ None → c ≡ only o
+only_one c o e f g = ap (λ (x : Option ℕ). three x c.second c.third) e ∙ ap (λ (y : Option ℕ). three (Some o) y c.third) f ∙ ap (λ (z : Option ℕ). three (Some o) None z) g
 
 -- WHAT STANDS on the line of clause k
 body-supported : (a : Action) (b : Body) → SafeLine (line_of a b) → Supported (vars b) b
@@ -42,8 +52,8 @@ body-supported (Rule r n) b h = h.2
 body-supported (New t) b h = h
 body-supported (Next plus minus) b h = h.1
 
--- its body begins within the literal row
-clause-within : (m : Model) → WellFormed m → (k : ℕ) → k < m.clausecount → (clause_at m k).first ≤ length m.literals
+-- its body lies within the literal row
+clause-within : (m : Model) → WellFormed m → (k : ℕ) → k < m.clausecount → (clause_at m k).first + (clause_at m k).count ≤ length m.literals
 clause-within m wf k h = let p = (wf.clause k h).part.within in let l = wf.literalcount in let n = wf.literals in omega arith
 
 module _ (m : Model) (v : View) (s : Session) (slots w : List ℕ) (c : Clause) (t : Stepping m v s slots w c) where
@@ -58,8 +68,8 @@ module _ (m : Model) (v : View) (s : Session) (slots w : List ℕ) (c : Clause) 
   on-action a e = own (λ (x : Clause). line (program_of m) x.line ≡ clause_line m.literals x) (on_line m t.ready.accepted t.index t.within) ∙ ap (λ (x : Action). line_of x body) e
 
   -- its body can be handed to the evaluator
-  pub part-within : c.first ≤ length m.literals
-  part-within = own (λ (x : Clause). x.first ≤ length m.literals) (clause-within m t.ready.accepted t.index t.within)
+  pub part-within : c.first + c.count ≤ length m.literals
+  part-within = own (λ (x : Clause). x.first + x.count ≤ length m.literals) (clause-within m t.ready.accepted t.index t.within)
 
   pub part-good : GoodBody (drop c.first m.literals) c.count c.variables
   part-good = own (λ (x : Clause). GoodBody (drop x.first m.literals) x.count x.variables) (clause-body m t.ready.accepted t.index t.within)
@@ -67,6 +77,22 @@ module _ (m : Model) (v : View) (s : Session) (slots w : List ℕ) (c : Clause) 
   pub part-supported : Supported (vars body) body
   part-supported = own (λ (x : Clause). Supported (vars (clause_body m.literals x)) (clause_body m.literals x))
       (body-supported (clause_at m t.index).action (clause_body m.literals (clause_at m t.index)) (clause-safe m t.ready.accepted t.index t.within))
+
+  -- its body by itself
+  abbrev codes : List ℕ
+  codes = take c.count (drop c.first m.literals)
+
+  pub codes-long : length codes ≡ c.count
+  codes-long = bodies.own-length (drop c.first m.literals) c.count part-good.within
+
+  pub codes-say : body_of codes (length codes) ≡ body
+  codes-say = bodies.own-body (drop c.first m.literals) c.count part-good.within
+
+  pub codes-good : GoodBody codes (length codes) c.variables
+  codes-good = bodies.own-good (drop c.first m.literals) c.count c.variables part-good
+
+  pub codes-supported : Supported (vars (body_of codes (length codes))) (body_of codes (length codes))
+  codes-supported = rw codes-say part-supported
 
   pub part-vars : (x : ℕ) → elem x (vars body) ≡ true ↔ x < c.variables
   part-vars = own (λ (y : Clause). (x : ℕ) → elem x (vars (clause_body m.literals y)) ≡ true ↔ x < y.variables) (clause-vars m t.ready.accepted t.index t.within)
@@ -83,6 +109,9 @@ module _ (m : Model) (v : View) (s : Session) (slots w : List ℕ) (c : Clause) 
       (part-vars 0).0 (supported-vars 0 body safe.0)
 
   -- the slots are those of the view
+  pub slots-seat : slots_of v s.objects ≡ take s.objects slots
+  slots-seat = ap (λ (l : List ℕ). take s.objects l) t.seats
+
   pub slots-enough : s.objects ≤ length slots
   slots-enough = let g = t.ready.sees.views.good.slots in let f = t.ready.fits.objects in omega (arith, ap length t.seats)
 
@@ -99,8 +128,8 @@ module _ (m : Model) (accepted : WellFormed m) (k : ℕ) (h : k < m.clausecount)
       (ap line_body (on_line m accepted k h) ∙ body-on (clause_at m k).action (clause_body m.literals (clause_at m k)))
 
   -- its literals are good
-  pub own-within : c.first ≤ length m.literals
-  own-within = subst (λ (x : Clause). x.first ≤ length m.literals) (sym e) (clause-within m accepted k h)
+  pub own-within : c.first + c.count ≤ length m.literals
+  own-within = subst (λ (x : Clause). x.first + x.count ≤ length m.literals) (sym e) (clause-within m accepted k h)
 
   pub own-good : GoodBody (drop c.first m.literals) c.count c.variables
   own-good = subst (λ (x : Clause). GoodBody (drop x.first m.literals) x.count x.variables) (sym e) (clause-body m accepted k h)

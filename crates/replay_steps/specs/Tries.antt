@@ -28,11 +28,6 @@ use Rattle.replay_view.specs.Views.{row_of, Views, Known}
 use Rattle.replay_steps.specs.declared.NewState.{NewState}
 use Rattle.replay_steps.specs.declared.Outcome.{Outcome}
 
--- the clause is one of the model, and stands on the line; or none does
-abbrev pub OnLine : Model → ℕ → Option Clause → Type 0
-OnLine m ℓ (Some c) = (k : ℕ) × (k < m.clausecount) × (c ≡ clause_at m k) × (c.line ≡ ℓ)
-OnLine m ℓ None = (k : ℕ) → k < m.clausecount → (clause_at m k).line ≢ ℓ
-
 -- the body on a line
 abbrev pub line_body : Line → Body
 line_body (rule r xs b) = b

@@ -1,13 +1,13 @@
 // A step put to the replay's state: whether it is allowed, and what it makes of the state. The model is lent, and so are the slots of the view.
 #![tactic(auto)]
 
-ghost use Rattle.std.specs.Prelude.{◌≡◌, IfSome, List, map, ℕ, ◌+◌, ◌≤◌, ◌<◌, length, drop};
+ghost use Rattle.std.specs.Prelude.{◌≡◌, IfSome, List, map, ℕ, ◌+◌, ◌≤◌, ◌<◌, length};
 ghost use Rattle.limits.specs.Limits as limit;
 ghost use Rattle.semantics.specs.Models.{vars, Supported};
 ghost use Rattle.semantics.specs.Runs.{step};
 ghost use Rattle.model.specs.declared.Model.{Model};
-ghost use Rattle.model.specs.Literals.{GoodBody};
-ghost use Rattle.model.specs.Records.{up_from, body_at};
+ghost use Rattle.model.specs.Literals.{body_of, GoodBody};
+ghost use Rattle.model.specs.Records.{up_from};
 ghost use Rattle.model.specs.WellFormed.{WellFormed};
 ghost use Rattle.facts_table.specs.Table.{Consistent};
 ghost use Rattle.facts_candidates.specs.Choices.{chosen};
@@ -17,12 +17,13 @@ ghost use Rattle.replay_session.specs.declared.Session.{Session};
 ghost use Rattle.replay_session.specs.Sessions.{session_in};
 ghost use Rattle.replay_session.specs.Notes.{standing};
 ghost use Rattle.replay_view.specs.declared.View.{View};
-ghost use Rattle.replay_steps.specs.Tries.{OnLine, Rests, Ready, Open, Holding, Fixes, afterwards, Gives, TriedBy};
+ghost use Rattle.replay_view.specs.Views.{slots_of};
+ghost use Rattle.replay_steps.specs.Tries.{Rests, Ready, Open, Holding, Fixes, afterwards, Gives, TriedBy};
 
 use facts_bits::BYTES;
 use facts_candidates::Choice;
 use limits::OBJECTS;
-use model::{Action, Clause, Model};
+use model::{Action, Model};
 use replay_session::{Position, Session};
 
 // The state that a place gives an object.
@@ -55,50 +56,31 @@ impl Outcome {
     }
 }
 
-// The clause that stands on a line.
-pub fn clause_on(m: &Model, line: u32) -> Option<Clause>
-    requires { m.now.clausecount ≤ limit.clauses }
-    ensures { OnLine m.now line result }
-{
-    let i = (0..m.clausecount).find(|i| m.clauses[*i].line == line)?;
-    Some(m.clauses[i])
-}
-
 // The derived relations that a step of a line rests on, as a row of bits.
 pub fn needs(m: &Model, line: u32) -> [u8; BYTES]
     requires { WellFormed m.now }
     ensures { (object : ℕ) → Rests m.now result (step line object) }
 {
-    let Some(c) = clause_on(m, line) else {
+    let Some(c) = m.clause_on(line) else {
         return [0u8; BYTES];
     };
-    facts_rests::add([0u8; BYTES], &m.literals, c.first, c.count)
+    facts_rests::add([0u8; BYTES], c.body(&m.literals))
 }
 
-// The first choice that has the fixed objects and for which a body holds in a database of n objects, or that there is none.
-// The literals, the slots and the table stay apart: the slots and the table are written between two places of a run, so that a struct of the three would be made anew for each place.
+// The first choice that has the fixed objects and for which a body holds in a database whose objects have these slots, or that there is none.
+// The body, the slots and the table stay apart: the slots and the table are written between two places of a run, so that a struct of the three would be made anew for each place.
 // The call stays beside that of `facts_holds::seek`, which says what it answers over states that are their own slots: here the elements are objects, of which several may have one slot.
 pub fn decide(
-    literals: &[u32],
+    body: &[u32],
     slots: &[u8],
     work: &[u8],
-    n: usize,
-    first: usize,
-    count: usize,
     variables: u32,
     fixed: Choice,
 ) -> Option<Choice>
-    requires { Consistent work.now × (n ≤ length slots.now) × (first ≤ length literals.now) × GoodBody (drop first literals.now) count variables × Supported (vars (body_at literals.now first count)) (body_at literals.now first count) }
-    ensures { (m : Model) (v : View) (s : Session) (ready : Ready m s v work.now) → Within ready.relations (body_at literals.now first count) → v.slots ≡ slots.now → s.objects ≡ n → Decides variables (Holding m s (body_at literals.now first count) variables fixed) result }
+    requires { Consistent work.now × GoodBody body.now (length body.now) variables × Supported (vars (body_of body.now (length body.now))) (body_of body.now (length body.now)) }
+    ensures { (m : Model) (v : View) (s : Session) (ready : Ready m s v work.now) → Within ready.relations (body_of body.now (length body.now)) → slots_of v s.objects ≡ slots.now → Decides variables (Holding m s (body_of body.now (length body.now)) variables fixed) result }
 {
-    facts_find::find(
-        work,
-        &slots[..n],
-        &literals[first..],
-        count,
-        variables as usize,
-        fixed,
-    )
+    facts_find::find(work, slots, body, variables as usize, fixed)
 }
 
 // The number of those who stood by: the objects that a choice has for n variables, 255 where there is none.
@@ -132,11 +114,10 @@ pub fn fixed(action: Action, n: usize, object: u32) -> Option<Choice>
     let o = object as usize;
     match action {
         Action::New { .. } if o == n => Some(facts_candidates::free()),
-        Action::Next { .. } if o < n => Some(Choice {
-            first: Some(o),
-            second: None,
-            third: None,
-        }),
+        Action::Next { .. } if o < n => {
+            let nobody = facts_candidates::free();
+            Some(facts_candidates::choose(nobody, 0, o))
+        }
         _ => None,
     }
 }
@@ -157,19 +138,10 @@ pub fn step_place(
     ensures gives { IfSome result (Gives at) }
 {
     let n = at.objects;
-    let c = clause_on(m, line)?;
+    let c = m.clause_on(line)?;
     let o = object as usize;
     let objects = fixed(c.action, n, object)?;
-    let choice = decide(
-        &m.literals,
-        slots,
-        work,
-        n,
-        c.first,
-        c.count,
-        c.variables,
-        objects,
-    )?;
+    let choice = decide(c.body(&m.literals), &slots[..n], work, c.variables, objects)?;
     let stood = number(c.variables as usize, choice);
     match c.action {
         Action::Rule { .. } => None,

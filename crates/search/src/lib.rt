@@ -36,7 +36,7 @@ pub struct Explored {
 }
 
 // What is explored, the levels of the question, and whether it is reached.
-// The flag stays: it is the verdict itself, and all the rest counts with either value.
+// The flag stays in place of the pair that was found: `witness` and `witness_from`, which may ask nothing more of their callers, seek the pair themselves, so that nobody would read it here.
 #[derive(Clone, Copy)]
 pub struct Found {
     pub explored: Explored,
@@ -45,7 +45,7 @@ pub struct Found {
 }
 
 // The moves over the found states.
-// That the model is well-formed stays in clauses: a model is a value of any numbers, which acceptance alone makes well-formed.
+// That the model is well formed stays a clause: a record is blank before a text is read into it, which is not well formed, and a second type around a well-formed record would be opened wherever a field of it is read.
 fn tables(work: &[u8], m: Model, s: States) -> Moves
     requires { WellFormed m × (room ≤ length work.now) × Exactly m work.now s × Whole (program_of m) (row s) }
     ensures { Moving m s result }

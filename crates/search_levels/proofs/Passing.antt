@@ -59,45 +59,45 @@ fixed-both c one both a b v e f few first second apart free p q σ =
     other : stands b ≡ true → element_of one (place b) ≡ None
     other s = p (place b) (let z = second s in omega arith) ∙ go (stands a) (λ t. apart t s)
 
-module _ (w slots : List ℕ) (n : ℕ) (literals : List ℕ) (t : Meeting) (ready : Ready w slots n literals t) (S : Database) (many : length S ≡ n) where
+module _ (w slots body : List ℕ) (t : Meeting) (ready : Ready w slots body t) (S : Database) (many : length S ≡ length slots) where
   -- where a variable stands in the stage its slot is one of the n
-  pub first_below : stands t.first ≡ true → (e f : ℕ) → Met S w literals t e f → e < n
-  first_below s e f h = subst (λ (u : ℕ). u < n) (rw s at h.2) (subst (λ (k : ℕ). h.0 (place t.first) < k) many (h.1.0 (place t.first) (ready.asked.body.body.every (place t.first) (ready.first s))))
+  pub first_below : stands t.first ≡ true → (e f : ℕ) → Met S w body t e f → e < length slots
+  first_below s e f h = subst (λ (u : ℕ). u < length slots) (rw s at h.2) (subst (λ (k : ℕ). h.0 (place t.first) < k) many (h.1.0 (place t.first) (ready.asked.body.body.every (place t.first) (ready.first s))))
 
-  pub second_below : stands t.second ≡ true → (e f : ℕ) → Met S w literals t e f → f < n
-  second_below s e f h = subst (λ (u : ℕ). u < n) (rw s at h.3) (subst (λ (k : ℕ). h.0 (place t.second) < k) many (h.1.0 (place t.second) (ready.asked.body.body.every (place t.second) (ready.second s))))
+  pub second_below : stands t.second ≡ true → (e f : ℕ) → Met S w body t e f → f < length slots
+  second_below s e f h = subst (λ (u : ℕ). u < length slots) (rw s at h.3) (subst (λ (k : ℕ). h.0 (place t.second) < k) many (h.1.0 (place t.second) (ready.asked.body.body.every (place t.second) (ready.second s))))
 
-module _ (S w literals : List ℕ) (t : Meeting) (row : List ℕ) (f : ℕ) where
+module _ (S w body : List ℕ) (t : Meeting) (row : List ℕ) (f : ℕ) where
   abbrev Kept : ℕ → Type 0
-  Kept e = (bit_at row e ≡ true) × Met S w literals t e f
+  Kept e = (bit_at row e ≡ true) × Met S w body t e f
 
   -- A ROW WHERE THE FIRST VARIABLE DOES NOT STAND in the stage: it is empty, or it stays, or nothing is left
-  any-first : stands t.first ≡ false → (d e : ℕ) → Met S w literals t d f → Met S w literals t e f
+  any-first : stands t.first ≡ false → (d e : ℕ) → Met S w body t d f → Met S w body t e f
   any-first s d e h = (h.0, h.1, rw s tt, h.3, h.4)
 
-  pub met-none : stands t.first ≡ false → (Met S w literals t 0 f → ⊥) → Has (replicate width.bytes 0) Kept
+  pub met-none : stands t.first ≡ false → (Met S w body t 0 f → ⊥) → Has (replicate width.bytes 0) Kept
   met-none s h = has-nothing Kept (λ e l q. h (any-first s e 0 q.1))
 
-module _ (S w literals ways : List ℕ) (t : Meeting) (A : ℕ → ℕ → Bool) (f : ℕ) where
+module _ (S w body ways : List ℕ) (t : Meeting) (A : ℕ → ℕ → Bool) (f : ℕ) where
   abbrev Paired : ℕ → Type 0
-  Paired e = Led ways t A e f × Met S w literals t e f
+  Paired e = Led ways t A e f × Met S w body t e f
 
   -- a pair with which the stage holds is one of hopeful slots
-  hoped : (e : ℕ) → Paired e → Hopeful S w literals ways t A e
+  hoped : (e : ℕ) → Paired e → Hopeful S w body ways t A e
   hoped e q = (
     (q.0.0, q.0.1, (q.0.2.0, q.0.2.1, q.0.2.2), q.0.3),
     (q.1.0, q.1.1, q.1.2, tt, q.1.4),
   )
 
   -- ROW f OF THE NEXT LEVEL has hopeful slots,
-  module _ (led able row : List ℕ) (l : Has led (λ e. Led ways t A e f)) (h : Has able (Hopeful S w literals ways t A)) (both : Both led able row) where
-    row-bits : (e : ℕ) → e < limit.listed → (bit_at row e ≡ true) ↔ (Led ways t A e f × Hopeful S w literals ways t A e)
+  module _ (led able row : List ℕ) (l : Has led (λ e. Led ways t A e f)) (h : Has able (Hopeful S w body ways t A)) (both : Both led able row) where
+    row-bits : (e : ℕ) → e < limit.listed → (bit_at row e ≡ true) ↔ (Led ways t A e f × Hopeful S w body ways t A e)
     row-bits e g = let p = l.bits e g in let q = h.bits e g in let z = and-eq-true_iff (bit_at led e) (bit_at able e) in (
       (λ b. let y = z.0 (sym (both.bits e (omega arith)) ∙ b) in (p.0 y.0, q.0 y.1)),
       λ b. both.bits e (omega arith) ∙ z.1 (p.1 b.0, q.1 b.1),
     )
 
-    unseated : stands t.second ≡ false → (e : ℕ) → Met S w literals (alone t) e 0 → Met S w literals t e f
+    unseated : stands t.second ≡ false → (e : ℕ) → Met S w body (alone t) e 0 → Met S w body t e f
     unseated s e h = (h.0, h.1, h.2, rw s tt, h.4)
 
     -- all of them where the second variable does not stand in the stage,
@@ -110,14 +110,14 @@ module _ (S w literals ways : List ℕ) (t : Meeting) (A : ℕ → ℕ → Bool)
     }
 
     -- and else those with which it holds
-    pub paired-met : (r : List ℕ) → Has r (λ e. (bit_at row e ≡ true) × Met S w literals t e f) → Has r Paired
-    paired-met r = has-so r (λ e. (bit_at row e ≡ true) × Met S w literals t e f) Paired (λ e g. let z = row-bits e g in (
+    pub paired-met : (r : List ℕ) → Has r (λ e. (bit_at row e ≡ true) × Met S w body t e f) → Has r Paired
+    paired-met r = has-so r (λ e. (bit_at row e ≡ true) × Met S w body t e f) Paired (λ e g. let z = row-bits e g in (
       (λ q. ((z.0 q.0).0, q.1)),
       λ q. (z.1 (q.0, hoped e q), q.1),
     ))
 
   -- and none where the stage does not hold
-  pub paired_none : ((e : ℕ) → Met S w literals t e f → ⊥) → Has (replicate width.bytes 0) Paired
+  pub paired_none : ((e : ℕ) → Met S w body t e f → ⊥) → Has (replicate width.bytes 0) Paired
   paired_none h = has-nothing Paired (λ e l q. h e q.1)
 
 -- THE SAME PAIRS on the level before lead to the same pairs
@@ -129,8 +129,8 @@ module _ (ways : List ℕ) (t : Meeting) (A B : ℕ → ℕ → Bool) (same : (u
   led-so e f = onward-so ways (stands t.first) t.first.chosen (λ u. Onward ways (stands t.second) t.second.chosen (λ v. A u v ≡ true) f) (λ u. Onward ways (stands t.second) t.second.chosen (λ v. B u v ≡ true) f)
       (λ u l. onward-so ways (stands t.second) t.second.chosen (λ v. A u v ≡ true) (λ v. B u v ≡ true) (λ v g q. sym (same u v l g) ∙ q) f) e
 
-  pub hopeful-so : (S w literals : List ℕ) (e : ℕ) → Hopeful S w literals ways t A e → Hopeful S w literals ways t B e
-  hopeful-so S w literals e q = (
+  pub hopeful-so : (S w body : List ℕ) (e : ℕ) → Hopeful S w body ways t A e → Hopeful S w body ways t B e
+  hopeful-so S w body e q = (
     onward-so ways (stands t.first) t.first.chosen (λ u. (v : ℕ) × (v < limit.listed) × (A u v ≡ true)) (λ u. (v : ℕ) × (v < limit.listed) × (B u v ≡ true)) (λ u l z. (z.0, z.1, sym (same u z.0 l z.1) ∙ z.2)) e q.0,
     q.1,
   )
@@ -143,10 +143,10 @@ onward-has ways s c row D h r = has-so r (Onward ways s c (λ u. bit_at row u �
 ))
 
 -- the hopeful slots, from all the rows of a level at once
-pub hopeful-has : (S w literals ways : List ℕ) (t : Meeting) (rows : List ℕ) (k : ℕ) (any : List ℕ) → Has any (Picked rows (limit.listed * k) (replicate width.bytes 255))
-    → (row : List ℕ) → Has row (Onward ways (stands t.first) t.first.chosen (λ u. bit_at any u ≡ true)) → (r : List ℕ) → Has r (λ e. (bit_at row e ≡ true) × Met S w literals (alone t) e 0)
-    → Has r (Hopeful S w literals ways t (pair_at rows k))
-hopeful-has S w literals ways t rows k any h row g r = has-so r (λ e. (bit_at row e ≡ true) × Met S w literals (alone t) e 0) (Hopeful S w literals ways t (pair_at rows k)) (λ e l. let p = led.bits e l in (
+pub hopeful-has : (S w body ways : List ℕ) (t : Meeting) (rows : List ℕ) (k : ℕ) (any : List ℕ) → Has any (Picked rows (limit.listed * k) (replicate width.bytes 255))
+    → (row : List ℕ) → Has row (Onward ways (stands t.first) t.first.chosen (λ u. bit_at any u ≡ true)) → (r : List ℕ) → Has r (λ e. (bit_at row e ≡ true) × Met S w body (alone t) e 0)
+    → Has r (Hopeful S w body ways t (pair_at rows k))
+hopeful-has S w body ways t rows k any h row g r = has-so r (λ e. (bit_at row e ≡ true) × Met S w body (alone t) e 0) (Hopeful S w body ways t (pair_at rows k)) (λ e l. let p = led.bits e l in (
   (λ q. (p.0 q.0, q.1)),
   λ q. (p.1 q.0, q.1),
 ))

@@ -1,13 +1,13 @@
 -- The stages of an accepted question, with the numbers that the stages and the question have for the carried variables.
 use mathlib.Core.Path.{◌≡◌, refl, sym, ap, ◌∙◌, subst}
-use mathlib.Core.Logic.{⊎_elim, ◌↔◌}
+use mathlib.Core.Logic.{⊎_elim, ◌↔◌, ◌≢◌}
 use mathlib.Core.Bool.{Bool, true, false, cond, ◌||◌, false≢true}
-use mathlib.Core.List.{List, [], map}
+use mathlib.Core.List.{List, [], ◌∷◌, map}
 use Prim.Native.Nat.{ℕ, zero, suc, ◌≤◌, ◌<◌}
 use native.Mathlib.Omega.{arith}
-use borrow.Author.Tests.{ltb-true, ltb-false, lt-ltb, le-ltb}
+use borrow.Author.Tests.{ltb-true, ltb-false, lt-ltb, le-ltb, eq-eqb, ne_eqb}
 use lib.Dec.{ltb}
-use lib.ListN.{length, take, get_or}
+use lib.ListN.{length, take, drop, get_or}
 use lib.Seq.{get_or-take, length-take-le}
 use Rattle.std.proofs.lemmas.Bool.{cases_Bool}
 use Rattle.limits.specs.Limits as limit
@@ -19,18 +19,20 @@ use Rattle.semantics.proofs.Tools.{clash, named-own, seat-ok}
 use Rattle.semantics.proofs.Bodies.{holds_agree, supported-vars}
 use Rattle.model.specs.declared.Model.{Model}
 use Rattle.model.specs.declared.Stage.{Stage}
+use Rattle.model.specs.Lookups.{HasSeat}
 use Rattle.model.specs.Records.{renamed, Injective, stage_body, number_in, question_of, stage_at, carried_at}
 use Rattle.model.specs.WellFormed.{WellFormed}
 use Rattle.model.proofs.Accepted.{stage-here, stage-vars, stage_body_lem, stage-different}
 use Rattle.model.proofs.Carried.{carried-own, carried-differ}
 use Rattle.model.proofs.Renaming.{elem-map, elem-of-map, vars-renamed, supported-renamed, holds-renamed, named-renamed}
-use Rattle.facts_bits.specs.Width as width
 use Rattle.facts_bits.specs.Bits.{bit_at}
 use Rattle.facts_table.specs.Table.{table_of, Consistent}
 use Rattle.facts_candidates.specs.Choices.{Own}
+use Rattle.model.specs.Literals.{GoodBody, body_of}
+use Rattle.model.proofs.Bodies.{own-body}
 use Rattle.facts_holds.specs.Shows.{Evaluable}
+use Rattle.facts_holds.proofs.Laws.{part-evaluable}
 use Rattle.search_states.proofs.Seats.{elem-get_or, seat-absent, seat-in, seat-out}
-use Rattle.search_states.specs.States.{Sought}
 use Rattle.std.specs.Prelude.{Option, Some, None, is_some, unwrap_or, IfSome}
 use Rattle.search_levels.specs.declared.Walker.{Walker}
 use Rattle.search_levels.specs.declared.Meeting.{Meeting}
@@ -107,10 +109,27 @@ seated-here : (s : Bool) (σ : ℕ → ℕ) (y e : ℕ) → Seated s σ y e → 
 seated-here true σ y e h = h
 seated-here false σ y e h = h
 
--- a variable's number in a row, as it is sought
-pub sought-place : (x : ℕ) (xs : List ℕ) (n : ℕ) (r : Option ℕ) → length xs ≡ n → Sought xs x r → r ≡ cond (ltb (seat x xs) n) (Some (seat x xs)) None
-sought-place x xs n None long s = rw (le-ltb (seat x xs) n (omega (arith, seat-absent x xs s, long))) refl
-sought-place x xs n (Some i) long s = rw (lt-ltb (seat x xs) n (omega (arith, (seat-ok x xs s.0).0, long)), s.1) refl
+-- a variable's place in a row, by the first cell that has its number
+seat-first : (x : ℕ) (xs : List ℕ) (i : ℕ) → i < length xs → get_or xs i 0 ≡ x → ((y : ℕ) → y < i → get_or xs y 0 ≢ x) → seat x xs ≡ i
+seat-first x [] i l e h = absurd (omega (arith, l))
+seat-first x (z ∷ xs) zero l e h = rw (eq-eqb x z (sym e)) refl
+seat-first x (z ∷ xs) (suc i) l e h = rw (ne_eqb x z (λ q. h 0 (omega arith) (sym q))) (ap suc (seat-first x xs i (omega (arith, l)) e (λ y k. h (suc y) (omega (arith, k)))))
+
+seat-missing : (x : ℕ) (xs : List ℕ) → ((y : ℕ) → y < length xs → get_or xs y 0 ≢ x) → seat x xs ≡ length xs
+seat-missing x xs h = seat-absent x xs (⊎_elim (λ (e : elem x xs ≡ true). let q = seat-ok x xs e in absurd (h (seat x xs) q.0 q.1)) (λ (e : elem x xs ≡ false). e) (cases_Bool (elem x xs)))
+
+-- a variable's place in a stage
+pub seat-place : (g : Stage) (x : ℕ) (r : Option ℕ) → g.variables ≤ length g.numbers → HasSeat g x r → let y = seat x (take g.variables g.numbers) in r ≡ cond (ltb y g.variables) (Some y) None
+seat-place g x None l h =
+    let n = g.variables in
+    let long : length (take n g.numbers) ≡ n = length-take-le n g.numbers l in
+    let e = seat-missing x (take n g.numbers) (λ y k q. let j : y < n = omega (arith, k, long) in h y j (sym (get_or-take n g.numbers y 0 j) ∙ q)) in
+    rw (le-ltb (seat x (take n g.numbers)) n (omega (arith, e, long))) refl
+seat-place g x (Some i) l h =
+    let n = g.variables in
+    let long : length (take n g.numbers) ≡ n = length-take-le n g.numbers l in
+    let e : seat x (take n g.numbers) ≡ i = seat-first x (take n g.numbers) i (omega (arith, h.0, long)) (get_or-take n g.numbers i 0 h.0 ∙ h.1) (λ y k q. h.2 y k (sym (get_or-take n g.numbers y 0 (omega (arith, k, h.0))) ∙ q)) in
+    rw (e, lt-ltb i n h.0) refl
 
 -- STAGE k of a well-formed model
 module _ (m : Model) (wf : WellFormed m) (k : ℕ) (here : k < m.stagecount) where
@@ -124,13 +143,18 @@ module _ (m : Model) (wf : WellFormed m) (k : ℕ) (here : k < m.stagecount) whe
   f = number_in g
 
   -- its body can be evaluated
-  stage-evaluable : Evaluable m.literals (record { first = g.first; count = g.count; variables = g.variables })
-  stage-evaluable =
-      record {
-        inside = let p = (wf.stage k here).part.within in omega (arith, wf.literalcount, wf.literals);
-        body = stage_body_lem m wf k here;
-        safe = local-supported f b (stage-different m wf k here) (rw (stage-here m wf k here) at (wf.safely k));
-      }
+  abbrev pub codes : List ℕ
+  codes = take g.count (drop g.first m.literals)
+
+  stage-good : GoodBody (drop g.first m.literals) g.count g.variables
+  stage-good = stage_body_lem m wf k here
+
+  codes-say : body_of codes (length codes) ≡ b
+  codes-say = own-body (drop g.first m.literals) g.count stage-good.within
+
+  stage-evaluable : Evaluable codes g.variables
+  stage-evaluable = part-evaluable (drop g.first m.literals) g.count g.variables stage-good
+      (local-supported f b (stage-different m wf k here) (rw (stage-here m wf k here) at (wf.safely k)))
 
   pub numbers-long : g.variables ≤ length g.numbers
   numbers-long = let n = wf.numbers k here in let v = (stage_body_lem m wf k here).few in omega arith
@@ -186,8 +210,8 @@ module _ (m : Model) (wf : WellFormed m) (k : ℕ) (here : k < m.stagecount) whe
     t = meeting_of g m.carried (chosen m 0 k) (chosen m 1 k) (besides p k)
 
     -- it can be asked
-    pub stage-ready : (w slots : List ℕ) (n : ℕ) → Consistent w → Own width.slots slots → n ≤ limit.listed → Ready w slots n m.literals t
-    stage-ready w slots n agree own few = record {
+    pub stage-ready : (w slots : List ℕ) → Consistent w → Own (length slots) slots → length slots ≤ limit.listed → Ready w slots codes t
+    stage-ready w slots agree own few = record {
       asked = record { agree = agree; own = own; few = few; body = stage-evaluable };
       some = some-variable m k p some;
       first = λ q. let o = place-own (ltb (y (carried_at m 0)) g.variables) (y (carried_at m 0)) q in rw o.1 (ltb-true _ _ o.0);
@@ -200,7 +224,7 @@ module _ (m : Model) (wf : WellFormed m) (k : ℕ) (here : k < m.stagecount) whe
 
     module _ (S w ways : List ℕ) where
       -- WHAT IT LEADS TO is the next level
-      next-law : (A : ℕ → ℕ → Bool) (e f : ℕ) → (Led ways t A e f × Met S w m.literals t e f) ↔ Next m S w ways p k A e f
+      next-law : (A : ℕ → ℕ → Bool) (e f : ℕ) → (Led ways t A e f × Met S w codes t e f) ↔ Next m S w ways p k A e f
       next-law A e f = (
         λ q. (
           (q.0.0, q.0.2.0, q.0.1, q.0.2.1, q.0.2.2, moved 0 q.0.0 e q.0.3, moved 1 q.0.2.0 f q.0.2.3),
@@ -233,23 +257,23 @@ module _ (m : Model) (wf : WellFormed m) (k : ℕ) (here : k < m.stagecount) whe
               seated-here (ltb (y (carried_at m v)) g.variables) (λ z. σ (number_in g z)) (y (carried_at m v)) e (seated-locally (number_in g) b (stage-different m wf k here) (ltb (y (carried_at m v)) g.variables) (carried_at m v) (y (carried_at m v)) e (stands-number (carried_at m v)) σ
               (subst (λ (s : Bool). Seated s σ (carried_at m v) e) (sym (stands-holder (carried_at m v))) q))
 
-          global : (e f : ℕ) → Met S w m.literals t e f → (σ : ℕ → ℕ) × Holds S (In (table_of w)) σ (get_or (question_of m) k []) × Seated (holder m 0 k) σ (carried_at m 0) e × Seated (holder m 1 k) σ (carried_at m 1) f × Pointed m p k σ
+          global : (e f : ℕ) → Met S w codes t e f → (σ : ℕ → ℕ) × Holds S (In (table_of w)) σ (get_or (question_of m) k []) × Seated (holder m 0 k) σ (carried_at m 0) e × Seated (holder m 1 k) σ (carried_at m 1) f × Pointed m p k σ
           global e f h = (
             globally (number_in g) b (stage-different m wf k here) h.0,
-            subst (λ (c : Body). Holds S (In (table_of w)) (globally (number_in g) b (stage-different m wf k here) h.0) c) (sym (stage-here m wf k here)) (holds-globally (number_in g) b (stage-different m wf k here) S (In (table_of w)) h.0 h.1),
+            subst (λ (c : Body). Holds S (In (table_of w)) (globally (number_in g) b (stage-different m wf k here) h.0) c) (sym (stage-here m wf k here)) (holds-globally (number_in g) b (stage-different m wf k here) S (In (table_of w)) h.0 (subst (λ (c : Body). Holds S (In (table_of w)) h.0 c) codes-say h.1)),
             outward 0 e h.0 h.2,
             outward 1 f h.0 h.3,
             aimed-globally m wf k here p some h.0 h.4,
           )
 
-          local : (e f : ℕ) → ((σ : ℕ → ℕ) × Holds S (In (table_of w)) σ (get_or (question_of m) k []) × Seated (holder m 0 k) σ (carried_at m 0) e × Seated (holder m 1 k) σ (carried_at m 1) f × Pointed m p k σ) → Met S w m.literals t e f
+          local : (e f : ℕ) → ((σ : ℕ → ℕ) × Holds S (In (table_of w)) σ (get_or (question_of m) k []) × Seated (holder m 0 k) σ (carried_at m 0) e × Seated (holder m 1 k) σ (carried_at m 1) f × Pointed m p k σ) → Met S w codes t e f
           local e f h = (
             (λ z. h.0 (number_in g z)),
-            (holds-renamed (number_in g) S (In (table_of w)) h.0 b).0 (subst (λ (c : Body). Holds S (In (table_of w)) h.0 c) (stage-here m wf k here) h.1),
+            subst (λ (c : Body). Holds S (In (table_of w)) (λ z. h.0 (number_in g z)) c) (sym codes-say) ((holds-renamed (number_in g) S (In (table_of w)) h.0 b).0 (subst (λ (c : Body). Holds S (In (table_of w)) h.0 c) (stage-here m wf k here) h.1)),
             inward 0 e h.0 h.2,
             inward 1 f h.0 h.3,
             aimed-locally m k p h.0 h.4,
           )
 
-      pub passed-stage : (old new : List ℕ) → ((e f : ℕ) → e < limit.listed → f < limit.listed → (pair_at new (suc k) e f ≡ true) ↔ (Led ways t (pair_at old k) e f × Met S w m.literals t e f)) → Passed m S w ways p k (pair_at old k) (pair_at new (suc k))
+      pub passed-stage : (old new : List ℕ) → ((e f : ℕ) → e < limit.listed → f < limit.listed → (pair_at new (suc k) e f ≡ true) ↔ (Led ways t (pair_at old k) e f × Met S w codes t e f)) → Passed m S w ways p k (pair_at old k) (pair_at new (suc k))
       passed-stage old new h = record { pairs = λ e f l i. let z = h e f l i in let q = next-law (pair_at old k) e f in ((λ x. q.0 (z.0 x)), λ x. z.1 (q.1 x)) }

@@ -4,15 +4,13 @@ use Rattle.limits.specs.Limits as limit
 use Rattle.semantics.specs.Facts.{Database}
 use Rattle.semantics.specs.Tables.{Shows, seat}
 use Rattle.model.specs.declared.Stage.{Stage}
-use Rattle.model.specs.Records.{body_at}
-use Rattle.facts_bits.specs.Width as width
+use Rattle.model.specs.Literals.{body_of}
 use Rattle.facts_bits.specs.Bits.{bit_at, in_row}
 use Rattle.facts_table.specs.Table.{table_of, Consistent, Rows}
 use Rattle.facts_candidates.specs.declared.Choice.{Choice}
 use Rattle.facts_candidates.specs.Choices.{Own}
 use Rattle.facts_find.specs.Bodies.{Fixed}
-use Rattle.facts_holds.specs.declared.Part.{Part}
-use Rattle.facts_holds.specs.Shows.{part_of, Evaluable}
+use Rattle.facts_holds.specs.Shows.{Evaluable}
 use Rattle.search_levels.specs.declared.Walker.{Walker}
 use Rattle.search_levels.specs.declared.Meeting.{Meeting}
 use Rattle.search_levels.specs.Levels.{Moved, Seated}
@@ -50,39 +48,39 @@ abbrev pub Aimed : Option (List ℕ) → (ℕ → ℕ) → Type 0
 Aimed p σ = IfSome p (λ among. bit_at among (σ 0) ≡ true)
 
 -- the body holds with the fixed slots, for objects of which D
-abbrev pub Holding : Database → List ℕ → List ℕ → Part → Choice → ((ℕ → ℕ) → Type 0) → Type 0
-Holding S w literals part c D = (σ : ℕ → ℕ) × Shows S (table_of w) σ (body_at literals part.first part.count) × Fixed part.variables c σ × D σ
+abbrev pub Holding : Database → List ℕ → List ℕ → ℕ → Choice → ((ℕ → ℕ) → Type 0) → Type 0
+Holding S w body v c D = (σ : ℕ → ℕ) × Shows S (table_of w) σ (body_of body (length body)) × Fixed v c σ × D σ
 
 -- the stage holds with the pair e f
 abbrev pub Met : Database → List ℕ → List ℕ → Meeting → ℕ → ℕ → Type 0
-Met S w literals t e f =
-    (σ : ℕ → ℕ) × Shows S (table_of w) σ (body_at literals t.part.first t.part.count) × Seated (stands t.first) σ (place t.first) e × Seated (stands t.second) σ (place t.second) f × Aimed t.pointing σ
+Met S w body t e f =
+    (σ : ℕ → ℕ) × Shows S (table_of w) σ (body_of body (length body)) × Seated (stands t.first) σ (place t.first) e × Seated (stands t.second) σ (place t.second) f × Aimed t.pointing σ
 
 -- the same stage with only the first variable in its place
 abbrev pub alone : Meeting → Meeting
-alone t = record { part = t.part; first = t.first; second = record { seat = None; chosen = false }; pointing = t.pointing }
+alone t = record { variables = t.variables; first = t.first; second = record { seat = None; chosen = false }; pointing = t.pointing }
 
 -- the first object can go to slot e, whatever the second does, and the stage holds with it
 abbrev pub Hopeful : Database → List ℕ → List ℕ → List ℕ → Meeting → (ℕ → ℕ → Bool) → ℕ → Type 0
-Hopeful S w literals ways t A e = Onward ways (stands t.first) t.first.chosen (λ u. (v : ℕ) × (v < limit.listed) × (A u v ≡ true)) e × Met S w literals (alone t) e 0
+Hopeful S w body ways t A e = Onward ways (stands t.first) t.first.chosen (λ u. (v : ℕ) × (v < limit.listed) × (A u v ≡ true)) e × Met S w body (alone t) e 0
 
 -- what is said of the n states whose facts the work area has
 abbrev pub Over : List ℕ → ℕ → (Database → Type 0) → Type 0
 Over w n C = (S : Database) → Rows S w → length S ≡ n → C S
 
 -- the body can be asked
-pub record Asked (w slots : List ℕ) (n : ℕ) (literals : List ℕ) (part : Part) : Type 0 where
+pub record Asked (w slots codes : List ℕ) (v : ℕ) : Type 0 where
   pub agree : Consistent w
-  pub own : Own width.slots slots
-  pub few : n ≤ limit.listed
-  pub body : Evaluable literals part
+  pub own : Own (length slots) slots
+  pub few : length slots ≤ limit.listed
+  pub body : Evaluable codes v
 
 -- the stage can be asked: the two variables are different ones of it where they stand there, and it has one where more is asked of its first
-pub record Ready (w slots : List ℕ) (n : ℕ) (literals : List ℕ) (t : Meeting) : Type 0 where
-  pub asked : Asked w slots n literals t.part
-  pub some : IfSome t.pointing (λ among. 0 < t.part.variables)
-  pub first : stands t.first ≡ true → place t.first < t.part.variables
-  pub second : stands t.second ≡ true → place t.second < t.part.variables
+pub record Ready (w slots codes : List ℕ) (t : Meeting) : Type 0 where
+  pub asked : Asked w slots codes t.variables
+  pub some : IfSome t.pointing (λ among. 0 < t.variables)
+  pub first : stands t.first ≡ true → place t.first < t.variables
+  pub second : stands t.second ≡ true → place t.second < t.variables
   pub apart : stands t.first ≡ true → stands t.second ≡ true → place t.first ≢ place t.second
 
 -- the variable of number x as a stage has it
@@ -91,7 +89,7 @@ walker_of g x c = let y = seat x (take g.variables g.numbers) in record { seat =
 
 abbrev pub meeting_of : Stage → List ℕ → Bool → Bool → Option (List ℕ) → Meeting
 meeting_of g carried c d p = record {
-  part = part_of g;
+  variables = g.variables;
   first = walker_of g (slice_index_or carried 0 limit.none) c;
   second = walker_of g (slice_index_or carried 1 limit.none) d;
   pointing = p;

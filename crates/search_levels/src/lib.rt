@@ -15,7 +15,6 @@ ghost use Rattle.search_levels.specs.Passing.{stands, place, Has, Picked, Onward
 
 use facts_bits::{BYTES, SLOTS, WIDTH};
 use facts_candidates::Choice;
-use facts_holds::Part;
 use limits::{LISTED, STAGES};
 use model::{Model, Stage};
 use search_states::States;
@@ -48,10 +47,10 @@ struct Walker {
     chosen: bool,
 }
 
-// A stage with the two carried variables, and a row in which the slot of its first variable has to be, if there is one.
+// A stage: how many variables it has, the two carried ones, and a row in which the slot of its first variable has to be, if there is one.
 #[derive(Clone, Copy)]
 struct Meeting {
-    part: Part,
+    variables: usize,
     first: Walker,
     second: Walker,
     pointing: Option<[u8; BYTES]>,
@@ -86,43 +85,45 @@ fn seated(c: Choice, a: Walker, e: usize) -> Choice
     }
 }
 
-// Does the body hold for a choice with the fixed slots, and with a slot of the row for its first variable, which is free?
-// What is lent stays apart: the work area, the slots and the literals go to the evaluator alone, which takes each by itself, so that a struct would be made only to be taken apart.
+// Does the body hold for a choice with the fixed slots, and with slot e for its first variable, which is free?
+// What is lent stays apart: the work area, the slots and the body go to the evaluator alone, which takes each by itself, so that a struct would be made only to be taken apart.
+fn begins(work: &[u8], slots: &[u8], body: &[u32], variables: usize, c: Choice, e: usize) -> bool
+    requires { Asked work.now slots.now body.now variables × (0 < variables) × (element_of c 0 ≡ None) }
+    ensures { Over work.now (length slots.now) (λ S. (result ≡ true) ↔ Holding S work.now body.now variables c (λ σ. σ 0 ≡ e)) }
+{
+    let one = facts_candidates::choose(c, 0, e);
+    facts_holds::shows(work, slots, body, variables, one)
+}
+
+// Does it hold with some slot of the row for its first variable?
+// What is lent stays apart, as at `begins`: a struct of it would be made only to be taken apart by the evaluator.
 fn somewhere(
     work: &[u8],
     slots: &[u8],
-    n: usize,
-    literals: &[u32],
-    part: Part,
+    body: &[u32],
+    variables: usize,
     row: [u8; BYTES],
     c: Choice,
 ) -> bool
-    requires { Asked work.now slots.now n literals.now part × (0 < part.variables) × (element_of c 0 ≡ None) }
-    ensures { Over work.now n (λ S. (result ≡ true) ↔ Holding S work.now literals.now part c (λ σ. bit_at row (σ 0) ≡ true)) }
+    requires { Asked work.now slots.now body.now variables × (0 < variables) × (element_of c 0 ≡ None) }
+    ensures { Over work.now (length slots.now) (λ S. (result ≡ true) ↔ Holding S work.now body.now variables c (λ σ. bit_at row (σ 0) ≡ true)) }
 {
-    for e in facts_bits::slots(row) {
-        let one = facts_candidates::choose(c, 0, e);
-        if facts_holds::shows(work, slots, n, literals, part, one) {
-            return true;
-        }
-    }
-    false
+    facts_bits::slots(row).any(|e| begins(work, slots, body, variables, c, e))
 }
 
 // Does the body hold for a choice with the fixed slots, whose first variable has a slot as asked?
 fn pointed(
     work: &[u8],
     slots: &[u8],
-    n: usize,
-    literals: &[u32],
-    part: Part,
+    body: &[u32],
+    variables: usize,
     p: Option<[u8; BYTES]>,
     c: Choice,
 ) -> bool
-    requires { Asked work.now slots.now n literals.now part × IfSome p (λ among. 0 < part.variables) × (chosen c 0 ≤ limit.none) }
-    ensures { Over work.now n (λ S. (result ≡ true) ↔ Holding S work.now literals.now part c (Aimed p)) }
+    requires { Asked work.now slots.now body.now variables × IfSome p (λ among. 0 < variables) × (chosen c 0 ≤ limit.none) }
+    ensures { Over work.now (length slots.now) (λ S. (result ≡ true) ↔ Holding S work.now body.now variables c (Aimed p)) }
 {
-    if !facts_holds::shows(work, slots, n, literals, part, c) {
+    if !facts_holds::shows(work, slots, body, variables, c) {
         return false;
     }
     let Some(among) = p else {
@@ -131,45 +132,36 @@ fn pointed(
     if let Some(e) = c.first {
         return facts_bits::get(&among, e);
     }
-    somewhere(work, slots, n, literals, part, among, c)
+    somewhere(work, slots, body, variables, among, c)
 }
 
 // Does the stage hold with the pair e f?
-// That the stage can be asked and that f is a slot stays in clauses, and the stage and f stay apart: the stage is another one for each level, and f for each row.
-fn holds(
-    work: &[u8],
-    slots: &[u8],
-    n: usize,
-    literals: &[u32],
-    t: Meeting,
-    e: usize,
-    f: usize,
-) -> bool
-    requires { Ready work.now slots.now n literals.now t × (e < limit.listed) × (f < limit.listed) }
-    ensures { Over work.now n (λ S. (result ≡ true) ↔ Met S work.now literals.now t e f) }
+// That the stage can be asked and that f is a slot stays in clauses, and the stage and f stay apart: the stage is another one for each level and f for each row, so that a struct of both would be made anew for each row.
+fn holds(work: &[u8], slots: &[u8], body: &[u32], t: Meeting, e: usize, f: usize) -> bool
+    requires { Ready work.now slots.now body.now t × (e < limit.listed) × (f < limit.listed) }
+    ensures { Over work.now (length slots.now) (λ S. (result ≡ true) ↔ Met S work.now body.now t e f) }
 {
     let free = facts_candidates::free();
     let one = seated(free, t.first, e);
     let both = seated(one, t.second, f);
-    pointed(work, slots, n, literals, t.part, t.pointing, both)
+    pointed(work, slots, body, t.variables, t.pointing, both)
 }
 
 // The slots of a row with which the stage holds, together with slot f, where the first variable stands in it.
 fn fitting(
     work: &[u8],
     slots: &[u8],
-    n: usize,
-    literals: &[u32],
+    body: &[u32],
     t: Meeting,
     f: usize,
     row: [u8; BYTES],
 ) -> [u8; BYTES]
-    requires { Ready work.now slots.now n literals.now t × (stands t.first ≡ true) × (f < limit.listed) }
-    ensures { Over work.now n (λ S. Has result (λ e. (bit_at row e ≡ true) × Met S work.now literals.now t e f)) }
+    requires { Ready work.now slots.now body.now t × (stands t.first ≡ true) × (f < limit.listed) }
+    ensures { Over work.now (length slots.now) (λ S. Has result (λ e. (bit_at row e ≡ true) × Met S work.now body.now t e f)) }
 {
     let mut out = [0u8; BYTES];
     for e in facts_bits::slots(row) {
-        if e < n && holds(work, slots, n, literals, t, e, f) {
+        if e < slots.len() && holds(work, slots, body, t, e, f) {
             facts_bits::put(&mut out, e);
         }
     }
@@ -180,22 +172,21 @@ fn fitting(
 fn met(
     work: &[u8],
     slots: &[u8],
-    n: usize,
-    literals: &[u32],
+    body: &[u32],
     t: Meeting,
     f: usize,
     row: [u8; BYTES],
 ) -> [u8; BYTES]
-    requires { Ready work.now slots.now n literals.now t × (f < limit.listed) }
-    ensures { Over work.now n (λ S. Has result (λ e. (bit_at row e ≡ true) × Met S work.now literals.now t e f)) }
+    requires { Ready work.now slots.now body.now t × (f < limit.listed) }
+    ensures { Over work.now (length slots.now) (λ S. Has result (λ e. (bit_at row e ≡ true) × Met S work.now body.now t e f)) }
 {
     if t.first.seat.is_some() {
-        return fitting(work, slots, n, literals, t, f, row);
+        return fitting(work, slots, body, t, f, row);
     }
     if facts_bits::empty(row) {
         return row;
     }
-    if holds(work, slots, n, literals, t, 0, f) {
+    if holds(work, slots, body, t, 0, f) {
         return row;
     }
     [0u8; BYTES]
@@ -247,7 +238,7 @@ fn onward(ways: &[u8; MATRIX], a: Walker, row: [u8; BYTES]) -> [u8; BYTES]
 }
 
 // The slots that the first object has on level k with those from which the second one goes to slot f.
-// The level and the row stay apart from the matrices, with their bounds in clauses: they are the numbers of two loops, while the matrices are lent.
+// The level and the row stay apart from the matrices, with their bounds in clauses: they are the numbers of two loops, so that a struct of them with the matrices would be made anew at each turn.
 fn gathered(ways: &[u8; MATRIX], b: Walker, rows: &[u8; LEVELS], k: usize, f: usize) -> [u8; BYTES]
     requires { (k ≤ limit.stages) × (f < limit.listed) }
     ensures { Has result (λ u. Onward ways.now (stands b) b.chosen (λ v. pair_at rows.now k u v ≡ true) f) }
@@ -263,7 +254,7 @@ fn gathered(ways: &[u8; MATRIX], b: Walker, rows: &[u8; LEVELS], k: usize, f: us
 }
 
 // The slots that go with slot f when both objects are led on from level k.
-// The stage stays beside the level: a level is made of the one before it by the stage between them.
+// The stage stays beside the level and the matrices: the stage and the level are others for each level that is filled, so that a struct of them would be made anew for each.
 fn led(ways: &[u8; MATRIX], t: Meeting, rows: &[u8; LEVELS], k: usize, f: usize) -> [u8; BYTES]
     requires { (k ≤ limit.stages) × (f < limit.listed) }
     ensures { Has result (λ e. Led ways.now t (pair_at rows.now k) e f) }
@@ -277,15 +268,14 @@ fn led(ways: &[u8; MATRIX], t: Meeting, rows: &[u8; LEVELS], k: usize, f: usize)
 fn hopeful(
     work: &[u8],
     slots: &[u8],
-    n: usize,
-    literals: &[u32],
+    body: &[u32],
     t: Meeting,
     ways: &[u8; MATRIX],
     rows: &[u8; LEVELS],
     k: usize,
 ) -> [u8; BYTES]
-    requires { Ready work.now slots.now n literals.now t × (k ≤ limit.stages) }
-    ensures { Over work.now n (λ S. Has result (Hopeful S work.now literals.now ways.now t (pair_at rows.now k))) }
+    requires { Ready work.now slots.now body.now t × (k ≤ limit.stages) }
+    ensures { Over work.now (length slots.now) (λ S. Has result (Hopeful S work.now body.now ways.now t (pair_at rows.now k))) }
 {
     let any = union(rows, LISTED * k, facts_bits::full());
     let row = onward(ways, t.first, any);
@@ -293,24 +283,18 @@ fn hopeful(
         seat: None,
         chosen: false,
     };
-    let part = t.part;
-    let first = t.first;
-    let pointing = t.pointing;
     let alone = Meeting {
-        part,
-        first,
         second: nobody,
-        pointing,
+        ..t
     };
-    met(work, slots, n, literals, alone, 0, row)
+    met(work, slots, body, alone, 0, row)
 }
 
 // Row f of the level after level k.
 fn next_row(
     work: &[u8],
     slots: &[u8],
-    n: usize,
-    literals: &[u32],
+    body: &[u32],
     t: Meeting,
     ways: &[u8; MATRIX],
     rows: &[u8; LEVELS],
@@ -318,8 +302,8 @@ fn next_row(
     able: [u8; BYTES],
     f: usize,
 ) -> [u8; BYTES]
-    requires { Ready work.now slots.now n literals.now t × (k ≤ limit.stages) × (f < limit.listed) × Over work.now n (λ S. Has able (Hopeful S work.now literals.now ways.now t (pair_at rows.now k))) }
-    ensures { Over work.now n (λ S. Has result (λ e. Led ways.now t (pair_at rows.now k) e f × Met S work.now literals.now t e f)) }
+    requires { Ready work.now slots.now body.now t × (k ≤ limit.stages) × (f < limit.listed) × Over work.now (length slots.now) (λ S. Has able (Hopeful S work.now body.now ways.now t (pair_at rows.now k))) }
+    ensures { Over work.now (length slots.now) (λ S. Has result (λ e. Led ways.now t (pair_at rows.now k) e f × Met S work.now body.now t e f)) }
 {
     let pairs = led(ways, t, rows, k, f);
     if facts_bits::empty(pairs) {
@@ -329,8 +313,8 @@ fn next_row(
     if t.second.seat.is_none() {
         return row;
     }
-    if f < n {
-        return met(work, slots, n, literals, t, f, row);
+    if f < slots.len() {
+        return met(work, slots, body, t, f, row);
     }
     [0u8; BYTES]
 }
@@ -339,19 +323,18 @@ fn next_row(
 fn pass(
     work: &[u8],
     slots: &[u8],
-    n: usize,
-    literals: &[u32],
+    body: &[u32],
     t: Meeting,
     ways: &[u8; MATRIX],
     rows: &mut [u8; LEVELS],
     k: usize,
 )
-    requires { Ready work.now slots.now n literals.now t × (k < limit.stages) × Clear (limit.listed * suc k) rows.old }
-    ensures { Written (limit.listed * suc k) (limit.listed * suc (suc k)) rows.old rows.new × Over work.now n (λ S. (e f : ℕ) → e < limit.listed → f < limit.listed → (pair_at rows.new (suc k) e f ≡ true) ↔ (Led ways.now t (pair_at rows.old k) e f × Met S work.now literals.now t e f)) }
+    requires { Ready work.now slots.now body.now t × (k < limit.stages) × Clear (limit.listed * suc k) rows.old }
+    ensures { Written (limit.listed * suc k) (limit.listed * suc (suc k)) rows.old rows.new × Over work.now (length slots.now) (λ S. (e f : ℕ) → e < limit.listed → f < limit.listed → (pair_at rows.new (suc k) e f ≡ true) ↔ (Led ways.now t (pair_at rows.old k) e f × Met S work.now body.now t e f)) }
 {
-    let able = hopeful(work, slots, n, literals, t, ways, rows, k);
+    let able = hopeful(work, slots, body, t, ways, rows, k);
     for f in 0..LISTED {
-        let row = next_row(work, slots, n, literals, t, ways, rows, k, able, f);
+        let row = next_row(work, slots, body, t, ways, rows, k, able, f);
         facts_bits::widen(rows, LISTED * (k + 1) + f, row);
     }
 }
@@ -361,9 +344,10 @@ fn standing(stage: Stage, x: u32, chosen: bool) -> Walker
     requires { stage.variables ≤ length stage.numbers }
     ensures { result ≡ walker_of stage x chosen }
 {
-    let variables = stage.variables as usize;
-    let seat = search_states::seek(&stage.numbers[..variables], x);
-    Walker { seat, chosen }
+    Walker {
+        seat: stage.seat(x),
+        chosen,
+    }
 }
 
 // A stage with the carried variables, where it is known which of them stood in a stage before, and what is asked besides.
@@ -378,7 +362,7 @@ fn asked(
     ensures { result ≡ meeting_of stage carried first second pointing }
 {
     Meeting {
-        part: Part::from(stage),
+        variables: stage.variables as usize,
         first: standing(stage, carried[0], first),
         second: standing(stage, carried[1], second),
         pointing,
@@ -393,19 +377,21 @@ fn after(w: Walker) -> bool
 }
 
 // The levels of a question over the found states, where `ways` has who can come from which slot to which, and p is a row in which stage 1 asks besides for the slot of its first variable, or nothing.
+// The loop stays over the numbers of the stages: level k + 1 is filled from level k by stage k.
 pub fn fill(work: &[u8], m: Model, s: States, ways: &[u8; MATRIX], p: Option<[u8; BYTES]>) -> Levels
     requires { WellFormed m × Exactly m work.now s × IfSome p (λ among. 0 < (stage_at m 0).variables) }
     ensures { Filled m (row s) work.now ways.now p result }
 {
-    let slots = facts_candidates::slots();
-    let n = s.count;
+    let own = facts_candidates::slots();
+    let slots = &own[..s.count];
     let mut rows = [0u8; LEVELS];
     facts_bits::put(&mut rows, 0);
     let mut first = false;
     let mut second = false;
     for k in 0..m.stagecount {
-        let t = asked(m.stages[k], m.carried, first, second, asked_at(p, k));
-        pass(work, &slots, n, &m.literals, t, ways, &mut rows, k);
+        let stage = m.stages[k];
+        let t = asked(stage, m.carried, first, second, asked_at(p, k));
+        pass(work, slots, stage.body(&m.literals), t, ways, &mut rows, k);
         first = after(t.first);
         second = after(t.second);
     }
@@ -413,6 +399,7 @@ pub fn fill(work: &[u8], m: Model, s: States, ways: &[u8; MATRIX], p: Option<[u8
 }
 
 // The first pair of level k, in the first row that has one.
+// The loop stays beside `find_map`: a row whose first slot is no slot of a matrix is passed over, which a closure would say by the same two tests.
 pub fn first_pair(rows: &[u8; LEVELS], k: usize) -> Option<Pair>
     requires { k ≤ limit.stages }
     ensures { MatchOption result ((e f : ℕ) → OnLevel rows.now k e f → ⊥) (λ p. OnLevel rows.now k p.first p.second) }

@@ -1,5 +1,5 @@
 -- What adding a state does to the row, and noting the empty one.
-use mathlib.Core.Path.{◌≡◌, refl, sym, ◌∙◌}
+use mathlib.Core.Path.{◌≡◌, refl, sym, ap, ◌∙◌}
 use mathlib.Core.Logic.{⊎_elim, ◌≢◌}
 use mathlib.Core.Bool.{true, false, false≢true}
 use mathlib.Core.List.{List, [], ◌∷◌, ◌++◌}
@@ -17,8 +17,9 @@ use Rattle.semantics.specs.Models.{elem, Program, line, Distinct}
 use Rattle.semantics.specs.Tables.{From}
 use Rattle.semantics.proofs.Tools.{clash, or-false, elem-cases}
 use Rattle.semantics.proofs.Growth.{founded-more}
+use Rattle.search_states.specs.declared.Arrival.{Arrival}
 use Rattle.search_states.specs.declared.States.{States}
-use Rattle.search_states.specs.States.{row, by, from, nothing, appended, noted, added, Proper, Discovered}
+use Rattle.search_states.specs.States.{row, unarrived, arrival, by, from, nothing, appended, noted, added, Proper, Discovered}
 
 pub only_one : (x y : ℕ) → elem x (y ∷ []) ≡ true → x ≡ y
 only_one x y e = ⊎_elim (λ q. eqb-true x y q) (λ q. absurd (false≢true q)) (or_cases (eqb x y) false e)
@@ -55,7 +56,7 @@ added-over s t ℓ p n e l = rw (ne_eqb t 0 n, e, le-ltb s.count limit.atomic l)
 -- the row of no states
 pub proper-nothing : Proper nothing
 proper-nothing =
-    record { count = omega arith; states = refl; lines = refl; origins = refl; distinct = tt; atomic = λ t e. absurd (false≢true e) }
+    record { count = omega arith; states = refl; arrivals = refl; distinct = tt; atomic = λ t e. absurd (false≢true e) }
 
 pub discovered-nothing : (P : Program) → Discovered P nothing
 discovered-nothing P i l = absurd (omega arith)
@@ -71,10 +72,13 @@ module _ (s : States) (proper : Proper s) where
   -- NOTING THE EMPTY STATE keeps the row right
   pub proper-noted : Proper (noted s)
   proper-noted =
-      record { count = proper.count; states = proper.states; lines = proper.lines; origins = proper.origins; distinct = proper.distinct; atomic = proper.atomic }
+      record { count = proper.count; states = proper.states; arrivals = proper.arrivals; distinct = proper.distinct; atomic = proper.atomic }
 
   module _ (t : ℕ) (some : t ≢ 0) (small : t < limit.sets) (fresh : elem t (row s) ≡ false) (room : s.count < limit.atomic) where
     module _ (ℓ p : ℕ) where
+      abbrev came : Arrival
+      came = record { line = ℓ; origin = p }
+
       pub row_appended : row (appended s t ℓ p) ≡ row s ++ (t ∷ [])
       row_appended = rw add-one (take-suc-set s.states s.count t (let r = room in let b = proper.states in omega arith))
 
@@ -84,8 +88,7 @@ module _ (s : States) (proper : Proper s) where
           record {
             count = let r = room in omega arith;
             states = length-set s.states s.count t ∙ proper.states;
-            lines = length-set s.lines s.count ℓ ∙ proper.lines;
-            origins = length-set s.origins s.count p ∙ proper.origins;
+            arrivals = length-set s.arrivals s.count came ∙ proper.arrivals;
             distinct = rw row_appended (distinct_snoc (row s) t proper.distinct fresh);
             atomic = λ x e. ⊎_elim
                 (λ q. proper.atomic x q)
@@ -96,18 +99,16 @@ module _ (s : States) (proper : Proper s) where
       kept_by : (i : ℕ) → i < length (row s) → (by s i ≡ by (appended s t ℓ p) i) × (from s i ≡ from (appended s t ℓ p) i)
       kept_by i l =
           let n : i ≢ s.count = λ e. omega (arith, length-row) in
-          (sym (get_or-set_other s.lines s.count i ℓ 0 n), sym (get_or-set_other s.origins s.count i p 0 n))
+          let e = sym (get_or-set_other s.arrivals s.count i came unarrived n) in
+          (ap (λ (a : Arrival). a.line) e, ap (λ (a : Arrival). a.origin) e)
 
       pub discovered-appended : (P : Program) → Discovered P s → From P (row s) t p (line P ℓ) → Discovered P (appended s t ℓ p)
       discovered-appended P d f =
           rw row_appended
           (founded-more P (row s) t (by s) (from s) (by (appended s t ℓ p)) (from (appended s t ℓ p)) kept_by d here)
         where
-          at-line : by (appended s t ℓ p) (length (row s)) ≡ ℓ
-          at-line = rw length-row (get_or-set_same s.lines s.count ℓ 0 (let r = room in let q = proper.lines in omega arith))
-
-          at-origin : from (appended s t ℓ p) (length (row s)) ≡ p
-          at-origin = rw length-row (get_or-set_same s.origins s.count p 0 (let r = room in let q = proper.origins in omega arith))
+          arrived : arrival (appended s t ℓ p) (length (row s)) ≡ came
+          arrived = rw length-row (get_or-set_same s.arrivals s.count came unarrived (let r = room in let q = proper.arrivals in omega arith))
 
           here : From P (row s) t (from (appended s t ℓ p) (length (row s))) (line P (by (appended s t ℓ p) (length (row s))))
-          here = rw (at-line, at-origin) f
+          here = rw (by, from, arrived) f

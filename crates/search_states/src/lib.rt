@@ -8,15 +8,21 @@ ghost use Rattle.search_states.specs.Rising.{Lists};
 
 use limits::{ATOMIC, LISTED};
 
-// State i came by line lines[i] from state origins[i], and the two are read as a pair. The empty state stands beside the row: it moves nothing and stands for no variable.
+// How a state came: by which line, and from which state of the row.
+#[derive(Clone, Copy)]
+pub struct Arrival {
+    pub line: u32,
+    pub origin: u32,
+}
+
+// State i came as arrivals[i] says. The empty state stands beside the row: it moves nothing and stands for no variable.
 // The flag stays: whether the empty state is found is a fact by itself, and no field counts by it.
 // The count stays beside the arrays: memory is fixed, and the places behind it are not read.
-// The states stay an array of their own: they are a database, which is lent as a slice of numbers.
+// The states stay an array of their own beside the arrivals: they are a database, which is lent as a slice of numbers.
 #[derive(Clone, Copy)]
 pub struct States {
     pub states: [u32; ATOMIC],
-    pub lines: [u32; ATOMIC],
-    pub origins: [u32; ATOMIC],
+    pub arrivals: [Arrival; ATOMIC],
     pub count: usize,
     pub empty: bool,
 }
@@ -35,8 +41,7 @@ pub fn none() -> States
 {
     States {
         states: [0; ATOMIC],
-        lines: [0; ATOMIC],
-        origins: [0; ATOMIC],
+        arrivals: [Arrival { line: 0, origin: 0 }; ATOMIC],
         count: 0,
         empty: false,
     }
@@ -66,8 +71,7 @@ pub fn add(mut s: States, state: u32, line: u32, origin: u32) -> Option<States>
         return None;
     }
     s.states[n] = state;
-    s.lines[n] = line;
-    s.origins[n] = origin;
+    s.arrivals[n] = Arrival { line, origin };
     s.count = n + 1;
     Some(s)
 }

@@ -146,6 +146,15 @@ slice-more out j k x l h =
     ∙ rw (get_or-set_same out j x 0 (omega arith), add-one j, take-set-lt k out j x l, drop-set-lt (suc j) (take k out) j x (omega arith))
 
 -- what a test says
+pub said : (r : Bool) (A : Type 0) → Says r A → r ≡ true → A
+said true A h q = h
+said false A h q = clash q refl
+
+pub denied : (r : Bool) (A : Type 0) → Says r A → r ≡ false → A → ⊥
+denied true A h q = clash refl q
+denied false A h q = h
+
+-- what a test of numbers or of a bit says
 pub says_eq : (a b : ℕ) → Says (eqb a b) (a ≡ b)
 says_eq a b = ⊎_elim (λ (q : eqb a b ≡ true). rw q (eqb-true a b q)) (λ (q : eqb a b ≡ false). rw q (eqb-false a b q)) (cases_Bool (eqb a b))
 

@@ -7,7 +7,8 @@ use Prim.Native.Nat.{ℕ, ◌+◌, ◌*◌, ◌≤◌, ◌<◌}
 use native.Mathlib.Omega.{arith}
 use lib.Dec.{eqb}
 use lib.ListN.{length, get_or}
-use Rattle.std.specs.Prelude.{Some, None}
+use Rattle.std.specs.Prelude.{Option, Some, None, MatchOption}
+use Rattle.std.specs.Option.{IsSome}
 use Rattle.std.specs.List.{position}
 use lib.Seq.{get_or-take}
 use Rattle.limits.specs.Limits as limit
@@ -33,7 +34,7 @@ use Rattle.search_states.specs.States.{row, Proper}
 use Rattle.search_states.proofs.Laws.{length-row}
 use Rattle.search_states.proofs.Seats.{position-there, position-nowhere}
 use Rattle.search_ways.specs.Moves.{matrix_bytes, Marks, None as NoPair, With, Starts, InRow, CanTake}
-use Rattle.search_ways.specs.Steps.{Between, Turns, Led, OneStep}
+use Rattle.search_ways.specs.Steps.{Between, Turns, LineBetween, Led, OneStep}
 use Rattle.search_ways.proofs.Marking.{marks-so, marks-same, row_put}
 
 -- WHERE A SLOT IS LED: to the one slot that has its relabeled state
@@ -80,10 +81,6 @@ module _ (m : Model) (S : Database) (n : ℕ) (table : List ℕ) where
             q,
       ))
       b
-
--- the states by their slots
-pub turns_at : (s : States) (u t : ℕ) → u < s.count → t < s.count → (a : Action) → Turns a (state (row s) u) (state (row s) t) ≡ Turns a (get_or s.states u 0) (get_or s.states t 0)
-turns_at s u t l h a = rw (get_or-take s.count s.states u 0 l, get_or-take s.count s.states t 0 h)
 
 -- WHAT THE TABLE OF MOVES SAYS, in the words of the semantics
 module _ (P : Program) (S : Database) (e : ℕ) (b : Body) where
@@ -136,6 +133,16 @@ module _ (m : Model) (wf : WellFormed m) (s : States) (proper : Proper s) where
     -- and no other
     pub clause-takes : (e t k : ℕ) → e < s.count → in_row table k e ≡ true → Turns (clause_at m k).action (state (row s) e) t → Takes (program_of m) (row s) (state (row s) e) t (line (program_of m) (clause_at m k).line)
     clause-takes e t k l q h = can-takes k e t ((marked.bits k e (small e l)).0 q) h
+
+    -- the line between two states is one that takes an object of the slot's state to the other, or no line does
+    pub between-takes : (e t : ℕ) → e < s.count → (r : Option ℕ) → LineBetween m table e (get_or s.states e 0) t r
+        → MatchOption r ((ℓ : ℕ) → Takes (program_of m) (row s) (state (row s) e) t (line (program_of m) ℓ) → ⊥) (λ ℓ. Takes (program_of m) (row s) (state (row s) e) t (line (program_of m) ℓ))
+    between-takes e t l None h = λ ℓ q. let k = takes-clause e t ℓ l q in h k.0 (k.1, k.2, rw (get_or-take s.count s.states e 0 l) at k.3)
+    between-takes e t l (Some n) h = rw h.3 (clause-takes e t h.0 l h.1.1 (rw (get_or-take s.count s.states e 0 l) h.1.2))
+
+    pub between-some : (e t ℓ : ℕ) → e < s.count → (r : Option ℕ) → LineBetween m table e (get_or s.states e 0) t r → Takes (program_of m) (row s) (state (row s) e) t (line (program_of m) ℓ) → IsSome r
+    between-some e t ℓ l None h q = absurd (between-takes e t l None h ℓ q)
+    between-some e t ℓ l (Some n) h q = refl
 
     -- all clauses: one step at most
     pub led-all : (w : List ℕ) → Marks w (LedTo m (row s) s.count table m.clausecount) → Marks w (Between s.count (OneStep (program_of m) (row s)))

@@ -14,7 +14,7 @@ ghost use Rattle.facts_bits.specs.Width as width;
 ghost use Rattle.facts_heads.specs.Heads.{room};
 ghost use Rattle.search_states.specs.States.{row, Proper};
 ghost use Rattle.search_ways.specs.Moves.{Marks, None, With, InRow, Noted, Exactly, CanTake};
-ghost use Rattle.search_ways.specs.Steps.{Between, Turns, Led, OneStep};
+ghost use Rattle.search_ways.specs.Steps.{Between, Turns, LineBetween, Led, OneStep};
 ghost use Rattle.search_ways.specs.Chains.{Inside, Linked, Through};
 ghost use Rattle.search_ways.specs.Shortest.{Says, Near, Joins, Joined, Nearest, Shortest};
 
@@ -41,7 +41,8 @@ fn note(work: &[u8], c: Clause, i: usize, table: &mut [u8])
 }
 
 // The table of moves: row i has the slots from which clause i can be taken, if it is a `next` clause.
-// That the model is well-formed stays in clauses: a model is a value of any numbers, which acceptance alone makes well-formed.
+// That the model is well formed stays a clause: a record is blank before a text is read into it, which is not well formed, and a second type around a well-formed record would be opened wherever a field of it is read.
+// Here and in `steps` the loop stays over the numbers of the clauses: what it writes stands by the number, and `enumerate` would only give a name to the clause, which is read once.
 pub fn takes(work: &[u8], m: Model, table: &mut [u8; TABLE])
     requires { WellFormed m × (room ≤ length work.now) }
     ensures { (s : States) → Exactly m work.now s → Marks table.new (CanTake m s) }
@@ -53,7 +54,7 @@ pub fn takes(work: &[u8], m: Model, table: &mut [u8; TABLE])
 }
 
 // Marks each of the first n slots with itself.
-// That n is at most so many stays a clause: it is the count of the states found, and the matrices have rows for all slots.
+// That n is at most so many stays a clause: a type with that bound would be made of the count by this very clause, to be taken apart for the end of a loop.
 fn stay(n: usize, ways: &mut [u8; MATRIX])
     requires { (n ≤ limit.listed) }
     ensures { Marks ways.new (With ways.old (Between n (λ e t. e ≡ t))) }
@@ -64,7 +65,7 @@ fn stay(n: usize, ways: &mut [u8; MATRIX])
 }
 
 // Marks the slot that the relabeled state of slot e has, if it has one.
-// That the states are different and few stays in clauses: they are a part of the row found, lent as a slice.
+// That the states are different and few stays in clauses: what is lent is the part of the found states that counts, and a struct around it would be made by these very clauses, in `steps` alone.
 fn lead_at(states: &[u32], plus: u32, minus: u32, e: usize, ways: &mut [u8; MATRIX])
     requires { Distinct states.now × (length states.now ≤ limit.listed) × (e < length states.now) }
     ensures { Marks ways.new (With ways.old (InRow e (length states.now) (λ t. state states.now t ≡ relabel (state states.now e) plus minus))) }
@@ -120,6 +121,7 @@ pub fn steps(m: Model, s: States, table: &[u8; TABLE], ways: &mut [u8; MATRIX])
 }
 
 // Adds what row k has to each of the first n rows that has slot k.
+// The test of each row stays: the rows that have slot k are a column of the matrix, and `facts_bits::slots` goes along a row.
 fn pass(ways: &mut [u8; MATRIX], n: usize, k: usize)
     requires { (n ≤ limit.listed) × (k < n) }
     ensures { Marks ways.new (With ways.old (λ e t. (e < n) × Through ways.old k e t)) }
@@ -143,6 +145,7 @@ pub fn close(ways: &mut [u8; MATRIX], n: usize)
 }
 
 // Sets in row j + 1 of the layers the slots to which one pair leads from those of row j.
+// The loop stays beside `facts_bits::slots`: row j may have slots from n on, so that a test of each slot would stay in it all the same.
 fn spread(links: &[u8; MATRIX], n: usize, layers: &mut [u8; MATRIX], j: usize)
     requires { (n ≤ limit.listed) × (j < limit.atomic) }
     ensures { Marks layers.new (With layers.old (InRow (j + 1) width.slots (Joined links.now layers.old n j))) }
@@ -183,12 +186,10 @@ fn before(links: &[u8; MATRIX], layers: &[u8; MATRIX], n: usize, j: usize, t: us
     requires { (n ≤ limit.listed) × (j < limit.listed) × (t < n) × Joined links.now layers.now n j t }
     ensures { (result < n) × Joins links.now layers.now j t result }
 {
-    for u in 0..n {
-        if joins(links, layers, j, t, u) {
-            return u;
-        }
-    }
-    unreachable!()
+    let Some(u) = (0..n).find(|u| joins(links, layers, j, t, *u)) else {
+        unreachable!()
+    };
+    u
 }
 
 // Does the clause make one state of the other?
@@ -201,22 +202,28 @@ pub fn turns(c: Clause, from: u32, to: u32) -> bool
     }
 }
 
+// The line of the first clause that can be taken from slot u and makes the one state the other, if there is one.
+// That the model is well formed stays a clause: a record is blank before a text is read into it, which is not well formed, and a second type around a well-formed record would be opened wherever a field of it is read.
+pub fn line_between(m: Model, table: &[u8; TABLE], u: usize, from: u32, to: u32) -> Option<u32>
+    requires { WellFormed m × (u < width.slots) }
+    ensures { LineBetween m table.now u from to result }
+{
+    let i = (0..m.clausecount).find(|i| {
+        facts_bits::get(table, *i * WIDTH + u) && turns(m.clauses[*i], from, to)
+    })?;
+    Some(m.clauses[i].line)
+}
+
 // The line of the first clause that takes an object of the state of slot u to that of slot t.
 fn line_to(m: Model, s: States, table: &[u8; TABLE], u: usize, t: usize) -> u32
     requires { WellFormed m × Proper s × Marks table.now (CanTake m s) × (u < s.count) × (t < s.count) × ((ℓ : ℕ) × Takes (program_of m) (row s) (state (row s) u) (state (row s) t) (line (program_of m) ℓ)) }
     ensures { Takes (program_of m) (row s) (state (row s) u) (state (row s) t) (line (program_of m) result) }
 {
-    let from = s.states[u];
-    let to = s.states[t];
-    for i in 0..m.clausecount {
-        if facts_bits::get(table, i * WIDTH + u) && turns(m.clauses[i], from, to) {
-            return m.clauses[i].line;
-        }
-    }
-    unreachable!()
+    line_between(m, table, u, s.states[u], s.states[t]).unwrap()
 }
 
 // The lines of a shortest way from one slot to another, and how many they are.
+// The lines stay in a row that is lent, with their number as the answer: there is no heap, and the row is C's run table or one of fixed size.
 pub fn way(
     m: Model,
     s: States,

@@ -48,6 +48,11 @@ known-row s t n = ((λ e. inr e), λ k. ⊎_elim (λ q. absurd (n q.0)) (λ q. q
 pub shortest-fewest : (m : Model) (s : States) (e t : ℕ) (out out' : List ℕ) (k : ℕ) → ways.Shortest (program_of m) (row s) e t out out' k → empty.Fewest (program_of m) (row s) (state (row s) e) (state (row s) t) out out' k
 shortest-fewest m s e t out out' k h = record { few = omega (arith, h.few); way = h.way; least = h.least; rest = h.rest }
 
+-- what is found between slots is what ends at their states
+pub between-ended : (m : Model) (s : States) (e t : ℕ) (out out' : List ℕ) (k : Option ℕ) → empty.WayBetween (program_of m) (row s) e t out out' k → Ended (program_of m) (row s) (state (row s) e) (state (row s) t) out out' k
+between-ended m s e t out out' None h = h
+between-ended m s e t out out' (Some k) h = shortest-fewest m s e t out out' k h
+
 -- from a state to itself
 pub staying : (m : Model) (s : States) (e t : ℕ) (out : List ℕ) → e ≡ t → empty.Fewest (program_of m) (row s) e t out out 0
 staying m s e t out q = record { few = omega arith; way = q; least = λ ls w. omega arith; rest = refl }

@@ -1,9 +1,8 @@
 // The shortest way between two states of an accepted model.
 #![tactic(auto)]
 
-ghost use Rattle.std.specs.Prelude.{◌≡◌, ◌↔◌, ◌≢◌, true, List, ℕ, ◌≤◌, ◌<◌, length};
+ghost use Rattle.std.specs.Prelude.{◌≡◌, ◌↔◌, ◌≢◌, true, List, ℕ, ◌≤◌, length};
 ghost use Rattle.limits.specs.Limits as limit;
-ghost use Rattle.semantics.specs.Facts.{state};
 ghost use Rattle.model.specs.Records.{program_of};
 ghost use Rattle.model.specs.WellFormed.{WellFormed};
 ghost use Rattle.search_states.specs.States.{row, Known, Proper};
@@ -13,7 +12,6 @@ ghost use Rattle.shortest_answer.specs.Answering.{Answered, Finds};
 ghost use Rattle.shortest_answer.specs.Ending.{Ended};
 
 use calls::CROWDED;
-use facts_bits::WIDTH;
 use facts_heads::ROOM;
 use model::Model;
 use rows::{Refusal, Row};
@@ -31,24 +29,6 @@ fn known(s: States, state: u32) -> bool
     s.states[..s.count].contains(&state)
 }
 
-// A shortest way from one slot to another.
-fn between(
-    m: Model,
-    s: States,
-    moves: &Moves,
-    from: usize,
-    to: usize,
-    run: &mut [u32],
-) -> Option<usize>
-    requires { Mapped m s moves.now.table moves.now.steps moves.now.ways × (from < s.count) × (to < s.count) × (s.count ≤ length run.old) }
-    ensures { Ended (program_of m) (row s) (state (row s) from) (state (row s) to) run.old run.new result }
-{
-    if !facts_bits::get(&moves.ways, from * WIDTH + to) {
-        return None;
-    }
-    Some(search_ways::way(m, s, &moves.table, &moves.steps, from, to, run))
-}
-
 // A shortest way from one found state to another one; from the empty state there is none.
 // The two states stay beside the model and the row, since C gives them apart.
 fn onward(m: Model, s: States, moves: &Moves, from: u32, to: u32, run: &mut [u32]) -> Option<usize>
@@ -63,10 +43,11 @@ fn onward(m: Model, s: States, moves: &Moves, from: u32, to: u32, run: &mut [u32
         return shortest_empty::way(m, s, &moves.table, &moves.steps, &moves.ways, e, run);
     }
     let u = search_states::seek(&s.states[..s.count], to).unwrap();
-    between(m, s, moves, e, u, run)
+    shortest_empty::between(m, s, &moves.table, &moves.steps, &moves.ways, e, u, run)
 }
 
 // The answer that the explored states give.
+// `let .. else` stays: `ok_or(CROWDED)?` would save two lines here and cost a lemma about `ok_or` in the proof, which the crate does not need for anything else.
 fn find(
     m: Model,
     explored: Option<Explored>,

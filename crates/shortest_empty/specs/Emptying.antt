@@ -11,6 +11,7 @@ use Rattle.search_states.specs.declared.States.{States}
 use Rattle.search_states.specs.States.{row, Proper}
 use Rattle.search_ways.specs.Moves.{Marks, CanTake}
 use Rattle.search_ways.specs.Steps.{Between, OneStep}
+use Rattle.search_ways.specs.Shortest.{Shortest}
 
 -- THE FOUND STATES MAPPED: no line adds a state, and the tables have the moves, the single steps and the ways between them
 pub record Mapped (m : Model) (s : States) (table steps ways : List ℕ) : Type 0 where
@@ -65,3 +66,7 @@ NoWay P S s t out out' = (Comes P S s t → ⊥) × (out' ≡ out)
 -- THE WAY to the empty state of so many steps, or that there is none
 abbrev pub ToEmpty : Program → Database → ℕ → List ℕ → List ℕ → Option ℕ → Type 0
 ToEmpty P S s out out' k = MatchOption k (NoWay P S s 0 out out') (Fewest P S s 0 out out')
+
+-- THE SHORTEST WAY between two slots of so many steps, or that there is none
+abbrev pub WayBetween : Program → Database → ℕ → ℕ → List ℕ → List ℕ → Option ℕ → Type 0
+WayBetween P S e t out out' k = MatchOption k (NoWay P S (state S e) (state S t) out out') (Shortest P S e t out out')

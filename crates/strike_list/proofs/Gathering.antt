@@ -34,7 +34,7 @@ clause_of m c = (c.line, clause_line m.literals c)
 abbrev pub begun : Model → ℕ → Program
 begun m k = map (clause_of m) (take k m.clauses)
 
-pub begun_all : (m : Model) → begun m m.clausecount ≡ program_of m
+begun_all : (m : Model) → begun m m.clausecount ≡ program_of m
 unfolding program_of
 begun_all m = refl
 
@@ -54,13 +54,24 @@ module _ (m : Model) (good : WellFormed m) where
   pub model-rising : Rising (numbers (program_of m))
   model-rising = rw (← begun_all m) (begun-rising m.clausecount (omega arith))
 
-  module _ (L row : List ℕ) (n i : ℕ) (l : i < m.clausecount) (h : Holds row n (named (begun m i) L)) where
+  counted : length (take m.clausecount m.clauses) ≡ m.clausecount
+  counted = length-take-le m.clausecount m.clauses (omega (arith, good.clauses, good.row))
+
+  pub begun-end : (i : ℕ) → length (take m.clausecount m.clauses) ≤ i → i ≤ length (take m.clausecount m.clauses) → begun m i ≡ program_of m
+  begun-end i h k = let e : i ≡ m.clausecount = omega (arith, counted) in rw e (begun_all m)
+
+  module _ (L row : List ℕ) (n i : ℕ) (l : i < length (take m.clausecount m.clauses)) (h : Holds row n (named (begun m i) L)) where
+    inside : i < m.clausecount
+    inside = omega (arith, counted)
+
     abbrev c : Clause
-    c = get_or m.clauses i d
+    c = get_or (take m.clausecount m.clauses) i d
 
     -- one clause more
     next : named (begun m (i + 1)) L ≡ named (begun m i) L ++ named (clause_of m c ∷ []) L
-    next = rw (add-one, take-suc m.clauses i d (omega (arith, good.clauses, good.row)), map-append) (named-append (begun m i) (clause_of m c ∷ []) L)
+    next =
+        rw (get_or-take m.clausecount m.clauses i d inside, add-one, take-suc m.clauses i d (omega (arith, inside, good.clauses, good.row)), map-append)
+        (named-append (begun m i) (clause_of m (get_or m.clauses i d) ∷ []) L)
 
     pub gathered-less : (free c.action && elem c.line L) ≡ false → Holds row n (named (begun m (i + 1)) L)
     gathered-less e = rw next (rw (free-line c.action (clause_body m.literals c), e, append-nil) h)
@@ -72,7 +83,7 @@ module _ (m : Model) (good : WellFormed m) where
       -- the row has room for its line, since the lines that it has are distinct ones of the list
       pub gathered-room : n < most
       gathered-room =
-          let r = begun-rising (i + 1) (omega arith) in
+          let r = begun-rising (i + 1) (omega (arith, inside)) in
           omega (arith, h.count, few, ap length longer, length-append (named (begun m i) L) (c.line ∷ []), distinct-length (named (begun m (i + 1)) L) L (rising-distinct (named (begun m (i + 1)) L) (named-rising (begun m (i + 1)) L r)) (named-listed (begun m (i + 1)) L r))
 
       pub gathered-more : Holds (set row n c.line) (n + 1) (named (begun m (i + 1)) L)

@@ -1,11 +1,11 @@
 -- THE RECORD OF LINES while it is filled.
-use mathlib.Core.Path.{◌≡◌, refl, sym, ap, ap₂, ◌∙◌}
+use mathlib.Core.Path.{◌≡◌, sym, ap₂, ◌∙◌}
 use mathlib.Core.Bool.{true, false}
-use mathlib.Core.List.{List, [], ◌∷◌, ◌++◌, append_assoc, append-nil}
+use mathlib.Core.List.{List, [], ◌∷◌, ◌++◌, append_assoc}
 use Prim.Native.Nat.{ℕ, suc, ◌+◌, ◌-◌, ◌≤◌, ◌<◌}
 use native.Mathlib.Omega.{arith}
 use native.Mathlib.Numerals.{add-one}
-use lib.ListN.{length, drop, get_or, set, replicate, length-append, length-drop, drop_of_length-le}
+use lib.ListN.{length, drop, get_or, set, replicate, length-append, length-drop}
 use lib.Seq.{drop-cons, take-append_seam}
 use Rattle.semantics.proofs.Tools.{set-append-add}
 use Rattle.semantics.specs.Labels.{has}
@@ -18,9 +18,6 @@ use Rattle.strike_list.specs.Lists.{padded, shown, listed}
 pub record Holds (row : List ℕ) (n : ℕ) (C : List ℕ) : Type 0 where
   pub same : row ≡ padded C
   pub count : n ≡ length C
-
-pub holds-none : Holds (replicate most 0) 0 []
-holds-none = record { same = refl; count = refl }
 
 -- one line more
 pub holds_more : (row : List ℕ) (n : ℕ) (C : List ℕ) (x : ℕ) → Holds row n C → n < most → Holds (set row n x) (n + 1) (C ++ x ∷ [])
@@ -53,9 +50,6 @@ pub record Chosen (xs : List ℕ) (number : ℕ) (row : List ℕ) (n i : ℕ) : 
   pub rest : lines ++ numbered (drop i xs) number ≡ numbered xs number
 
 module _ (xs : List ℕ) (number : ℕ) where
-  pub chosen_none : Chosen xs number (replicate most 0) 0 0
-  chosen_none = record { lines = []; holds = holds-none; few = omega arith; rest = refl }
-
   module _ (row : List ℕ) (n i bit : ℕ) (c : Chosen xs number row n i) (l : i < length xs) (e : suc (bit + i) ≡ length xs) where
     behind : length (drop (suc i) xs) ≡ bit
     behind = omega (arith, length-drop (suc i) xs)
@@ -81,6 +75,3 @@ module _ (xs : List ℕ) (number : ℕ) where
       where
         left : c.lines ++ numbered (drop i xs) number ≡ c.lines ++ numbered (drop (suc i) xs) number
         left = rw (drop-cons xs i 0 l, behind, h)
-
-  pub chosen-all : (row : List ℕ) (n i : ℕ) → Chosen xs number row n i → length xs ≤ i → ◌≡◌ {A = Lines} (record { lines = row; count = n }) (shown (numbered xs number))
-  chosen-all row n i c l = holds-shown row n c.lines c.holds ∙ ap shown (sym (append-nil c.lines) ∙ rw (drop_of_length-le xs l) at c.rest)

@@ -1,7 +1,7 @@
 // The list of lines that could be struck: whether it is refused, its lines in rising order, and the lines of a choice by its number.
 #![tactic(auto)]
 
-ghost use Rattle.std.specs.Prelude.{◌≡◌, false, ◌&&◌, ◌≤◌, length};
+ghost use Rattle.std.specs.Prelude.{◌≡◌, false, ◌&&◌, [], ◌+◌, ◌≤◌, ◌<◌, length, slice_set};
 ghost use Rattle.semantics.specs.Models.{elem};
 ghost use Rattle.model.specs.Records.{program_of};
 ghost use Rattle.model.specs.WellFormed.{WellFormed};
@@ -22,6 +22,27 @@ pub struct Lines {
     pub count: usize,
 }
 
+impl Lines {
+    // No lines.
+    fn none() -> Lines
+        ensures { result ≡ shown [] }
+    {
+        Lines {
+            lines: [0; MOST],
+            count: 0,
+        }
+    }
+
+    // Takes in one line more.
+    fn push(&mut self, line: u32)
+        requires { self.old.count < most }
+        ensures { (self.new.lines ≡ slice_set self.old.lines self.old.count line) × (self.new.count ≡ self.old.count + 1) }
+    {
+        self.lines[self.count] = line;
+        self.count += 1;
+    }
+}
+
 // Whether a clause of this action and line is a listed `new` or `next` line.
 fn wanted(action: Action, line: u32, list: &[u32]) -> bool
     ensures { result ≡ (free action && elem line list.now) }
@@ -33,21 +54,18 @@ fn wanted(action: Action, line: u32, list: &[u32]) -> bool
 }
 
 // The listed lines that are `new` or `next` lines, in the order of the model.
-// That the model is well-formed stays in clauses: a model is a value of any numbers, which acceptance alone makes well-formed.
+// That the model is well formed stays a clause: a record is blank before a text is read into it, which is not well formed, and a second type around a well-formed record would be opened wherever a field of it is read.
 fn gather(m: Model, list: &[u32]) -> Lines
     requires { WellFormed m × (length list.now ≤ most) }
     ensures { result ≡ shown (named (program_of m) list.now) }
 {
-    let mut lines = [0; MOST];
-    let mut count = 0;
-    for i in 0..m.clausecount {
-        let c = m.clauses[i];
+    let mut found = Lines::none();
+    for c in &m.clauses[..m.clausecount] {
         if wanted(c.action, c.line, list) {
-            lines[count] = c.line;
-            count += 1;
+            found.push(c.line);
         }
     }
-    Lines { lines, count }
+    found
 }
 
 // Whether the list is refused.
@@ -75,13 +93,11 @@ pub fn choose(l: Lines, number: u32) -> Lines
     requires { l.count ≤ most }
     ensures { result ≡ shown (numbered (listed l) number) }
 {
-    let mut lines = [0; MOST];
-    let mut count = 0;
-    for i in 0..l.count {
+    let mut chosen = Lines::none();
+    for (i, &line) in l.lines[..l.count].iter().enumerate() {
         if labels::has(number, (l.count - 1 - i) as u32) {
-            lines[count] = l.lines[i];
-            count += 1;
+            chosen.push(line);
         }
     }
-    Lines { lines, count }
+    chosen
 }

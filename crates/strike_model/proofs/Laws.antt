@@ -194,9 +194,6 @@ pub record Moved (L : List ℕ) (m₀ m : Model) (kept i : ℕ) : Type 0 where
   pub first : take kept m.clauses ≡ without L (take i m₀.clauses)
   pub ahead : drop i m.clauses ≡ drop i m₀.clauses
 
-pub moved-start : (L : List ℕ) (m : Model) → length m.clauses ≡ limit.clauses → Moved L m m 0 0
-moved-start L m e = record { rest = refl; long = e; few = omega arith; first = refl; ahead = refl }
-
 module _ (L : List ℕ) (m₀ m : Model) (kept i : ℕ) (h : Moved L m₀ m kept i) where
   module _ (d : Clause) (l : i < length m₀.clauses) (same : length m₀.clauses ≡ limit.clauses) where
     -- the next clause is the model's

@@ -1,5 +1,5 @@
 -- FROM LINE TO LINE.
-use mathlib.Core.Path.{◌≡◌, refl, sym, ap, ◌∙◌}
+use mathlib.Core.Path.{◌≡◌, refl, sym, ap, subst, ◌∙◌}
 use mathlib.Core.Logic.{⊎_elim}
 use mathlib.Core.Bool.{Bool, true, false, cond, ◌||◌}
 use mathlib.Core.List.{List, [], ◌∷◌}
@@ -18,7 +18,8 @@ use Rattle.grammar.specs.Bytes.{bytes, Line, ended, unended, in_front, lines}
 use Rattle.grammar.specs.Shapes.{after, line, whole, form_of}
 use Rattle.grammar.specs.Texts.{refused, read_lines, outcome}
 use Rattle.std.proofs.lemmas.Bool.{true≢false, cases_Bool}
-use Rattle.std.specs.Prelude.{Ok, Err}
+use Rattle.std.specs.Prelude.{Result, Ok, Err, IfErr, MatchResult}
+use Rattle.rows.specs.declared.Refusal.{Refusal}
 use Rattle.rows.specs.Rows.{number_of}
 use Rattle.rows.specs.declared.Row.{Row}
 use Rattle.rows.proofs.Laws.{some-number}
@@ -65,6 +66,17 @@ module _ (d : Declared) {m : Model} (z : d.count ≡ 0) (b : m ≡ blank) where
   pub onwards-start : (text : List ℕ) → read_lines 1 [] [] (lines text) ≡ onwards text 0 1 d m
   unfolding onwards declared_of
   onwards-start text = rw (z, b, blank-program)
+
+-- THE ANSWER TO A LINE with the line's number
+module _ (n : ℕ) {r : Result (Unit {0}) Refusal} where
+  pub line-failed : (a : Result (Unit {0}) Row) {x : Refusal} → MatchResult a (λ _. r ≡ Ok tt) (λ row. r ≡ Err (record { row = row; line = n })) → r ≡ Err x
+      → (row : Row) × (a ≡ Err row) × (x ≡ record { row = row; line = n })
+  line-failed (Ok u) e q = cc
+  line-failed (Err row) {x} e q = (row, refl, subst (λ (s : Result (Unit {0}) Refusal). IfErr s (λ z. x ≡ z)) (sym q ∙ e) refl)
+
+  pub line-passed : (a : Result (Unit {0}) Row) → MatchResult a (λ _. r ≡ Ok tt) (λ row. r ≡ Err (record { row = row; line = n })) → r ≡ Ok tt → a ≡ Ok tt
+  line-passed (Ok u) e q = refl
+  line-passed (Err row) e q = cc
 
 -- A LINE
 module _ {text : List ℕ} {at n : ℕ} {d : Declared} {m : Model} (so : Reached text at n d m) where

@@ -1,7 +1,7 @@
 // The bracket text: every byte list becomes an accepted model, or one listed refusal with its line.
 #![tactic(auto)]
 
-ghost use Rattle.std.specs.Prelude.{◌≡◌, [], ◌≤◌, length, Err};
+ghost use Rattle.std.specs.Prelude.{◌≡◌, [], ◌≤◌, length, Ok, Err, MatchResult};
 ghost use Rattle.limits.specs.Limits as limit;
 ghost use Rattle.grammar.specs.Bytes.{lines};
 ghost use Rattle.grammar.specs.Texts.{read_lines, outcome};
@@ -14,14 +14,15 @@ use model::Model;
 use rows::{Refusal, Row};
 use text_names::Declared;
 
-// A refusal by its row and line.
-fn refusal(row: Row, line: u32) -> Result<(), Refusal>
-    ensures { result ≡ Err (record { row = row; line = line }) }
+// The answer to a line, with the line's number at a refusal.
+fn on_line(answer: Result<(), Row>, line: u32) -> Result<(), Refusal>
+    ensures { MatchResult answer (λ _. result ≡ Ok tt) (λ row. result ≡ Err (record { row = row; line = line })) }
 {
-    Err(Refusal { row, line })
+    answer.map_err(|row| Refusal { row, line })
 }
 
 // The `ask` line from `at` to e, and whether a line follows it.
+// The place behind the first word stays a number: `strip_prefix` would give the rest of the line, and names keep their place in the whole text.
 fn read_question(
     text: &[u8],
     at: usize,
@@ -34,11 +35,12 @@ fn read_question(
     ensures { Fills (onwards text.now at line d m.old) text.now result m.new }
 {
     text_opening::fit(m, d, line);
-    if let Err(row) = text_ask::read_ask(&text[..e], d, at + 5, m) {
-        return refusal(row, line);
-    }
+    on_line(text_ask::read_ask(&text[..e], d, at + 5, m), line)?;
     if e + 1 < text.len() {
-        return refusal(Row::End, line + 1);
+        return Err(Refusal {
+            row: Row::End,
+            line: line + 1,
+        });
     }
     Ok(())
 }
@@ -51,21 +53,25 @@ fn read_lines(text: &[u8], m: &mut Model) -> Result<(), Refusal>
     let mut d = text_names::none();
     let mut at = 0;
     let mut line: u32 = 1;
-    // The loop stays a `while`: names keep their place in the whole text, so that the place of a line is needed beside its bytes.
+    // The loop stays a `while`: names keep their place in the whole text, and a bad line has no end, so that an iterator would give a place and a Result for each line, to be taken apart here.
     while at < text.len() {
         let Some(e) = text_scan::line_end(text, at) else {
-            return refusal(Row::Byte, line);
+            return Err(Refusal {
+                row: Row::Byte,
+                line,
+            });
         };
         if text_scan::at_bytes(&text[..e], at, b"(ask ") {
             return read_question(text, at, e, d, m, line);
         }
-        if let Err(row) = text_lines::read_line(&text[..e], at, &mut d, m, line) {
-            return refusal(row, line);
-        }
+        on_line(text_lines::read_line(&text[..e], at, &mut d, m, line), line)?;
         at = e + 1;
         line += 1;
     }
-    refusal(Row::End, line)
+    Err(Refusal {
+        row: Row::End,
+        line,
+    })
 }
 
 // Reads a text for a call, which may be refused before the lines: by a lent buffer that is too short, or by a run that is too long.

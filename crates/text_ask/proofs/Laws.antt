@@ -1,5 +1,5 @@
 -- Laws of the reader of the `ask` line.
-use mathlib.Core.Path.{◌≡◌, subst}
+use mathlib.Core.Path.{◌≡◌, subst, ◌∙◌}
 use mathlib.Core.List.{List, [], ◌∷◌, ◌++◌, append-nil, append_assoc}
 use mathlib.Core.Option.{none, some}
 use Prim.Native.Nat.{ℕ, ◌+◌, ◌-◌, ◌≤◌, ◌<◌}
@@ -16,7 +16,20 @@ use Rattle.text_literals.specs.Frames.{Framed}
 use Rattle.text_stages.specs.Questions as questions
 use Rattle.text_stages.specs.Questions.{Asked, Addable, Added}
 use Rattle.text_bodies.specs.Bodies.{StageEnd}
-use Rattle.text_ask.specs.Asks.{Extends, StagesEnd}
+use Rattle.text_ask.specs.Asks.{Extends, StagesEnd, carrying}
+
+-- WHAT STAYS of a record, stage after stage
+pub aside-more : {m u v : Model} → questions.Aside m u → questions.Aside u v → questions.Aside m v
+aside-more a b = record {
+  relations = b.relations ∙ a.relations;
+  names = b.names ∙ a.names;
+  clauses = b.clauses ∙ a.clauses;
+  clausecount = b.clausecount ∙ a.clausecount;
+  lines = b.lines ∙ a.lines;
+}
+
+pub aside-carrying : {m v : Model} {cells : List ℕ} → questions.Aside m v → questions.Aside m (carrying v cells)
+aside-carrying a = record { relations = a.relations; names = a.names; clauses = a.clauses; clausecount = a.clausecount; lines = a.lines }
 
 -- READING STAGES
 pub record StagesSo (text : List ℕ) (D : Declared) (at n : ℕ) (s : Asked) (m : Model) (g : Asked) (h : Model) (i k : ℕ) : Type 0 where

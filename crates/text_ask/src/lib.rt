@@ -36,7 +36,7 @@ fn read_stages(
 ) -> Option<Stages>
     requires { (at ≤ length text.now) × (length text.now < 4294967296) × names.Valid text.now d
         × ((m₀ : models.Model) × (qs : List (List forms.Literal)) × (length qs + n ≤ limit.stages) × questions.Holds text.now (names.declared_of text.now d) m₀ qs s m.old) }
-    ensures { MatchOption result (rest stage n (drop at text.now) ≡ none) (λ r. StagesEnd text.now (names.declared_of text.now d) at n s m.old r m.new) }
+    ensures { MatchOption result (rest stage n (drop at text.now) ≡ none) (λ r. StagesEnd text.now (names.declared_of text.now d) at n s m.old r m.new) × questions.Aside m.old m.new }
 {
     let mut table = s;
     let mut i = at;
@@ -67,26 +67,18 @@ fn read_stages(
 fn finish(s: Result<Scope<ASKED>, Row>) -> Result<[u32; CARRIED], Row>
     ensures { result ≡ finished s }
 {
-    let table = s?;
-    let Some(cells) = text_carried::carried(table) else {
-        return Err(Row::Carried);
-    };
-    Ok(cells)
+    text_carried::carried(s?).ok_or(Row::Carried)
 }
 
-// `(ask (L ..) (L ..))`, in a record without stages.
+// `(ask (L ..) (L ..))`, in a record without stages. After a refusal its stages and literals are those read so far, and the relations, names, clauses and lines are untouched.
 pub fn read_ask(text: &[u8], d: Declared, at: usize, m: &mut Model) -> Result<(), Row>
     requires { (at ≤ length text.now) × (0 < at) × (length text.now < 4294967296) × names.Valid text.now d × questions.Empty m.old }
-    ensures { AskEnd (names.declared_of text.now d) m.old (ask_rest (drop at text.now)) result m.new }
+    ensures { AskEnd (names.declared_of text.now d) m.old (ask_rest (drop at text.now)) result m.new × questions.Aside m.old m.new }
 {
-    let Some(b) = text_bodies::read_stage(text, d, at) else {
-        return Err(Row::Shape);
-    };
+    let b = text_bodies::read_stage(text, d, at).ok_or(Row::Shape)?;
     let s = text_scope::empty();
     let f = text_stages::add(text, Ok(s), b, m);
-    let Some(r) = read_stages(text, d, b.end, f, FURTHER, m) else {
-        return Err(Row::Shape);
-    };
+    let r = read_stages(text, d, b.end, f, FURTHER, m).ok_or(Row::Shape)?;
     if r.end != text.len() {
         return Err(Row::Shape);
     }

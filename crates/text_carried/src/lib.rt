@@ -31,8 +31,7 @@ pub fn number(text: &[u8], t: &mut Scope<ASKED>, s: Scope<VARIABLES>) -> [u32; V
     ensures { Numbers text.now t.old (scopes.known_of text.now s) t.new result }
 {
     let mut numbers = [0u32; VARIABLES];
-    for j in 0..s.count {
-        let v = s.variables[j];
+    for (j, v) in s.variables[..s.count].iter().enumerate() {
         numbers[j] = meet(text, t, v.start, v.end) as u32;
     }
     numbers
@@ -40,15 +39,14 @@ pub fn number(text: &[u8], t: &mut Scope<ASKED>, s: Scope<VARIABLES>) -> [u32; V
 
 // The cells of the variables that stand in a second stage, 255 in one that has none; none if there are more than cells. The variables are numbered by first appearance, so they rise in that order.
 // 255 stays for no variable: it is the number of none, so that a cell is compared with a stage's numbers as it stands.
-// The count of cells stays: `enumerate` of a `filter` would give it, but a loop over that chain knows its items by the calls of `next` alone, and that three of them are one too many was left unproved.
+// The count of cells stays by hand: a loop over `enumerate` of a `filter` was tried, and the proof that a third marked variable is one too many did not close.
 pub fn carried(t: Scope<ASKED>) -> Option<[u32; CARRIED]>
     ensures { result ≡ carriers_of t }
 {
     let mut cells = [NONE; CARRIED];
     let mut found = 0;
-    for i in 0..ASKED {
-        let again = t.variables[i].marked;
-        if again {
+    for (i, v) in t.variables.iter().enumerate() {
+        if v.marked {
             if found == CARRIED {
                 return None;
             }

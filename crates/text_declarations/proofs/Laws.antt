@@ -21,19 +21,25 @@ use Rattle.grammar.specs.Models.{declare}
 use Rattle.grammar.specs.Declarations as grammar
 use Rattle.grammar.specs.Declarations.{lookup, count}
 use Rattle.grammar.specs.Rows.{lower, row, again, fault}
-use Rattle.std.specs.Prelude.{Ok, Err}
+use Rattle.grammar.proofs.Lower.{lower-first}
+use Rattle.std.specs.Prelude as prelude
+use Rattle.std.specs.Prelude.{Ok, Err, is_some}
 use Rattle.rows.specs.Rows.{number_of}
 use Rattle.rows.specs.declared.Row.{Row}
 use Rattle.text_faults.specs.Faults.{shaped}
-use Rattle.text_scan.proofs.Laws.{nothing}
-use Rattle.text_names.specs.Names.{blank, declared_of, Valid, tally, added}
+use Rattle.text_names.specs.Names.{blank, declared_of, Valid, tally, added, found}
 use Rattle.text_names.specs.declared.Name.{Name}
 use Rattle.text_names.specs.declared.Declared.{Declared}
 use Rattle.text_names.proofs.Laws.{declared-added, valid-added, tally-count}
 use Rattle.text_clauses.proofs.Laws.{whole-all, whole_part}
-use Rattle.text_declarations.specs.Declares.{Limited, state_number, rel_number, next_name, Entered, DeclarationEnd}
+use Rattle.text_declarations.specs.Declares.{Limited, state_number, rel_number, next_name, Entered, DeclarationEnd, StateAt, RelAt}
 
 -- NUMBERS
+-- whether a name stands already, as `find` says
+pub taken : (D : grammar.Declared) (w : Word) (o : prelude.Option ℕ) {b : Bool} → lookup w D ≡ found o → b ≡ is_some o → again (lookup w D) ≡ b
+taken D w prelude.None e q = rw (e, q)
+taken D w (prelude.Some c) e q = rw (e, q)
+
 crowded : (b : Bool) → lower 4 (row 5 b) ≡ 4
 unfolding lower
 crowded true = refl
@@ -44,13 +50,9 @@ module _ (D : grammar.Declared) (w : Word) where
   unfolding state_number
   state-crowded t z h = rw (z, le-leb limit.states t h) (crowded (again (lookup w D)))
 
-  pub state-free : (t : ℕ) → count 0 D ≡ t → t < limit.states → lookup w D ≡ none → state_number D w ≡ 0
-  unfolding state_number lower
-  state-free t z h e = rw (z, lt-leb limit.states t h, e)
-
-  pub state-again : (t c : ℕ) → count 0 D ≡ t → t < limit.states → lookup w D ≡ some c → state_number D w ≡ 5
-  unfolding state_number lower
-  state-again t c z h e = rw (z, lt-leb limit.states t h, e)
+  pub state-free : (t : ℕ) → count 0 D ≡ t → t < limit.states → state_number D w ≡ row 5 (again (lookup w D))
+  unfolding state_number
+  state-free t z h = rw (z, lt-leb limit.states t h) (lower-first 0 (row 5 (again (lookup w D))) refl)
 
   module _ (n a b p : ℕ) (x : count 1 D ≡ a) (y : count 2 D ≡ b) (z : count 3 D ≡ p) where
     pub rel-crowded : limit.rels ≤ a + b + p → rel_number D w n ≡ 4
@@ -61,14 +63,9 @@ module _ (D : grammar.Declared) (w : Word) where
     unfolding rel_number
     rel-pairs h k l = rw (x, y, z, lt-leb limit.rels (a + b + p) h, eq-eqb n 2 k, le-leb limit.pairs p l) (crowded (again (lookup w D)))
 
-    module _ (h : a + b + p < limit.rels) (k : (eqb n 2 && leb limit.pairs p) ≡ false) where
-      pub rel-free : lookup w D ≡ none → rel_number D w n ≡ 0
-      unfolding rel_number lower
-      rel-free e = rw (x, y, z, lt-leb limit.rels (a + b + p) h, k, e)
-
-      pub rel-again : (c : ℕ) → lookup w D ≡ some c → rel_number D w n ≡ 5
-      unfolding rel_number lower
-      rel-again c e = rw (x, y, z, lt-leb limit.rels (a + b + p) h, k, e)
+    pub rel-free : a + b + p < limit.rels → (eqb n 2 && leb limit.pairs p) ≡ false → rel_number D w n ≡ row 5 (again (lookup w D))
+    unfolding rel_number
+    rel-free h k = rw (x, y, z, lt-leb limit.rels (a + b + p) h, k) (lower-first 0 (row 5 (again (lookup w D))) refl)
 
 -- COUNTS
 pub tally-le : (k : ℕ) (names : List Name) (n : ℕ) → tally k names n ≤ n
@@ -151,34 +148,34 @@ limited-rel d a e n c l few h k =
     limited-added d a e (n + 1) c l few (omega arith) (omega (arith, l.states)) (omega arith)
 
 -- THE END OF A DECLARATION
-module _ (text : List ℕ) (d : Declared) (at e : ℕ) (h : name (drop at text) ≡ some (slice at e text, drop e text)) (k : after (bytes ")") (drop e text) ≡ some (drop (e + 1) text)) where
-  abbrev w : Word
-  w = slice at e text
-
-  state-reads : state_rest (drop at text) ≡ some (forms.state_form w, drop (e + 1) text)
+module _ (text : List ℕ) (at e : ℕ) (h : name (drop at text) ≡ some (slice at e text, drop e text)) (k : after (bytes ")") (drop e text) ≡ some (drop (e + 1) text)) where
+  state-reads : state_rest (drop at text) ≡ some (forms.state_form (slice at e text), drop (e + 1) text)
   unfolding state_rest
   state-reads = rw (h, k)
 
   pub state-part : e < length text → (e + 1 ≡ length text → ⊥) → whole (state_rest (drop at text)) ≡ none
-  state-part l q = rw state-reads (whole_part (forms.state_form w) text (e + 1) (omega arith))
+  state-part l q = rw state-reads (whole_part (forms.state_form (slice at e text)) text (e + 1) (omega arith))
 
-  module _ (q : e + 1 ≡ length text) where
-    state-whole : whole (state_rest (drop at text)) ≡ some (forms.state_form w)
-    state-whole = rw state-reads (whole-all (forms.state_form w) text (e + 1) (omega arith))
+  pub state-whole : e + 1 ≡ length text → whole (state_rest (drop at text)) ≡ some (forms.state_form (slice at e text))
+  state-whole q = rw state-reads (whole-all (forms.state_form (slice at e text)) text (e + 1) (omega arith))
 
-    pub state-faulty : (x : Row) → number_of x ≡ state_number (declared_of text d) w → DeclarationEnd text d (state_rest (drop at text)) (Err x)
-    unfolding state_number fault
-    state-faulty x z = shaped (forms.state_form w) state-whole (λ c. z) tt
+module _ {text : List ℕ} {d : Declared} {at e : ℕ} (s : StateAt text at e) where
+  pub state-faulty : (x : Row) → number_of x ≡ state_number (declared_of text d) (slice at e text) → DeclarationEnd text d (state_rest (drop at text)) (Err x)
+  unfolding state_number fault
+  state-faulty x z = shaped (forms.state_form (slice at e text)) s.read (λ c. z) tt
 
-    pub state-added : {r : Declared} → Valid text d → Limited d → at ≤ e → e ≤ length text → state_number (declared_of text d) w ≡ 0 → tally 0 d.names d.count < limit.states → Entered d at e 0 r
-        → DeclarationEnd text d (state_rest (drop at text)) (Ok r)
-    unfolding state_number fault declare
-    state-added v l b c z f en = let few = room text d at e v l b c (inl f) in
-        shaped (forms.state_form w) state-whole (λ cl. sym z) (record {
-          valid = rw en (entered-valid text d at e v l b c 0 few (omega arith));
-          limited = rw en (limited-state d at e v.names l few f);
-          declared = rw en (entered-names text d at e v l b c 0 few ∙ rw (tally-count text d 0) (let y : 32 * 0 + tally 0 d.names d.count ≡ tally 0 d.names d.count = omega arith in rw y));
-        })
+  pub state-added : {r : Declared} → Valid text d → Limited d → state_number (declared_of text d) (slice at e text) ≡ 0 → tally 0 d.names d.count < limit.states → Entered d at e 0 r
+      → DeclarationEnd text d (state_rest (drop at text)) (Ok r)
+  unfolding state_number fault declare
+  state-added v l z f en =
+      let b : at ≤ e = omega (arith, s.begins) in
+      let c : e ≤ length text = omega (arith, s.ends) in
+      let few = room text d at e v l b c (inl f) in
+      shaped (forms.state_form (slice at e text)) s.read (λ cl. sym z) (record {
+        valid = rw en (entered-valid text d at e v l b c 0 few (omega arith));
+        limited = rw en (limited-state d at e v.names l few f);
+        declared = rw en (entered-names text d at e v l b c 0 few ∙ rw (tally-count text d 0) (let y : 32 * 0 + tally 0 d.names d.count ≡ tally 0 d.names d.count = omega arith in rw y));
+      })
 
 -- the state relations are few where the number is none
 pub state-few : (text : List ℕ) (d : Declared) (u : Word) → state_number (declared_of text d) u ≡ 0 → tally 0 d.names d.count < limit.states
@@ -186,11 +183,6 @@ unfolding state_number
 state-few text d u z = ⊎_elim
     (λ (q : leb limit.states (count 0 (declared_of text d)) ≡ true). absurd (let y = rw (q, crowded (again (lookup u (declared_of text d)))) at z in omega arith))
     (λ (q : leb limit.states (count 0 (declared_of text d)) ≡ false). let y = leb-false limit.states (count 0 (declared_of text d)) q in omega (arith, tally-count text d 0)) (cases_Bool (leb limit.states (count 0 (declared_of text d))))
-
--- THE ARITY
-module _ (text : List ℕ) (at : ℕ) where
-  pub arity-past : length text ≤ at → arity (drop at text) ≡ none
-  arity-past h = rw (nothing text at h)
 
 -- `rel`
 pub rel-few : (text : List ℕ) (d : Declared) (u : Word) (n : ℕ) → rel_number (declared_of text d) u n ≡ 0 → tally 1 d.names d.count + tally 2 d.names d.count + tally 3 d.names d.count < limit.rels
@@ -201,11 +193,8 @@ rel-few text d u n z =
     ⊎_elim (λ (q : leb limit.rels s ≡ true). absurd (let y = rw (q, crowded (again (lookup u D))) at z in omega arith))
     (λ (q : leb limit.rels s ≡ false). let y = leb-false limit.rels s q in omega (arith, tally-count text d 1, tally-count text d 2, tally-count text d 3)) (cases_Bool (leb limit.rels s))
 
-module _ (text : List ℕ) (d : Declared) (at e n : ℕ) (h : name (drop at text) ≡ some (slice at e text, drop e text)) (k : after (bytes " ") (drop e text) ≡ some (drop (e + 1) text))
+module _ (text : List ℕ) (at e n : ℕ) (h : name (drop at text) ≡ some (slice at e text, drop e text)) (k : after (bytes " ") (drop e text) ≡ some (drop (e + 1) text))
     (a : arity (drop (e + 1) text) ≡ some (n, drop (e + 1 + 1) text)) where
-  abbrev v : Word
-  v = slice at e text
-
   shift : e + 1 + 1 ≡ e + 2
   shift = omega arith
 
@@ -214,28 +203,31 @@ module _ (text : List ℕ) (d : Declared) (at e n : ℕ) (h : name (drop at text
   rel-unclosed b = rw (h, k, a, shift, b)
 
   module _ (b : after (bytes ")") (drop (e + 2) text) ≡ some (drop (e + 2 + 1) text)) where
-    rel-reads : rel_rest (drop at text) ≡ some (forms.rel_form v n, drop (e + 3) text)
+    rel-reads : rel_rest (drop at text) ≡ some (forms.rel_form (slice at e text) n, drop (e + 3) text)
     unfolding rel_rest
     rel-reads = let z : e + 2 + 1 ≡ e + 3 = omega arith in rw (h, k, a, shift, b, z)
 
     pub rel-part : e + 2 < length text → (e + 3 ≡ length text → ⊥) → whole (rel_rest (drop at text)) ≡ none
-    rel-part l q = rw rel-reads (whole_part (forms.rel_form v n) text (e + 3) (omega arith))
+    rel-part l q = rw rel-reads (whole_part (forms.rel_form (slice at e text) n) text (e + 3) (omega arith))
 
-    module _ (q : e + 3 ≡ length text) where
-      rel-whole : whole (rel_rest (drop at text)) ≡ some (forms.rel_form v n)
-      rel-whole = rw rel-reads (whole-all (forms.rel_form v n) text (e + 3) (omega arith))
+    pub rel-whole : e + 3 ≡ length text → whole (rel_rest (drop at text)) ≡ some (forms.rel_form (slice at e text) n)
+    rel-whole q = rw rel-reads (whole-all (forms.rel_form (slice at e text) n) text (e + 3) (omega arith))
 
-      pub rel-faulty : (x : Row) → number_of x ≡ rel_number (declared_of text d) v n → DeclarationEnd text d (rel_rest (drop at text)) (Err x)
-      unfolding rel_number fault
-      rel-faulty x z = shaped (forms.rel_form v n) rel-whole (λ c. z) tt
+module _ {text : List ℕ} {d : Declared} {at e n : ℕ} (s : RelAt text at e n) where
+  pub rel-faulty : (x : Row) → number_of x ≡ rel_number (declared_of text d) (slice at e text) n → DeclarationEnd text d (rel_rest (drop at text)) (Err x)
+  unfolding rel_number fault
+  rel-faulty x z = shaped (forms.rel_form (slice at e text) n) s.read (λ c. z) tt
 
-      pub rel-added : {r : Declared} → n ≤ 2 → Valid text d → Limited d → at ≤ e → e ≤ length text → rel_number (declared_of text d) v n ≡ 0
-          → tally 1 d.names d.count + tally 2 d.names d.count + tally 3 d.names d.count < limit.rels → Entered d at e (n + 1) r
-          → DeclarationEnd text d (rel_rest (drop at text)) (Ok r)
-      unfolding rel_number fault declare
-      rel-added m vd l b' c z f en = let few = room text d at e vd l b' c (inr f) in
-          shaped (forms.rel_form v n) rel-whole (λ cl. sym z) (record {
-            valid = rw en (entered-valid text d at e vd l b' c (n + 1) few (omega arith));
-            limited = rw en (limited-rel d at e n vd.names l few m f);
-            declared = rw en (entered-names text d at e vd l b' c (n + 1) few ∙ rw (tally-count text d (n + 1)));
-          })
+  pub rel-added : {r : Declared} → Valid text d → Limited d → rel_number (declared_of text d) (slice at e text) n ≡ 0
+      → tally 1 d.names d.count + tally 2 d.names d.count + tally 3 d.names d.count < limit.rels → Entered d at e (n + 1) r
+      → DeclarationEnd text d (rel_rest (drop at text)) (Ok r)
+  unfolding rel_number fault declare
+  rel-added vd l z f en =
+      let b : at ≤ e = omega (arith, s.begins) in
+      let c : e ≤ length text = omega (arith, s.ends) in
+      let few = room text d at e vd l b c (inr f) in
+      shaped (forms.rel_form (slice at e text) n) s.read (λ cl. sym z) (record {
+        valid = rw en (entered-valid text d at e vd l b c (n + 1) few (omega (arith, s.small)));
+        limited = rw en (limited-rel d at e n vd.names l few s.small f);
+        declared = rw en (entered-names text d at e vd l b c (n + 1) few ∙ rw (tally-count text d (n + 1)));
+      })

@@ -1,10 +1,11 @@
 -- What the readers of declarations find.
 use Rattle.std.specs.Prelude.{◌≡◌, List, ℕ, ◌+◌, ◌*◌, ◌-◌, ◌≤◌, ◌<◌, length, drop, Result}
 use Rattle.std.proofs.Math.Option.{some}
+use Rattle.std.proofs.Math.Seq.{slice}
 use Rattle.limits.specs.Limits as limit
 use Rattle.grammar.specs.Bytes.{Word}
 use Rattle.grammar.specs.Forms as forms
-use Rattle.grammar.specs.Shapes.{Read, arity}
+use Rattle.grammar.specs.Shapes.{Read, arity, state_rest, rel_rest, whole}
 use Rattle.grammar.specs.Declarations as grammar
 use Rattle.grammar.specs.Declarations.{lookup}
 use Rattle.grammar.specs.Rows.{lower, row, again, many_states, many_relations, fault}
@@ -49,3 +50,16 @@ pub record ArityAt (text : List ℕ) (at r : ℕ) : Type 0 where
   pub small : r ≤ 2
   pub within : at < length text
   pub read : arity (drop at text) ≡ some (r, drop (at + 1) text)
+
+-- the `state` line that is next, whose name ends at e
+pub record StateAt (text : List ℕ) (at e : ℕ) : Type 0 where
+  pub begins : at < e
+  pub ends : e < length text
+  pub read : whole (state_rest (drop at text)) ≡ some (forms.state_form (slice at e text))
+
+-- the `rel` line that is next, whose name ends at e, with the arity n
+pub record RelAt (text : List ℕ) (at e n : ℕ) : Type 0 where
+  pub begins : at < e
+  pub ends : e < length text
+  pub small : n ≤ 2
+  pub read : whole (rel_rest (drop at text)) ≡ some (forms.rel_form (slice at e text) n)

@@ -5,10 +5,10 @@ ghost use Rattle.std.specs.Prelude.{◌≡◌, ◌+◌, ◌≤◌, ◌<◌, leng
 ghost use Rattle.std.proofs.Math.Option.{none};
 ghost use Rattle.std.proofs.Math.Seq.{slice};
 ghost use Rattle.limits.specs.Limits as limit;
-ghost use Rattle.grammar.specs.Shapes.{arity, state_rest, rel_rest};
+ghost use Rattle.grammar.specs.Shapes.{arity, state_rest, rel_rest, whole};
 ghost use Rattle.text_faults.specs.Faults.{fault_in};
 ghost use Rattle.text_names.specs.Names as names;
-ghost use Rattle.text_declarations.specs.Declares.{Limited, state_number, rel_number, Entered, ArityAt, DeclarationEnd};
+ghost use Rattle.text_declarations.specs.Declares.{Limited, state_number, rel_number, Entered, ArityAt, StateAt, RelAt, DeclarationEnd};
 
 use limits::{PAIRS, RELS, STATES};
 use rows::Row;
@@ -23,7 +23,7 @@ fn state_room(text: &[u8], d: Declared, a: usize, e: usize) -> Result<(), Row>
     if STATES <= text_names::tally_of(d, 0) {
         return Err(Row::Count);
     }
-    if let Some(_) = text_names::find(text, d, a, e) {
+    if text_names::find(text, d, a, e).is_some() {
         return Err(Row::Again);
     }
     Ok(())
@@ -43,7 +43,7 @@ fn rel_room(text: &[u8], d: Declared, a: usize, e: usize, n: u32) -> Result<(), 
     if n == 2 && PAIRS <= pairs {
         return Err(Row::Count);
     }
-    if let Some(_) = text_names::find(text, d, a, e) {
+    if text_names::find(text, d, a, e).is_some() {
         return Err(Row::Again);
     }
     Ok(())
@@ -68,13 +68,23 @@ fn enter(d: Declared, a: usize, e: usize, class: u32) -> Declared
 fn arity_at(text: &[u8], at: usize) -> Option<u32>
     ensures { MatchOption result (arity (drop at text.now) ≡ none) (ArityAt text.now at) }
 {
-    if text.len() <= at {
-        return None;
-    }
-    match text[at] {
+    match *text.get(at)? {
         b @ b'0'..=b'2' => Some((b - b'0') as u32),
         _ => None,
     }
+}
+
+// Where the name of a `state` line ends, if the line has that shape up to its end.
+// The text and the place stay two parameters: `text_scan` says why.
+fn state_end(text: &[u8], at: usize) -> Option<usize>
+    requires { at ≤ length text.now }
+    ensures { MatchOption result (whole (state_rest (drop at text.now)) ≡ none) (StateAt text.now at) }
+{
+    let e = text_scan::name_end(text, at)?;
+    if !text_scan::at_byte(text, e, b')') || e + 1 != text.len() {
+        return None;
+    }
+    Some(e)
 }
 
 // `(state A)`.
@@ -82,17 +92,26 @@ pub fn read_state(text: &[u8], d: Declared, at: usize) -> Result<Declared, Row>
     requires { (at ≤ length text.now) × (length text.now < 4294967296) × names.Valid text.now d × Limited d }
     ensures { DeclarationEnd text.now d (state_rest (drop at text.now)) result }
 {
-    let Some(e) = text_scan::name_end(text, at) else {
-        return Err(Row::Shape);
-    };
-    if !text_scan::at_byte(text, e, b')') {
-        return Err(Row::Shape);
-    }
-    if e + 1 != text.len() {
-        return Err(Row::Shape);
-    }
+    let e = state_end(text, at).ok_or(Row::Shape)?;
     state_room(text, d, at, e)?;
     Ok(enter(d, at, e, 0))
+}
+
+// Where the name of a `rel` line ends, and its arity, if the line has that shape up to its end.
+// The text and the place stay two parameters: `text_scan` says why.
+fn rel_end(text: &[u8], at: usize) -> Option<(usize, u32)>
+    requires { at ≤ length text.now }
+    ensures { MatchOption result (whole (rel_rest (drop at text.now)) ≡ none) (λ p. RelAt text.now at p.0 p.1) }
+{
+    let e = text_scan::name_end(text, at)?;
+    if !text_scan::at_byte(text, e, b' ') {
+        return None;
+    }
+    let n = arity_at(text, e + 1)?;
+    if !text_scan::at_byte(text, e + 2, b')') || e + 3 != text.len() {
+        return None;
+    }
+    Some((e, n))
 }
 
 // `(rel R n)`.
@@ -100,21 +119,7 @@ pub fn read_rel(text: &[u8], d: Declared, at: usize) -> Result<Declared, Row>
     requires { (at ≤ length text.now) × (length text.now < 4294967296) × names.Valid text.now d × Limited d }
     ensures { DeclarationEnd text.now d (rel_rest (drop at text.now)) result }
 {
-    let Some(e) = text_scan::name_end(text, at) else {
-        return Err(Row::Shape);
-    };
-    if !text_scan::at_byte(text, e, b' ') {
-        return Err(Row::Shape);
-    }
-    let Some(n) = arity_at(text, e + 1) else {
-        return Err(Row::Shape);
-    };
-    if !text_scan::at_byte(text, e + 2, b')') {
-        return Err(Row::Shape);
-    }
-    if e + 3 != text.len() {
-        return Err(Row::Shape);
-    }
+    let (e, n) = rel_end(text, at).ok_or(Row::Shape)?;
     rel_room(text, d, at, e, n)?;
     Ok(enter(d, at, e, n + 1))
 }

@@ -45,9 +45,7 @@ pub fn state_code(code: Option<u32>) -> Result<u32, Row>
 pub fn head_code(code: Option<u32>, n: usize) -> Result<u32, Row>
     ensures { Coded (head_fault (found code) n) code result }
 {
-    let Some(c) = code else {
-        return Err(Row::Kind);
-    };
+    let c = code.ok_or(Row::Kind)?;
     if c < 32 {
         return Err(Row::Kind);
     }
@@ -62,9 +60,7 @@ pub fn head_code(code: Option<u32>, n: usize) -> Result<u32, Row>
 pub fn literal_code(negated: bool, code: Option<u32>, n: usize) -> Result<u32, Row>
     ensures { Coded (sign_fault negated (found code) n) code result }
 {
-    let Some(c) = code else {
-        return Err(Row::Kind);
-    };
+    let c = code.ok_or(Row::Kind)?;
     if n != arity(c) as usize {
         return Err(Row::Arity);
     }

@@ -3,7 +3,6 @@ use mathlib.Core.Path.{◌≡◌, subst}
 use mathlib.Core.List.{List, [], ◌∷◌}
 use mathlib.Core.Option.{Option, none, some}
 use Prim.Native.Nat.{ℕ}
-use native.Mathlib.Omega.{arith}
 use Rattle.grammar.specs.Bytes.{bytes, Word}
 use Rattle.grammar.specs.Forms.{Atom, Literal, Form, state_form, rel_form, rule_form, new_form, next_form}
 use Rattle.grammar.specs.Shapes.{Read, ◌>>=◌, after, whether, name, arity, atom, list, body, whole, state_rest, rel_rest, rule_rest, new_rest, next_rest}

@@ -82,9 +82,9 @@ module _ {text : List ℕ} {d : Declared} {m : Model} {P : Program} (n : ℕ) {r
   clause-storable (unshaped w q) = absurd (ok-err q)
   clause-storable (shaped form w q g) = clause-room n so v li g q
 
-  clause-refused : (x : Row) (d' : Declared) (m' : Model) → ClauseEnd (declared_of text d) m.clausecount read (Err x) → Stepped text d P n read (Err x) d' m'
-  clause-refused x d' m' (unshaped w q) = unshaped w (ap Err (row-same q))
-  clause-refused x d' m' (shaped form w q g) = shaped form w (q ∙ ap (λ (k : ℕ). fault (declared_of text d) k form) so.count) tt
+  clause-refused : (x : Row) → ClauseEnd (declared_of text d) m.clausecount read (Err x) → Stepped text d P n read (Err x) d m
+  clause-refused x (unshaped w q) = unshaped w (ap Err (row-same q))
+  clause-refused x (shaped form w q g) = shaped form w (q ∙ ap (λ (k : ℕ). fault (declared_of text d) k form) so.count) tt
 
   clause-accepted : {r : Reading} → ClauseEnd (declared_of text d) m.clausecount read (Ok r) → Stepped text d P n read (Ok tt) d (with_clause m n r.action r.frame)
   clause-accepted (unshaped w q) = absurd (ok-err q)
@@ -99,9 +99,9 @@ clause-aside n action f = record { relations = refl; names = refl; stages = refl
 
 -- A DECLARATION leaves the program
 module _ {text : List ℕ} {d : Declared} {m : Model} {P : Program} {n : ℕ} {read : Read Form} (so : stored.Holds m P) (h : Only (λ f. clause (declared_of text d) n f ≡ []) read) where
-  declaration-refused : (x : Row) (d' : Declared) (m' : Model) → DeclarationEnd text d read (Err x) → Stepped text d P n read (Err x) d' m'
-  declaration-refused x d' m' (unshaped w q) = unshaped w (ap Err (row-same q))
-  declaration-refused x d' m' (shaped form w q g) = shaped form w (q (length P)) tt
+  declaration-refused : (x : Row) → DeclarationEnd text d read (Err x) → Stepped text d P n read (Err x) d m
+  declaration-refused x (unshaped w q) = unshaped w (ap Err (row-same q))
+  declaration-refused x (shaped form w q g) = shaped form w (q (length P)) tt
 
   declaration-step : {r : Declared} → DeclarationEnd text d read (Ok r) → Stepped text d P n read (Ok tt) r m
   declaration-step (unshaped w q) = absurd (ok-err q)
@@ -149,19 +149,19 @@ line-none s a b c d e f = rw (a, b, c, d, e, f)
 
 -- THE LINE. One that declares
 module _ {text : List ℕ} {at : ℕ} {d : Declared} {m : Model} {n : ℕ} (read : Read Form) (only : Only (λ f. clause (declared_of text d) n f ≡ []) read) (h : line (drop at text) ≡ read) where
-  pub line-undeclared : (x : Row) (d' : Declared) (m' : Model) → DeclarationEnd text d read (Err x) → LineEnd text at d m n (Err x) d' m'
-  line-undeclared x d' m' e = record { steps = λ y P so. rw h (declaration-refused so only x d' m' e); aside = tt }
+  pub line-undeclared : (x : Row) → DeclarationEnd text d read (Err x) → LineEnd text at d m n (Err x) d m
+  line-undeclared x e = record { steps = λ y P so. rw h (declaration-refused so only x e); aside = none-aside; unwritten = (refl, refl) }
 
   pub line-declared : {r : Declared} → DeclarationEnd text d read (Ok r) → LineEnd text at d m n (Ok tt) r m
-  line-declared e = record { steps = λ y P so. rw h (declaration-step so only e); aside = none-aside }
+  line-declared e = record { steps = λ y P so. rw h (declaration-step so only e); aside = none-aside; unwritten = tt }
 
 -- one that has a clause
 module _ {text : List ℕ} (at : ℕ) {d : Declared} {m : Model} (n : ℕ) (v : Valid text d) (li : Limited d) where
-  pub line-refused : (x : Row) (d' : Declared) (m' : Model) → ClauseRead text at d m.clausecount (Err x) → LineEnd text at d m n (Err x) d' m'
-  line-refused x d' m' e = record { steps = λ y P so. clause-refused n so v li x d' m' (e (λ q. y (ap Err (row-same q)))); aside = tt }
+  pub line-refused : (x : Row) → ClauseRead text at d m.clausecount (Err x) → LineEnd text at d m n (Err x) d m
+  line-refused x e = record { steps = λ y P so. clause-refused n so v li x (e (λ q. y (ap Err (row-same q)))); aside = none-aside; unwritten = (refl, refl) }
 
   pub line-stored : {r : Reading} → ClauseRead text at d m.clausecount (Ok r) → LineEnd text at d m n (Ok tt) d (with_clause m n r.action r.frame)
-  line-stored {r} e = record { steps = λ y P so. clause-accepted n so v li (e ok-err); aside = clause-aside n r.action r.frame }
+  line-stored {r} e = record { steps = λ y P so. clause-accepted n so v li (e ok-err); aside = clause-aside n r.action r.frame; unwritten = tt }
 
   pub line-storable : {r : Reading} {P : Program} → stored.Holds m P → ClauseRead text at d m.clausecount (Ok r) → (m.clausecount < limit.clauses) × (m.literalcount + r.frame.size ≤ limit.literals) × (r.frame.size ≤ limit.body) × (r.frame.scope.count ≤ limit.variables)
   line-storable so e = clause-storable n so v li (e ok-err)

@@ -1,5 +1,5 @@
 -- What a line that is no `ask` line does.
-use Rattle.std.specs.Prelude.{◌≡◌, List, ◌++◌, ℕ, length, drop, Result, Err, IfOk}
+use Rattle.std.specs.Prelude.{◌≡◌, List, ◌++◌, ℕ, length, drop, Result, Err, IfErr}
 use Rattle.std.proofs.Math.Option.{none}
 use Rattle.semantics.specs.Models.{Program}
 use Rattle.grammar.specs.Bytes.{bytes}
@@ -47,7 +47,8 @@ pub record ClauseAt (text : List ℕ) (at : ℕ) : Type 0 where
 abbrev pub ClauseRead : List ℕ → ℕ → Declared → ℕ → Result Reading Row → Type 0
 ClauseRead text at d clauses r = (r ≡ Err Shape → after (bytes "(ask ") (drop at text) ≡ none) → ClauseEnd (declared_of text d) clauses (line (drop at text)) r
 
--- the line from place `at` on, which is no `ask` line if it has row 3
+-- the line from place `at` on, which is no `ask` line if it has row 3; nothing is written before a refusal
 pub record LineEnd (text : List ℕ) (at : ℕ) (d : Declared) (m : Model) (n : ℕ) (r : Result (Unit {0}) Row) (d' : Declared) (m' : Model) : Type 0 where
   pub steps : (r ≡ Err Shape → after (bytes "(ask ") (drop at text) ≡ none) → (P : Program) → stored.Holds m P → Stepped text d P n (line (drop at text)) r d' m'
-  pub aside : IfOk r (λ _. Aside m m')
+  pub aside : Aside m m'
+  pub unwritten : IfErr r (λ _. (d' ≡ d) × (m' ≡ m))

@@ -14,7 +14,8 @@ use text_clauses::Reading;
 use text_names::Declared;
 
 // The clause of the line that is next, which declares nothing, up to the end of the text.
-// The tests stay a chain, here and in `read_line`: each word has a reader of its own, and a table of words would need a `match` on the place found.
+// The tests stay a chain, here and in `read_line`: each word has a reader of its own, and a table of words would need a `match` on the place found. The text and the place stay two parameters: `text_scan` says why.
+// The places behind the first words stay numbers: `strip_prefix` would give the rest of the line, and names keep their place in the whole text.
 fn read_clause(text: &[u8], at: usize, d: Declared, clauses: usize) -> Result<Reading, Row>
     requires { (at ≤ length text.now) × (length text.now < 4294967296) × names.Valid text.now d × ClauseAt text.now at }
     ensures { ClauseRead text.now at d clauses result }
@@ -33,6 +34,7 @@ fn read_clause(text: &[u8], at: usize, d: Declared, clauses: usize) -> Result<Re
 
 // The line that is next, up to the end of the text: its declaration or clause is added.
 // The text and the place stay two parameters: `text_scan` says why.
+// The places behind the first words stay numbers, as in `read_clause`.
 pub fn read_line(
     text: &[u8],
     at: usize,

@@ -9,12 +9,10 @@ use mathlib.Core.List as seq
 use mathlib.Core.List.{[], ◌∷◌, ◌++◌, map, append_assoc, append-nil}
 use mathlib.Core.Option.{none, some}
 use Prim.Native.Nat.{ℕ, ◌+◌, ◌-◌, ◌*◌, ◌%◌, ◌^◌, ◌≤◌, ◌<◌}
-use native.Mathlib.Nat.{one-mul, mod-eq_of_lt}
 use native.Mathlib.Omega.{arith}
 use lib.Dec.{eqb}
 use lib.Bits.{bit_or, or_zero_r}
 use lib.ListN.{length, drop}
-use lib.Pow.{pow-lt}
 use lib.Seq.{slice}
 use borrow.Author.Tests.{ltb-true}
 use Rattle.limits.specs.Limits as limit

@@ -37,6 +37,8 @@ fn is_named(text: &[u8], n: Name, word: &[u8]) -> bool
 }
 
 // The code of the name from a to e, if it is declared.
+// The search stays beside that of `text_scope`: a name stands by its start and length, as the model keeps it, a variable by its start and end, so that one search for both would take a closure from a place to its bytes, and save the one line that each has.
+// The search stays over places: the grammar's names are a list by place here, so that the place that `find` gives is what the lookup is shown by.
 pub fn find(text: &[u8], d: Declared, a: usize, e: usize) -> Option<u32>
     requires { Valid text.now d × (a ≤ e) × (e ≤ length text.now) }
     ensures { IfSome result (λ c. c < 128) × (lookup (slice a e text.now) (declared_of text.now d) ≡ found result) }

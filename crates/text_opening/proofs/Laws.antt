@@ -1,19 +1,15 @@
 -- What the blank record holds, and the record with the declared names.
-use mathlib.Core.Path.{◌≡◌, refl, sym, ap, ◌∙◌}
-use mathlib.Core.Logic.{⊎_elim}
-use mathlib.Core.Bool.{true, false}
+use mathlib.Core.Path.{◌≡◌, refl, sym, subst, ◌∙◌}
 use mathlib.Core.List.{List, [], ◌∷◌, map, map-append}
 use Prim.Native.Nat.{ℕ, zero, suc, ◌+◌, ◌≤◌, ◌<◌}
 use native.Mathlib.Omega.{arith}
-use lib.Dec.{eqb}
-use lib.ListN.{length, take, get_or, set, get_or-map, length-map, length-set}
-use lib.Seq.{take-suc, get_or-set_same, get_or-set_other, ext_get_or}
-use borrow.Author.Tests.{eqb-true, eqb-false}
-use Rattle.std.proofs.lemmas.Bool.{cases_Bool}
+use denote.Param.Members.{Mut, Called}
+use lib.ListN.{length, take, get_or, get_or-map, length-map}
+use lib.Seq.{take-suc, ext_get_or}
+use Rattle.std.specs.Array.{IsFromFnResultFrom, IsFromFnResult}
 use Rattle.limits.specs.Limits as limit
 use Rattle.semantics.specs.Models.{Program}
 use Rattle.model.specs.Records.{program_of}
-use Rattle.model.specs.declared.Name as models
 use Rattle.model.specs.declared.Model.{Model}
 use Rattle.acceptance.specs.Represents.{codes_of}
 use Rattle.text_names.specs.Rows.{list_of}
@@ -24,7 +20,7 @@ use Rattle.text_names.proofs.Laws.{length-list_of}
 use Rattle.text_record.specs.Stored as stored
 use Rattle.text_stages.specs.Questions as questions
 use Rattle.text_ask.proofs.Represented.{Before}
-use Rattle.text_opening.specs.Openings.{blank, place_of, fitted}
+use Rattle.text_opening.specs.Openings.{blank, fitted}
 
 -- the blank record holds no clause
 pub blank-program : program_of blank ≡ []
@@ -58,52 +54,26 @@ declared-codes text d v = go d.count (let c = v.count in omega (arith, v.names))
     go zero h = refl
     go (suc n) h = map-append (λ e. e.1) (list_of n (entry text d)) (entry text d n ∷ []) ∙ rw (go n (omega arith), take-suc (map (λ (x : Name). x.code) d.names) n 0 (rw length-map (omega arith)), code-at n)
 
--- a row of the record has what f says of the first i names
-pub record Column {X : Type 0} (d : Declared) (f : Name → X) (row : List X) (i : ℕ) : Type 0 where
-  pub long : length row ≡ limit.declared
-  pub same : (j : ℕ) → j < i → get_or row j (f no_name) ≡ f (name_at d j)
+-- AN ARRAY MADE BY CALLS THAT LEAVE THE CLOSURE AS IT WAS.
+module _ {F B : Type 0} (g : Mut F (ℕ × Unit {0}) B) (P : ℕ → B → Type 0) (f : F) (h : (i : ℕ) (r : B) (q : F) → Called g f (i, tt) r q → P i r × (q ≡ f)) where
+  made-from : (n i k m : ℕ) (p : F) (ys : List B) (d : B) → p ≡ f → IsFromFnResultFrom g p ys i n → k < n → m ≡ i + k → P m (get_or ys m d)
+  made-from zero i k m p ys d e y l s = absurd (omega arith)
+  made-from (suc n) i zero m p ys d e y l s =
+      let c = h i y.1 y.0 (subst (λ (x : F). Called g x (i, tt) y.1 y.0) e y.3) in
+      let t : i ≡ m = omega arith in
+      subst (λ (v : ℕ). P v (get_or ys v d)) t (subst (P i) (sym (y.2.1 d)) c.0)
+  made-from (suc n) i (suc k) m p ys d e y l s =
+      let c = h i y.1 y.0 (subst (λ (x : F). Called g x (i, tt) y.1 y.0) e y.3) in
+      made-from n (i + 1) k m y.0 ys d c.1 y.4 (omega arith) (omega arith)
 
-module _ {X : Type 0} {d : Declared} (f : Name → X) {row : List X} where
-  pub column-start : length row ≡ limit.declared → Column d f row 0
-  column-start l = record { long = l; same = λ j h. absurd (omega arith) }
+  -- what each call gives holds of the element made by it
+  made-each : (ys : List B) (n : ℕ) → IsFromFnResult g f ys n → (i : ℕ) (d : B) → i < n → P i (get_or ys i d)
+  made-each ys n y i d l = made-from n 0 i i f ys d refl y.each l (omega arith)
 
-  pub column-more : {i : ℕ} → Column d f row i → i < limit.declared → Column d f (set row i (f (name_at d i))) (i + 1)
-  column-more {i} so h = record {
-    long = length-set row i (f (name_at d i)) ∙ so.long;
-    same = λ j l. ⊎_elim
-        (λ (q : eqb j i ≡ true). rw (eqb-true j i q) (get_or-set_same row i (f (name_at d i)) (f no_name) (omega (arith, so.long))))
-        (λ (q : eqb j i ≡ false). let z = eqb-false j i q in get_or-set_other row i j (f (name_at d i)) (f no_name) z ∙ so.same j (omega arith))
-        (cases_Bool (eqb j i));
-  }
-
-  pub column-all : {i : ℕ} → Column d f row i → i ≡ limit.declared → length d.names ≡ limit.declared → row ≡ map f d.names
-  column-all so e l = ext_get_or (f no_name) row (map f d.names) (so.long ∙ sym (length-map d.names f ∙ l))
-      (λ j h. so.same j (omega (arith, so.long)) ∙ sym (get_or-map f d.names j no_name))
-
--- the record m₀ with these rows, for a text of n lines
-abbrev pub with_rows : Model → Declared → ℕ → List ℕ → List models.Name → Model
-with_rows m₀ d n codes names = record m₀ { relations = record { codes = codes; count = d.count }; names = names; lines = n }
-
--- the record m after the first i names
-pub record Fitting (m₀ : Model) (d : Declared) (n i : ℕ) (m : Model) : Type 0 where
-  pub codes : Column d (λ x. x.code) m.relations.codes i
-  pub names : Column d place_of m.names i
-  pub rest : m ≡ with_rows m₀ d n m.relations.codes m.names
-
--- the record m with one name more in these rows
-abbrev pub next_row : Model → List ℕ → List models.Name → Model
-next_row m codes names = record m { relations = record { codes = codes; count = m.relations.count }; names = names }
-
-module _ {m₀ : Model} {d : Declared} {n i : ℕ} {m : Model} (so : Fitting m₀ d n i m) where
-  pub fitting-more : i < limit.declared → Fitting m₀ d n (i + 1) (next_row m (set m.relations.codes i (name_at d i).code) (set m.names i (place_of (name_at d i))))
-  fitting-more h = record {
-    codes = column-more (λ (x : Name). x.code) so.codes h;
-    names = column-more place_of so.names h;
-    rest = ap (λ (x : Model). next_row x (set m.relations.codes i (name_at d i).code) (set m.names i (place_of (name_at d i)))) so.rest;
-  }
-
-  pub fitting-all : i ≡ limit.declared → length d.names ≡ limit.declared → m ≡ fitted m₀ d n
-  fitting-all e l = so.rest ∙ rw (column-all (λ (x : Name). x.code) so.codes e l, column-all place_of so.names e l)
+-- a row made of the declared names by a closure that answers f of each
+pub made-row : {X F : Type 0} (d : Declared) (f : Name → X) (g : Mut F (ℕ × Unit {0}) X) (c : F) → ((i : ℕ) (r : X) (q : F) → Called g c (i, tt) r q → (r ≡ f (name_at d i)) × (q ≡ c)) → (row : List X) → IsFromFnResult g c row limit.declared → length d.names ≡ limit.declared → row ≡ map f d.names
+made-row d f g c h row y l = ext_get_or (f no_name) row (map f d.names) (y.long ∙ sym (length-map d.names f ∙ l))
+    (λ j z. made-each g (λ i r. r ≡ f (name_at d i)) c h row limit.declared y j (f no_name) (omega (arith, y.long)) ∙ sym (get_or-map f d.names j no_name))
 
 -- AT THE `ask` LINE, in a text of n lines
 module _ {m : Model} {P : Program} (d : Declared) (n : ℕ) (so : stored.Holds m P) where

@@ -6,6 +6,7 @@ ghost use Rattle.text_opening.specs.Openings.{blank as blank_record, fitted};
 
 use limits::{CARRIED, CLAUSES, DECLARED, LITERALS, NONE, STAGES, VARIABLES};
 use model::{Action, Clause, Model, Name, Relations, Stage};
+use std::array;
 use text_names::Declared;
 
 // A record without clauses and stages.
@@ -49,17 +50,12 @@ pub fn fit(m: &mut Model, d: Declared, n: u32)
     ensures { m.new ≡ fitted m.old d n }
 {
     m.relations = Relations {
-        codes: [0u32; DECLARED],
+        codes: array::from_fn(|i| d.names[i].code),
         count: d.count,
     };
-    m.names = [Name { start: 0, len: 0 }; DECLARED];
+    m.names = array::from_fn(|i| Name {
+        start: d.names[i].start,
+        len: d.names[i].len,
+    });
     m.lines = n;
-    for i in 0..DECLARED {
-        let name = d.names[i];
-        m.relations.codes[i] = name.code;
-        m.names[i] = Name {
-            start: name.start,
-            len: name.len,
-        };
-    }
 }

@@ -5,7 +5,7 @@ use mathlib.Core.Bool.{Bool, true, false, not, ◌&&◌, ◌||◌, and-true, and
 use Rattle.std.proofs.lemmas.Bool.{cases_Bool}
 use Rattle.std.specs.Prelude.{MatchOption}
 use Rattle.std.specs.Bool.{then_some}
-use Rattle.std.specs.List.{position}
+use Rattle.std.specs.List.{position, AllWithin}
 use Rattle.std.specs.Option.{unwrap_or}
 use Rattle.std.proofs.lemmas.List.Recursion.{is_position_or_len}
 use Rattle.std.specs.Char.{is_ascii_alphanumeric}
@@ -13,12 +13,12 @@ use Rattle.std.specs.Cmp.Lexicographic.{pointwise}
 use mathlib.Core.List.{List, [], ◌∷◌, ◌++◌, append-nil}
 use mathlib.Core.Option.{none, some}
 use Prim.Native.Nat.{ℕ, zero, suc, ◌+◌, ◌-◌, ◌≤◌, ◌<◌}
-use native.Mathlib.Nat.{sub-zero, suc-sub-suc, le_of_suc-le-suc}
+use native.Mathlib.Nat.{sub-zero, suc-sub-suc, le_of_suc-le-suc, add-zero}
 use native.Mathlib.Numerals.{add-one, one-add}
 use native.Mathlib.Omega.{arith}
 use lib.Dec.{eqb, leb, ltb}
 use lib.ListN.{length, take, drop, get_or, length-drop, drop_of_length-le}
-use lib.Seq.{slice, slice_empty, slice-cons, drop-drop, drop-cons, take-suc, length-take-le, drop-append-le, take-nil}
+use lib.Seq.{slice, slice_empty, slice-cons, drop-drop, drop-cons, take-suc, length-take-le, drop-append-le, take-nil, get_or-drop}
 use borrow.Author.Tests.{ltb-false, lt-leb, le-leb, eqb-true, eqb-false, eq-eqb, ne_eqb}
 use Rattle.grammar.specs.Bytes.{bytes, letter, alphanumeric, allowed, every, Line, ended, unended, in_front, lines, Word, same, is_name}
 use Rattle.grammar.specs.Shapes.{after, word, after_word, name}
@@ -196,17 +196,17 @@ in_fronts-open b [] = refl
 in_fronts-open b (c ∷ w) = ap (in_front b) (in_fronts-open c w)
 
 -- the bytes from at to i belong to the line, and are allowed
-pub record LineSo (text : List ℕ) (at i : ℕ) : Type 0 where
+record LineSo (text : List ℕ) (at i : ℕ) : Type 0 where
   pub begins : at ≤ i
   pub ends : i ≤ length text
   pub good : every allowed (slice at i text) ≡ true
   pub read : lines (drop at text) ≡ in_fronts (slice at i text) (lines (drop i text))
 
-pub line-start : {text : List ℕ} {at : ℕ} → at ≤ length text → LineSo text at at
+line-start : {text : List ℕ} {at : ℕ} → at ≤ length text → LineSo text at at
 line-start {text} {at} h = record { begins = omega arith; ends = h; good = rw (slice_empty at text); read = rw (slice_empty at text) }
 
 module _ {text : List ℕ} {at i : ℕ} (so : LineSo text at i) where
-  pub line-more : i < length text → (get_or text i 0 ≡ 10 → ⊥) → allowed (get_or text i 0) ≡ true → LineSo text at (i + 1)
+  line-more : i < length text → (get_or text i 0 ≡ 10 → ⊥) → allowed (get_or text i 0) ≡ true → LineSo text at (i + 1)
   line-more h k a = record {
     begins = omega arith;
     ends = omega arith;
@@ -214,7 +214,7 @@ module _ {text : List ℕ} {at i : ℕ} (so : LineSo text at i) where
     read = so.read ∙ rw (next text i h, ne_eqb (get_or text i 0) 10 k, slice-more text i at so.begins h) (sym (in_fronts-more (slice at i text) (get_or text i 0) (lines (drop (i + 1) text))));
   }
 
-  pub line-found : i < length text → get_or text i 0 ≡ 10 → LineEnd text at i
+  line-found : i < length text → get_or text i 0 ≡ 10 → LineEnd text at i
   line-found h k = record {
     begins = so.begins;
     ends = h;
@@ -222,16 +222,35 @@ module _ {text : List ℕ} {at i : ℕ} (so : LineSo text at i) where
     read = so.read ∙ rw (next text i h, eq-eqb (get_or text i 0) 10 k) (in_fronts-ended (slice at i text) [] (lines (drop (i + 1) text)) ∙ rw append-nil);
   }
 
-  pub line-bad : i < length text → (get_or text i 0 ≡ 10 → ⊥) → allowed (get_or text i 0) ≡ false → BadLine text at
+  line-bad : i < length text → (get_or text i 0 ≡ 10 → ⊥) → allowed (get_or text i 0) ≡ false → BadLine text at
   unfolding BadFirst
   line-bad h k a =
       let r = bad-byte (slice at i text) (get_or text i 0) (lines (drop (i + 1) text)) a in
       (r.0, r.1, so.read ∙ rw (next text i h, ne_eqb (get_or text i 0) 10 k) r.2, r.3)
 
-  pub line-unended : at < length text → length text ≤ i → BadLine text at
+  line-unended : at < length text → length text ≤ i → BadLine text at
   unfolding judge
   line-unended h k =
       let z : i ≡ length text = omega (arith, so.ends) in
       let w = slice (suc at) i text in
       let b = get_or text at 0 in
       (unended (b ∷ w), [], so.read ∙ rw (nothing text i k, slice-cons at i text 0 (omega arith) so.ends) (in_fronts-open b w), refl)
+
+-- the first byte that is not allowed ends the line, or row 2 refuses it
+module _ (text : List ℕ) (at : ℕ) (h : at < length text) where
+  line-until : (n : ℕ) → at + n ≤ length text → AllWithin (λ b. allowed b ≡ true) (drop at text) 0 n → LineSo text at (at + n)
+  unfolding allowed alphanumeric
+  line-until zero l k = rw add-zero (line-start (omega arith))
+  line-until (suc n) l k =
+      let a : allowed (get_or text (at + n) 0) ≡ true = ap allowed (sym (get_or-drop at text n 0)) ∙ k n 0 (omega arith) (omega arith) in
+      let z : at + suc n ≡ at + n + 1 = omega arith in
+      rw z (line-more (line-until n (omega arith) (λ j d p q. k j d p (omega arith))) (omega arith) (λ q. clash (rw q at a) refl) a)
+
+  pub line-good : AllWithin (λ b. allowed b ≡ true) (drop at text) 0 (length (drop at text)) → BadLine text at
+  line-good k =
+      let e = length-drop at text in
+      line-unended (line-until (length (drop at text)) (omega (arith, e)) k) h (omega (arith, e))
+
+  pub line-stops : (n : ℕ) (r : Bool) → n < length (drop at text) → AllWithin (λ b. allowed b ≡ true) (drop at text) 0 n → allowed (get_or (drop at text) n 0) ≡ false → r ≡ eqb (get_or text (at + n) 0) 10 → MatchOption (then_some r (at + n)) (BadLine text at) (LineEnd text at)
+  line-stops n true l k a q = let e = length-drop at text in line-found (line-until n (omega (arith, e)) k) (omega (arith, e)) (eqb-true (get_or text (at + n) 0) 10 (sym q))
+  line-stops n false l k a q = let e = length-drop at text in line-bad (line-until n (omega (arith, e)) k) (omega (arith, e)) (eqb-false (get_or text (at + n) 0) 10 (sym q)) (ap allowed (sym (get_or-drop at text n 0)) ∙ a)

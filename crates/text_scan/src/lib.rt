@@ -71,16 +71,8 @@ pub fn line_end(text: &[u8], at: usize) -> Option<usize>
     requires { at < length text.now }
     ensures { MatchOption result (BadLine text.now at) (LineEnd text.now at) }
 {
-    for i in at..text.len() {
-        let b = text[i];
-        if b == b'\n' {
-            return Some(i);
-        }
-        if !is_allowed(b) {
-            return None;
-        }
-    }
-    None
+    let n = text[at..].iter().position(|b| !is_allowed(*b))?;
+    (text[at + n] == b'\n').then_some(at + n)
 }
 
 // Whether a word of letters and digits is a name.

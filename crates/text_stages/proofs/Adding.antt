@@ -22,12 +22,19 @@ use Rattle.text_clauses.specs.Clauses.{Complete, Completed}
 use Rattle.text_clauses.proofs.Laws.{final, frame-complete, body-short}
 use Rattle.text_carried.specs.Asking as asking
 use Rattle.text_carried.specs.Asking.{each}
-use Rattle.text_stages.specs.Questions.{with_stage, Stored, Asked, Holds, Addable, Added}
+use Rattle.text_stages.specs.Questions.{with_stage, Stored, Asked, Holds, Aside, Addable, Added}
 use Rattle.text_scope.specs.declared.Scope.{Scope}
 use Rattle.text_stages.proofs.Laws.{fault-more, stored_more}
 
 pub frame-known : {text : List ℕ} {s : Asked} {m : Model} {b : Taken frames.Framed} → Addable text s m b → IfOk b.kept Complete
 frame-known {b = b} p = frame-complete b.kept p.frame
+
+-- A RECORD with one stage more, or none, keeps the rest
+pub none-aside : {m : Model} → Aside m m
+none-aside = record { relations = refl; names = refl; clauses = refl; clausecount = refl; lines = refl }
+
+stage-aside : {m : Model} (f : Frame) (ns : List ℕ) → Aside m (with_stage m f ns)
+stage-aside f ns = record { relations = refl; names = refl; clauses = refl; clausecount = refl; lines = refl }
 
 -- the number of the stages with the one more
 module _ (text : List ℕ) (s : Asked) (m : Model) (b : Taken frames.Framed) {own : Framed} {r : Result (Scope limit.asked × Frame) Row} (o : Completed b.kept own) (t : Both s own r) where
@@ -38,8 +45,8 @@ module _ (text : List ℕ) (s : Asked) (m : Model) (b : Taken frames.Framed) {ow
     number_more : fault_in r ≡ stages_fault D (qs ++ (q ∷ []))
     number_more = t.number ∙ rw (so.number, own-number) (sym (fault-more q D qs))
 
-  pub added-fault : (x : Row) (m' : Model) → r ≡ Err x → Added text s m b (Err x) m'
-  added-fault x m' z = record { added = λ D m₀ qs q few so fr. record { number = ap fault_in (sym z) ∙ number_more so fr; stored = tt } }
+  pub added-fault : (x : Row) → r ≡ Err x → Added text s m b (Err x) m
+  added-fault x z = record { added = λ D m₀ qs q few so fr. record { number = ap fault_in (sym z) ∙ number_more so fr; stored = tt }; aside = none-aside; unwritten = refl }
 
   -- where there is none
   module _ (a : Scope limit.asked) (f : Frame) (z : r ≡ Ok (a, f)) where
@@ -78,4 +85,6 @@ module _ (text : List ℕ) (s : Asked) (m : Model) (b : Taken frames.Framed) {ow
         number = ap fault_in (sym z) ∙ number_more so fr;
         stored = rw e (stored_more (stored-before so) few (faultless so fr) (stage_body fr) (body-short (stage_body fr)) nu);
       };
+      aside = rw e (stage-aside f _);
+      unwritten = tt;
     }

@@ -1,5 +1,5 @@
 -- The stages of the `ask` line, as a record holds them.
-use Rattle.std.specs.Prelude.{◌≡◌, List, [], ◌∷◌, ◌++◌, ℕ, ◌+◌, ◌*◌, ◌≤◌, ◌<◌, length, take, set, Result, IfOk}
+use Rattle.std.specs.Prelude.{◌≡◌, List, [], ◌∷◌, ◌++◌, ℕ, ◌+◌, ◌*◌, ◌≤◌, ◌<◌, length, take, set, Result, IfOk, IfErr}
 use Rattle.std.proofs.Math.Seq.{paste}
 use Rattle.limits.specs.Limits as limit
 use Rattle.model.specs.Records as model
@@ -81,6 +81,17 @@ pub record Addable (text : List ℕ) (s : Asked) (m : Model) (b : Taken frames.F
   pub holds : Holds text D m₀ qs s m
   pub frame : frames.Holds text D [] 0 q b.kept
 
+-- the record m' has of m what no stage touches
+pub record Aside (m m' : Model) : Type 0 where
+  pub relations : m'.relations ≡ m.relations
+  pub names : m'.names ≡ m.names
+  pub clauses : m'.clauses ≡ m.clauses
+  pub clausecount : m'.clausecount ≡ m.clausecount
+  pub lines : m'.lines ≡ m.lines
+
+-- the stage that was read is added; nothing is written before a refusal
 pub record Added (text : List ℕ) (s : Asked) (m : Model) (b : Taken frames.Framed) (r : Asked) (m' : Model) : Type 0 where
   pub added : (D : Declared) (m₀ : Model) (qs : List (List forms.Literal)) (q : List forms.Literal) → length qs < limit.stages → Holds text D m₀ qs s m → frames.Holds text D [] 0 q b.kept
       → Holds text D m₀ (qs ++ (q ∷ [])) r m'
+  pub aside : Aside m m'
+  pub unwritten : IfErr r (λ _. m' ≡ m)

@@ -13,6 +13,7 @@ use text_literals::Frame;
 use text_scope::Scope;
 
 // One stage more in the record, with the literals of the frame and the numbers of its variables.
+// The three lines of a body stay written out here and in `text_record::add_clause`: a clause and a stage are records of their own with these fields, and what made the three would be taken apart field by field in both.
 fn add_stage(m: &mut Model, f: Frame, numbers: [u32; VARIABLES])
     requires { (m.old.stagecount < limit.stages) × (m.old.literalcount + f.size ≤ limit.literals) × (f.size ≤ limit.body) × (f.scope.count ≤ limit.variables) }
     ensures { m.new ≡ with_stage m.old f numbers }

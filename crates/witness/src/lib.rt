@@ -46,6 +46,6 @@ pub fn witness(
         run, work, &slots, m, s, rows, table, steps, ways, cast, 0, pair,
     );
     let r = witness_lineage::build(run, m, s, 0, from.at);
-    witness_table::turn(run, r);
+    run[..r].reverse();
     r
 }

@@ -93,11 +93,11 @@ fn open_with(
     slot: usize,
     p: Stand,
 ) -> usize
-    requires { Known m work.now s × Mapped m s table.now steps.now × Marks ways.now (Between s.count (λ e t. Comes (program_of m) (row s) (state (row s) e) (state (row s) t))) × Own width.slots slots.now × Numbered s cast × (object < limit.objects) × (slot < s.count) × (0 < (stage_at m 0).variables) × ((σ : ℕ → ℕ) × Opens m work.now s ways.now slot p.first p.second σ) × (p.at + opened m s carried + s.count ≤ length run.old) }
-    ensures { Written (Opening m s cast carried object slot p.first p.second) (opened m s carried) run.old p.at run.new result }
+    requires { Known m work.now s × Mapped m s table.now steps.now × Marks ways.now (Between s.count (λ e t. Comes (program_of m) (row s) (state (row s) e) (state (row s) t))) × Own width.slots slots.now × Numbered s cast × (object < limit.objects) × (slot < s.count) × (0 < (stage_at m 0).variables) × ((σ : ℕ → ℕ) × Opens m work.now s ways.now slot p.pair.first p.pair.second σ) × (p.at + opened m s carried + s.count ≤ length run.old) }
+    ensures { Written (Opening m s cast carried object slot p.pair.first p.pair.second) (opened m s carried) run.old p.at run.new result }
 {
-    let first = p.first;
-    let second = p.second;
+    let first = p.pair.first;
+    let second = p.pair.second;
     let one = cast.first;
     let two = cast.second;
     let c = witness_meetings::opening(work, slots, m, s, ways, slot, first, second);
@@ -136,6 +136,6 @@ pub fn witness_from(
         run, work, &slots, m, s, table, steps, ways, roles, carried, object, slot, p,
     );
     let r = witness_lineage::build(run, m, s, existing, at);
-    witness_table::turn(run, r);
+    run[..r].reverse();
     r
 }

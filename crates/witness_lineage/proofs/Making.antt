@@ -98,8 +98,8 @@ module _ (m : Model) (wf : WellFormed m) (s : States) (proper : Proper s) (found
 
 -- the same, read from the rows
 module _ (m : Model) (s : States) (born : List Bool) (a : Ancestry m s born) where
-  pub trace-inside : (i : ℕ) → i < s.count → (i < length s.lines) × (i < length s.origins) × (i < length born)
-  trace-inside i h = let p = a.proper in (omega (arith, p.count, p.lines), omega (arith, p.count, p.origins), omega (arith, p.count, a.born.long))
+  pub trace-inside : (i : ℕ) → i < s.count → (i < length s.arrivals) × (i < length born)
+  trace-inside i h = let p = a.proper in (omega (arith, p.count, p.arrivals), omega (arith, p.count, a.born.long))
 
   -- there is room for the first line
   pub first-room : (state k : ℕ) (run : List ℕ) → Makes m s state k run → k < length run

@@ -1,5 +1,5 @@
 -- THE MAKING OF STATES: the places by which a state that was found is made, and those that make one object of each.
-use Rattle.std.specs.Prelude.{◌≡◌, ◌⊎◌, ◌↔◌, Bool, true, false, List, ℕ, suc, ◌+◌, ◌≤◌, ◌<◌, length, slice_index, slice_index_or}
+use Rattle.std.specs.Prelude.{◌≡◌, ◌↔◌, Bool, true, false, List, ℕ, suc, ◌+◌, ◌≤◌, ◌<◌, length, slice_index_or}
 use Rattle.limits.specs.Limits as limit
 use Rattle.semantics.specs.Models.{Line, rule, new, next, other, line}
 use Rattle.semantics.specs.Runs.{Place}
@@ -29,11 +29,6 @@ making m s o i = places (with o (lines_to m s i))
 -- the places that make one object of each of the first n states, in order, behind b objects that are there
 abbrev pub building : Model → States → ℕ → ℕ → List Place
 building m s b n = places (raise (program_of m) (by s) (from s) b n)
-
--- born' has what born has, and where the line stands among the first n lines
-pub record Notes (lines : List ℕ) (n ℓ : ℕ) (born born' : List Bool) : Type 0 where
-  pub long : length born' ≡ length born
-  pub noted : (i : ℕ) → i < n → (slice_index_or born' i false ≡ true) ↔ ((slice_index_or born i false ≡ true) ⊎ (slice_index lines i ≡ ℓ))
 
 -- the states that a `new` line made are noted, and no other
 pub record Born (m : Model) (s : States) (born : List Bool) : Type 0 where

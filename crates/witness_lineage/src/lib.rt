@@ -3,11 +3,12 @@
 
 ghost use Rattle.std.specs.Prelude.{◌≡◌, ◌+◌, ◌≤◌, ◌<◌, length};
 ghost use Rattle.limits.specs.Limits as limit;
+ghost use Rattle.semantics.specs.Models.{Body, line as line_at};
 ghost use Rattle.model.specs.Records.{program_of, line_of};
 ghost use Rattle.model.specs.WellFormed.{WellFormed};
 ghost use Rattle.search_states.specs.States.{Proper, Discovered};
 ghost use Rattle.witness_table.specs.Runs.{backwards};
-ghost use Rattle.witness_lineage.specs.Lineage.{is_new, lines_to, making, building, Notes, Born, Ancestry, Makes};
+ghost use Rattle.witness_lineage.specs.Lineage.{is_new, lines_to, making, building, Born, Ancestry, Makes};
 
 use limits::ATOMIC;
 use model::{Action, Model, Place};
@@ -15,36 +16,29 @@ use search_states::States;
 
 // Does the clause create an object?
 fn creating(a: Action) -> bool
-    ensures { (b : _) → result ≡ is_new (line_of a b) }
+    ensures { (b : Body) → result ≡ is_new (line_of a b) }
 {
     matches!(a, Action::New { .. })
 }
 
-// Notes which of the lines are this one.
-fn note(lines: &[u32], line: u32, born: &mut [bool])
-    requires { length lines.now ≤ length born.old }
-    ensures { Notes lines.now (length lines.now) line born.old born.new }
+// Does a `new` line stand on the line of that number?
+// That the model is well formed stays a clause, as at `firsts`.
+fn creates(m: &Model, line: u32) -> bool
+    requires { WellFormed m.now }
+    ensures { result ≡ is_new (line_at (program_of m.now) line) }
 {
-    for (i, other) in lines.iter().enumerate() {
-        if *other == line {
-            born[i] = true;
-        }
-    }
+    m.clause_on(line).is_some_and(|c| creating(c.action))
 }
 
 // Which of the found states a `new` line made.
-// That the model is well-formed and the states are proper stays in clauses: both are values of any numbers, and both speak by recursion over lists, which a ghost field cannot hold.
+// That the model is well formed and the states are proper stays in clauses: a record is blank before a text is read into it, which is not well formed, and the states, whose rows some ten crates read as fields, would be handed out by methods behind an `impl Model`.
 fn firsts(m: Model, s: States) -> [bool; ATOMIC]
     requires { WellFormed m × Proper s }
     ensures { Born m s result }
 {
-    let lines = &s.lines[..s.count];
     let mut born = [false; ATOMIC];
-    for i in 0..m.clausecount {
-        let c = m.clauses[i];
-        if creating(c.action) {
-            note(lines, c.line, &mut born);
-        }
+    for (i, arrival) in s.arrivals[..s.count].iter().enumerate() {
+        born[i] = creates(&m, arrival.line);
     }
     born
 }
@@ -58,13 +52,16 @@ fn trace(run: &mut [u32], s: &States, born: &[bool], state: usize, object: u32, 
     let mut at = k;
     // The loop stays: it goes back to a state that a `new` line made, which no number says before.
     loop {
-        let line = s.lines[i];
-        run[at] = model::number_of(Place::Step { line, object });
+        let arrival = s.arrivals[i];
+        run[at] = model::number_of(Place::Step {
+            line: arrival.line,
+            object,
+        });
         at += 1;
         if born[i] {
             return at;
         }
-        i = s.origins[i] as usize;
+        i = arrival.origin as usize;
     }
 }
 

@@ -7,7 +7,7 @@ use mathlib.Core.Option.{Option, some}
 use Prim.Native.Nat.{ℕ, zero, suc, ◌+◌, ◌*◌, ◌≤◌, ◌<◌}
 use native.Mathlib.Omega.{arith}
 use borrow.Author.Tests.{eq-eqb, ne_eqb}
-use lib.ListN.{set, get_or, length-map}
+use lib.ListN.{set, get_or, length, take, drop, length-map}
 use Rattle.std.proofs.lemmas.List.{get_or_default}
 use Rattle.std.proofs.lemmas.Bool.{cases_Bool}
 use Rattle.limits.specs.Limits as limit
@@ -37,7 +37,10 @@ use Rattle.facts_find.specs.Bodies.{Fixed}
 use Rattle.search_states.specs.declared.States.{States}
 use Rattle.search_states.specs.States.{row}
 use Rattle.search_states.proofs.Laws.{length-row}
+use Rattle.model.specs.Literals.{body_of}
+use Rattle.model.proofs.Bodies.{own-body}
 use Rattle.facts_holds.specs.Shows.{Evaluable, Seeks}
+use Rattle.facts_holds.proofs.Laws.{part-evaluable}
 use Rattle.witness_table.proofs.Laws.{set-backwards}
 use Rattle.witness_meetings.specs.declared.Cast.{Cast}
 use Rattle.witness_meetings.specs.Meetings.{Known, Written, Numbers, Names, NamesBoth, meeting, Behind, pair, Seats, gathering, Takes, Chooses, Seating, first_variable, Opens}
@@ -113,12 +116,15 @@ module _ (m : Model) (wf : WellFormed m) (k : ℕ) (here : k < m.stagecount) whe
       (rw supported-renamed at (subst (λ (b : Body). Supported (vars b) b) (stage-here m wf k here) (wf.safely k) (number_in st x) (vars-in x ((stage-vars m wf k here x).0 e)))) in
       subst (λ (y : ℕ). elem y (supported body) ≡ true) (sym (stage-different m wf k here x t.0 e (supported-vars t.0 body t.1) t.2)) t.1
 
-  pub stage-evaluable : Evaluable m.literals (record { first = st.first; count = st.count; variables = st.variables })
-  stage-evaluable = record {
-    inside = let a = (wf.stage k here).part.within in let b = wf.literalcount in let c = wf.literals in omega arith;
-    body = stage_body_lem m wf k here;
-    safe = stage-safe;
-  }
+  -- the body by itself
+  abbrev codes : List ℕ
+  codes = take st.count (drop st.first m.literals)
+
+  pub codes-say : body_of codes (length codes) ≡ body
+  codes-say = own-body (drop st.first m.literals) st.count (stage_body_lem m wf k here).within
+
+  pub stage-evaluable : Evaluable codes st.variables
+  stage-evaluable = part-evaluable (drop st.first m.literals) st.count st.variables (stage_body_lem m wf k here) stage-safe
 
   -- the choice for the variables of the `ask` line
   abbrev over : Choice → ℕ → ℕ

@@ -46,11 +46,6 @@ pub record Numbers (st : Stage) : Type 0 where
   pub few : st.variables ≤ limit.variables
   pub different : (x y : ℕ) → x < st.variables → y < st.variables → number_in st x ≡ number_in st y → x ≡ y
 
--- the answer is the stage's own number of the variable v, or that it has not v
-abbrev pub Spots : Stage → ℕ → prelude.Option ℕ → Type 0
-Spots st v (prelude.Some x) = (x < st.variables) × (number_in st x ≡ v)
-Spots st v prelude.None = (y : ℕ) → y < st.variables → number_in st y ≢ v
-
 -- the choice c, but element e for the variable v where the stage has it
 abbrev pub Names : Stage → ℕ → ℕ → Choice → Choice → Type 0
 Names st v e c r = (x : ℕ) → x < st.variables → element_of r x ≡ (if number_in st x == v then prelude.Some e else element_of c x)

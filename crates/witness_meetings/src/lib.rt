@@ -13,11 +13,10 @@ ghost use Rattle.facts_table.specs.Table.{Consistent, Rows};
 ghost use Rattle.facts_candidates.specs.Choices.{chosen, Own};
 ghost use Rattle.search_states.specs.States.{row};
 ghost use Rattle.facts_holds.specs.Shows.{Seeks};
-ghost use Rattle.witness_meetings.specs.Meetings.{Known, Written, Numbers, Spots, Names, NamesBoth, meeting, Numbered, Behind, Takes, gathering, Chooses, Seating, Met, first_variable, Opens, Attempts};
+ghost use Rattle.witness_meetings.specs.Meetings.{Known, Written, Numbers, Names, NamesBoth, meeting, Numbered, Behind, Takes, gathering, Chooses, Seating, Met, first_variable, Opens, Attempts};
 
 use facts_bits::WIDTH;
 use facts_candidates::Choice;
-use facts_holds::Part;
 use model::{Model, Place, Stage};
 use search_states::States;
 
@@ -29,30 +28,19 @@ pub struct Cast {
     pub second: u32,
 }
 
-// The stage's own number of a variable, if it has the variable.
-pub fn spot(stage: Stage, variable: u32) -> Option<usize>
-    requires { Numbers stage }
-    ensures { Spots stage variable result }
-{
-    let n = stage.variables as usize;
-    stage.numbers[..n]
-        .iter()
-        .position(|number| *number == variable)
-}
-
 // The choice with element e for the variable, where the stage has it.
 fn name(stage: Stage, variable: u32, e: usize, c: Choice) -> Choice
     requires { Numbers stage }
     ensures { Names stage variable e c result }
 {
-    match spot(stage, variable) {
+    match stage.seat(variable) {
         Some(x) => facts_candidates::choose(c, x, e),
         None => c,
     }
 }
 
 // The choice with these elements for the carried variables, where stage k + 1 has them.
-// That the model is well-formed stays in clauses: a model is a value of any numbers, which acceptance alone makes well-formed.
+// That the model is well formed stays a clause: a record is blank before a text is read into it, which is not well formed, and a second type around a well-formed record would be opened wherever a field of it is read.
 // The stage and the two numbers stay apart: they are slots in one call and objects of the cast in another, so that a struct would be made anew for each.
 fn name_both(m: Model, k: usize, first: usize, second: usize, c: Choice) -> Choice
     requires { WellFormed m × (k < m.stagecount) }
@@ -85,12 +73,19 @@ fn seek_stage(
     requires { Known m work.now s × Own width.slots slots.now × (k < m.stagecount) }
     ensures { Seeks (row s) work.now (stage_body m.literals (stage_at m k)) (stage_at m k).variables fixed result }
 {
-    let part = Part::from(m.stages[k]);
-    facts_holds::seek(work, slots, s.count, &m.literals, part, fixed)
+    let g = m.stages[k];
+    let slots = &slots[..s.count];
+    facts_holds::seek(
+        work,
+        slots,
+        g.body(&m.literals),
+        g.variables as usize,
+        fixed,
+    )
 }
 
 // A choice of found states that meets stage k + 1, with the carried objects in these slots where their variables stand in it.
-// The two slots stay beside the model: they are a pair of a level, another one for each stage.
+// The two slots stay two parameters: their struct, `Pair`, is one of `search_levels`, which stands on a floor above this crate.
 fn choose(
     work: &[u8],
     slots: &[u8],
@@ -127,6 +122,7 @@ fn behind(n: usize, base: u32, c: Choice) -> Choice
 }
 
 // The number of the meeting of stage k + 1 with the chosen objects of its n variables.
+// The three objects stay asked for one by one, as in `replay_steps::number`: there they are multiplied into one number, here they are a place's parts, and an array of them would be taken apart again by both.
 fn number(k: usize, n: usize, c: Choice) -> u32
     requires { (k < 127) × (n ≤ limit.variables) × ((x : ℕ) → x < n → chosen c x < limit.objects) }
     ensures { result ≡ number_of (meeting k n c) }
@@ -144,7 +140,8 @@ fn number(k: usize, n: usize, c: Choice) -> u32
 }
 
 // Writes the meeting of stage k + 1 at index `at` with these objects, but the cast's for the carried variables. Returns the index behind it.
-// The table, the model, the cast and the index stay apart, with the room in clauses: the table is written place by place, and the index is the caller's.
+// The table, the model and the cast stay apart, with the room in clauses.
+// The index stays beside the table: `Written` says what stands from the index that a call is given to the one that it answers, and a struct of the two would say it of its own field.
 fn gather(run: &mut [u32], m: Model, cast: Cast, k: usize, objects: Choice, at: usize) -> usize
     requires { WellFormed m × (k < m.stagecount) × (cast.first < limit.objects) × (cast.second < limit.objects) × ((x : ℕ) → x < (stage_at m k).variables → chosen objects x < limit.objects) × (at < length run.old) }
     ensures { (w : ℕ → Option ℕ) (σ : ℕ → ℕ) → Takes m cast k w σ objects → Written (λ ps. ps ≡ gathering m cast w k σ ∷ []) 1 run.old at run.new result }
@@ -197,6 +194,7 @@ fn attempt(
 }
 
 // A choice of found states that meets stage 1, with the carried objects in these slots, and for its first variable a slot of row j.
+// The loop stays beside `filter` and `find_map`: two closures would hold all that is lent here, and the `unreachable!()` would stand behind them all the same.
 pub fn opening(
     work: &[u8],
     slots: &[u8],

@@ -1,12 +1,16 @@
 -- The errands of the carried objects, as places that are written.
 use mathlib.Core.Path.{◌≡◌, refl, sym, ap, ◌∙◌}
 use mathlib.Core.Bool.{Bool, true, false}
-use mathlib.Core.List.{List, [], ◌∷◌}
+use mathlib.Core.List.{List, [], ◌∷◌, reverse}
 use Prim.Native.Nat.{ℕ, zero, suc, ◌+◌, ◌-◌, ◌≤◌, ◌<◌}
 use native.Mathlib.Omega.{arith}
 use native.Mathlib.Nat.{not-suc-le-zero}
-use lib.ListN.{length, take, drop, get_or, set, length-drop}
+use lib.ListN.{length, take, drop, get_or, set, length-drop, length-reverse}
 use lib.Seq.{drop-cons, length-take-le}
+use Rattle.std.specs.List.{enumerate_from}
+use Rattle.std.proofs.lemmas.List.{get_or-reverse}
+use Rattle.std.proofs.lemmas.List.FromFn.{length-enumerate_from, get_or-enumerate_from}
+use Rattle.std.proofs.lemmas.Grind.{get_or_default_zero}
 use Rattle.limits.specs.Limits as limit
 use Rattle.semantics.specs.Facts.{Database, state}
 use Rattle.semantics.specs.Runs.{Place, step}
@@ -39,6 +43,14 @@ numerable-at : (o : ℕ) (ls : List ℕ) (i : ℕ) → i < length ls → AllNume
 numerable-at o [] i l h = absurd (not-suc-le-zero l)
 numerable-at o (ℓ ∷ ls) zero l h = h.0
 numerable-at o (ℓ ∷ ls) (suc i) l h = numerable-at o ls i (omega arith) h.1
+
+-- the line that comes behind n others, from the last one on
+pub line-back : (lines : List ℕ) (n : ℕ) (x : ℕ × ℕ) → (n < length (enumerate_from 0 (reverse lines))) × (x ≡ get_or (enumerate_from 0 (reverse lines)) n x) → (n < length lines) × (x.0 ≡ n) × (x.1 ≡ get_or lines (length lines - suc n) 0)
+line-back lines n x h =
+    let few : n < length lines = omega (arith, h.0, length-enumerate_from 0 (reverse lines), length-reverse lines) in
+    let e : x ≡ (0 + n, get_or (reverse lines) n x.1) = h.1 ∙ get_or-enumerate_from 0 (reverse lines) n x (omega (arith, few, length-reverse lines)) in
+    let same : length lines - 1 - n ≡ length lines - suc n = omega arith in
+    (few, omega (arith, ap (λ (p : ℕ × ℕ). p.0) e), ap (λ (p : ℕ × ℕ). p.1) e ∙ get_or-reverse lines n x.1 few ∙ get_or_default_zero lines (length lines - 1 - n) x.1 (omega (arith, few)) ∙ ap (λ (i : ℕ). get_or lines i 0) same)
 
 -- ONE STEP MORE is written, before those behind line i
 module _ (run₀ lines : List ℕ) (k o : ℕ) (numerable : AllNumerable (places (with o lines))) where

@@ -1,26 +1,15 @@
 -- The search for a pair of the level before.
-use mathlib.Core.Path.{◌≡◌, refl}
-use mathlib.Core.Bool.{Bool, true, false}
+use mathlib.Core.Path.{◌≡◌}
+use mathlib.Core.Bool.{Bool}
 use mathlib.Core.List.{List}
 use Prim.Native.Nat.{ℕ, ◌+◌, ◌*◌, ◌≤◌, ◌<◌}
 use native.Mathlib.Omega.{arith}
 use Rattle.std.specs.Prelude as prelude
 use Rattle.std.specs.Option.{MatchOption}
 use Rattle.limits.specs.Limits as limit
-use Rattle.semantics.proofs.Tools.{clash}
 use Rattle.model.specs.declared.Model.{Model}
-use Rattle.search_ways.specs.Shortest.{Says}
 use Rattle.search_levels.specs.Levels.{holder, chosen, Moved}
 use Rattle.witness_walk.specs.Walk.{LeadsTo, Source}
-
--- what a test says
-pub said : (r : Bool) (A : Type 0) → Says r A → r ≡ true → A
-said true A h q = h
-said false A h q = clash q refl
-
-pub denied : (r : Bool) (A : Type 0) → Says r A → r ≡ false → A → ⊥
-denied true A h q = clash refl q
-denied false A h q = h
 
 -- what a search over the slots found
 pub listed_slot : (P : ℕ → Type 0) (o : prelude.Option ℕ)

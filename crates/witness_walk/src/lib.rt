@@ -26,19 +26,18 @@ use witness_meetings::Cast;
 // The slots of the carried objects on a level, and the index at which the place before is written.
 #[derive(Clone, Copy)]
 pub struct Stand {
-    pub first: usize,
-    pub second: usize,
+    pub pair: Pair,
     pub at: usize,
 }
 
 // Does the carried variable of cell v stand in stage k, counted from 0?
-// That the model is well-formed and the cell and the stage are in range stays in clauses: a model is a value of any numbers, which acceptance alone makes well-formed.
-// The model, the cell and the stage stay apart: the walk asks for both cells of each stage.
+// That the model is well formed stays a clause: a record is blank before a text is read into it, which is not well formed. The model, the cell and the stage stay apart, with the ranges in clauses: the walk asks for both cells of each stage, so that a struct of the three would be made anew for each pair.
 fn holds(m: Model, v: usize, k: usize) -> bool
     requires { WellFormed m × (v < limit.carried) × (k < m.stagecount) }
     ensures { result ≡ holder m v k }
 {
-    witness_meetings::spot(m.stages[k], m.carried[v]).is_some()
+    let number = m.carried[v];
+    m.stages[k].seat(number).is_some()
 }
 
 // Does it stand in one of the first k stages?
@@ -54,13 +53,10 @@ fn tell(run: &mut [u32], lines: &[u32], object: u32, k: usize) -> usize
     requires { AllNumerable (places (with object lines.now)) × (k + length lines.now ≤ length run.old) }
     ensures { (result ≡ k + length lines.now) × (run.new ≡ backwards run.old k (places (with object lines.now))) }
 {
-    let mut at = k;
-    for i in (0..lines.len()).rev() {
-        let line = lines[i];
-        run[at] = model::number_of(Place::Step { line, object });
-        at += 1;
+    for (i, &line) in lines.iter().rev().enumerate() {
+        run[k + i] = model::number_of(Place::Step { line, object });
     }
-    at
+    k + lines.len()
 }
 
 // Writes a shortest way of the object from one slot to another, the last step first, from index `at` on. Returns the index behind it.
@@ -141,6 +137,7 @@ fn source(
 }
 
 // A pair of level k that leads to a pair of the next level.
+// The loop stays beside `filter` and `find_map`, as in `witness_meetings::opening`.
 fn previous(
     rows: &[u8; LEVELS],
     ways: &[u8; MATRIX],
@@ -184,11 +181,11 @@ fn back(
     k: usize,
     p: Stand,
 ) -> Stand
-    requires { Recorded m work.now s rows.now table.now steps.now ways.now × Own width.slots slots.now × Numbered s cast × (limit.run ≤ length run.old) × ((until : ℕ) × (run₀ : List ℕ) × (until ≤ k) × Behind m s cast until rows.now run₀ run.old (suc k) p.first p.second p.at) }
-    ensures { (until : ℕ) (run₀ : List ℕ) → until ≤ k → Behind m s cast until rows.now run₀ run.old (suc k) p.first p.second p.at → Behind m s cast until rows.now run₀ run.new k result.first result.second result.at }
+    requires { Recorded m work.now s rows.now table.now steps.now ways.now × Own width.slots slots.now × Numbered s cast × (limit.run ≤ length run.old) × ((until : ℕ) × (run₀ : List ℕ) × (until ≤ k) × Behind m s cast until rows.now run₀ run.old (suc k) p.pair.first p.pair.second p.at) }
+    ensures { (until : ℕ) (run₀ : List ℕ) → until ≤ k → Behind m s cast until rows.now run₀ run.old (suc k) p.pair.first p.pair.second p.at → Behind m s cast until rows.now run₀ run.new k result.pair.first result.pair.second result.at }
 {
-    let first = p.first;
-    let second = p.second;
+    let first = p.pair.first;
+    let second = p.pair.second;
     let q = previous(rows, ways, m, k, first, second);
     let met = witness_meetings::meet(run, work, slots, m, s, cast, k, first, second, p.at);
     let then = errand(
@@ -207,11 +204,7 @@ fn back(
     let at = errand(
         run, m, s, table, steps, 0, k, q.first, first, cast.first, then,
     );
-    Stand {
-        first: q.first,
-        second: q.second,
-        at,
-    }
+    Stand { pair: q, at }
 }
 
 // Writes the walk from level `until` to a pair of the last level, the last place first. Returns the pair of that level, and how many places the walk has.
@@ -230,13 +223,9 @@ pub fn walk(
     goal: Pair,
 ) -> Stand
     requires { Recorded m work.now s rows.now table.now steps.now ways.now × Own width.slots slots.now × Numbered s cast × (until ≤ m.stagecount) × Sits rows.now m.stagecount goal.first goal.second × (limit.run ≤ length run.old) }
-    ensures { Behind m s cast until rows.now run.old run.new until result.first result.second result.at }
+    ensures { Behind m s cast until rows.now run.old run.new until result.pair.first result.pair.second result.at }
 {
-    let mut p = Stand {
-        first: goal.first,
-        second: goal.second,
-        at: 0,
-    };
+    let mut p = Stand { pair: goal, at: 0 };
     for k in (until..m.stagecount).rev() {
         p = back(run, work, slots, m, s, rows, table, steps, ways, cast, k, p);
     }

@@ -20,4 +20,4 @@ returns c =
     let a = c.args in
     let r = c.conclude-answer in
     let f = found (goal.at.returns c).In-Some in
-    rw c.with_states.ensures (r.ensures, beside (program_of a.m) (question_of a.m) a.run.now _ _ _ f.explored.few (listed a.m c.requires.0 a.facts.now _ f) r.result r.ensures)
+    rw c.with_states.ensures (r.ensures, beside (program_of a.m) (question_of a.m) a.run.now _ _ _ f.explored.few (listed a.m a.facts.now _ f.explored) r.result r.ensures)

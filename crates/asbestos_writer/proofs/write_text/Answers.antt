@@ -10,7 +10,7 @@ use Rattle.asbestos_writer.proofs.write_text.Goals as goal
 pub returns-then-refused : goal.returns-then-refused
 returns-then-refused c =
     let a = c.args in
-    leaves-refused (refuses (kinds_of a.kinds.now a.count) a.port a.level (length a.out.now)) (sym c.refused.ensures ∙ c.if-refused.true) _ a.out.now
+    leaves-refused (refuses (kinds_of a.kinds.now a.count) a.port a.level (length a.out.now)) (sym c.refused.ensures ∙ c.if-refused.true) _ a.out.now c.refusal.ensures
 
 pub put_text-requires : goal.put_text-requires
 put_text-requires c =

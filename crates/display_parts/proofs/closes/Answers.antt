@@ -1,9 +1,7 @@
+use Rattle.std.proofs.Common.{rules}
 use Rattle.grammar.specs.Shapes.{rest}
-use Rattle.display_parts.proofs.Laws.{closes-eq, closes-none}
+use Rattle.display_parts.proofs.Laws.{closes-said}
 use Rattle.display_parts.proofs.closes.Goals as goal
 
-pub returns-in-Some : goal.returns-in-Some
-returns-in-Some g c = closes-eq (rest g.T.Item.read c.args.n) c.args.line.now c.args.at c.in-Some.ensures
-
-pub returns-in-None : goal.returns-in-None
-returns-in-None g c = closes-none (rest g.T.Item.read c.args.n) c.args.line.now c.args.at c.in-None.ensures
+pub returns : goal.returns
+returns g c = closes-said (rest g.T.Item.read c.args.n) c.args.line.now c.args.at c.items_end.result c.is_some_and.result c.items_end.ensures c.is_some_and.ensures (λ x k. search rules)

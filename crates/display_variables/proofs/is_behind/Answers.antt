@@ -1,9 +1,6 @@
-use mathlib.Core.Path.{◌∙◌}
-use Rattle.display_variables.proofs.Laws.{behind_none, behind-found, same-behind}
+use Rattle.std.proofs.Common.{rules}
+use Rattle.display_variables.proofs.Laws.{behind-said}
 use Rattle.display_variables.proofs.is_behind.Goals as goal
 
-pub returns-in-Some : goal.returns-in-Some
-returns-in-Some c = let a = c.args in c.same_words.ensures ∙ same-behind a.line.now a.i _ a.name.now (behind-found a.line.now a.i c.requires c.in-Some.ensures)
-
-pub returns-in-None : goal.returns-in-None
-returns-in-None c = rw (behind_none c.args.line.now c.args.i c.requires c.in-None.ensures)
+pub returns : goal.returns
+returns c = let a = c.args in behind-said a.line.now a.i a.name.now c.requires c.spaced_end.result c.is_some_and.result c.spaced_end.ensures c.is_some_and.ensures (λ x k. search rules)

@@ -1,14 +1,9 @@
-use Rattle.text.proofs.Laws.{read-well-formed}
-use Rattle.effects.specs.Effects.{effect_at}
+use Rattle.std.proofs.Common.{rules, tests}
+use Rattle.effects.proofs.Laws.{read-one, answered}
 use Rattle.effects.proofs.effect.Goals as goal
 
-pub on_line-requires : goal.on_line-requires
-on_line-requires c = read-well-formed c.args.text.now _ c.in-Ok.ensures
+pub map_or-requires : goal.map_or-requires
+map_or-requires c = search (rules, read-one)
 
-pub returns-in-Ok : goal.returns-in-Ok
-unfolding effect_at
-returns-in-Ok c = rw c.in-Ok.ensures.says c.on_line.ensures
-
-pub returns-in-Err : goal.returns-in-Err
-unfolding effect_at
-returns-in-Err c = rw c.in-Err.ensures
+pub returns : goal.returns
+returns c = let a = c.args in answered a.text.now a.line a.state c.read.result c.map_or.result _ c.read.ensures c.map_or.ensures (λ m h. search (rules, tests))

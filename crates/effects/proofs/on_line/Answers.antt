@@ -1,9 +1,6 @@
-use mathlib.Core.Path.{◌∙◌}
-use Rattle.effects.proofs.Laws.{clause-made, none_made}
+use Rattle.std.proofs.Common.{rules, tests}
+use Rattle.effects.proofs.Laws.{found-made}
 use Rattle.effects.proofs.on_line.Goals as goal
 
-pub returns-in-Some : goal.returns-in-Some
-returns-in-Some c = let f = c.in-Some.ensures in c.made.ensures ∙ clause-made _ c.requires _ _ _ f.0 f.1
-
-pub returns-in-None : goal.returns-in-None
-returns-in-None c = none_made _ c.requires _ _ c.in-None.ensures
+pub returns : goal.returns
+returns c = let a = c.args in found-made a.m.now c.requires a.line a.state c.clause_on.result c.map_or.result _ c.clause_on.ensures c.map_or.ensures (λ d h. search (rules, tests))

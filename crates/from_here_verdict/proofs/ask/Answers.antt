@@ -4,7 +4,7 @@ use Prim.Native.Nat.{ℕ}
 use native.Mathlib.Omega.{arith}
 use lib.ListN.{length-replicate}
 use Rattle.facts_heads.specs.Heads.{room}
-use Rattle.from_here_verdict.proofs.Laws.{listed}
+use Rattle.analyzer_verdict.proofs.Laws.{listed}
 use Rattle.from_here_verdict.proofs.ask.Goals as goal
 
 pub search_from-requires : goal.search_from-requires
@@ -21,4 +21,4 @@ pub returns : goal.returns
 returns c =
     let a = c.args in
     let f = c.in-Some.ensures.0 in
-    rw c.with_states.ensures (inr (f.explored.few, (c.conclude-answer.ensures, listed a.m a.s a.object c.requires.0 _ _ f)))
+    rw c.with_states.ensures (inr (f.explored.few, (c.conclude-answer.ensures, listed a.m _ _ f.explored)))

@@ -15,4 +15,4 @@ abbrev pub Met : Model → Database → ℕ → Type 0
 Met m S e = MetAt (program_of m) S (stage_of m.literals (stage_at m 0)) (number_in (stage_at m 0) 0) e
 
 abbrev pub invariant-loop-e : goal.invariant-loop-e
-invariant-loop-e l = (length l.met ≡ width.bytes) × ((S : Database) → length S ≡ l.s.count → Exact l.m S l.work → Below (Met l.m S) l.e l.met)
+invariant-loop-e l = (length l.met ≡ width.bytes) × ((S : Database) → length S ≡ l.fn.s.count → Exact l.fn.m S l.work → Below (Met l.fn.m S) l.e l.met)

@@ -1,7 +1,4 @@
-use mathlib.Core.Path.{sym, subst}
-use Prim.Native.Nat.{ℕ}
 use native.Mathlib.Omega.{arith}
-use Rattle.facts_find.specs.Bodies.{Fixed}
 use Rattle.game_stage.proofs.Laws.{fixed-one}
 use Rattle.game_stage.proofs.meets.Goals as goal
 
@@ -9,7 +6,7 @@ pub choose-fixed-requires : goal.choose-fixed-requires
 choose-fixed-requires c = omega arith
 
 pub shows-requires : goal.shows-requires
-shows-requires c = (c.requires.0, c.requires.1, c.requires.2, c.requires.3)
+shows-requires c = (c.requires.0, c.requires.1, c.requires.2)
 
 pub returns : goal.returns
 returns c =
@@ -17,6 +14,6 @@ returns c =
     λ S R n.
     let told = c.shows.ensures S R n in
     let law = fixed-one c.free-free.result k.result c.args.e k.ensures in (
-      (λ q. let z = told.0 q in (z.0, (law z.0).0 (subst (λ (v : ℕ). Fixed v k.result z.0) c.requires.4 z.2), z.1)),
-      λ q. told.1 (q.0, q.2, subst (λ (v : ℕ). Fixed v k.result q.0) (sym c.requires.4) ((law q.0).1 q.1)),
+      (λ q. let z = told.0 q in (z.0, (law z.0).0 z.2, z.1)),
+      λ q. told.1 (q.0, q.2, (law q.0).1 q.1),
     )

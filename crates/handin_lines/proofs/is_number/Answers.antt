@@ -1,8 +1,6 @@
-use Rattle.handin_lines.proofs.Laws.{states-missing, states-found}
+use Rattle.std.proofs.Common.{rules}
+use Rattle.handin_lines.proofs.Laws.{states-said}
 use Rattle.handin_lines.proofs.is_number.Goals as goal
 
-pub returns-in-Some : goal.returns-in-Some
-returns-in-Some c = states-found c.in-Some.ensures c.ends.ensures
-
-pub returns-in-None : goal.returns-in-None
-returns-in-None c = states-missing _ c.in-None.ensures
+pub returns : goal.returns
+returns c = states-said c.args.line.now c.read_number.result c.is_some_and.result c.read_number.ensures c.is_some_and.ensures (λ n k. search rules)

@@ -1,14 +1,9 @@
-use mathlib.Core.Path.{◌∙◌}
-use Rattle.lines.specs.Lines.{line_at}
-use Rattle.lines.proofs.Laws.{few-clauses, lent-line}
+use Rattle.std.proofs.Common.{rules, tests}
+use Rattle.lines.proofs.Laws.{read-part, answered}
 use Rattle.lines.proofs.line.Goals as goal
 
-pub shared_ref_as_front-describe_at : goal.shared_ref_as_front-describe_at
-shared_ref_as_front-describe_at c = few-clauses c.args.text.now _ c.in-Ok.ensures c.args.i
+pub map_or-requires : goal.map_or-requires
+map_or-requires c = search (rules, read-part)
 
-pub returns-in-Ok : goal.returns-in-Ok
-returns-in-Ok c = c.describe_at.ensures ∙ lent-line c.args.text.now _ c.in-Ok.ensures c.args.i
-
-pub returns-in-Err : goal.returns-in-Err
-unfolding line_at
-returns-in-Err c = rw c.in-Err.ensures
+pub returns : goal.returns
+returns c = let a = c.args in answered a.text.now a.i c.read.result c.map_or.result _ c.read.ensures c.map_or.ensures (λ m h. search (rules, tests))

@@ -14,6 +14,7 @@ pub returns : goal.returns
 returns c =
     let a = c.args in
     let n = a.g.variables in
-    beside (a.carried ≢ 255) n (λ x. number_in a.g x ≡ a.number) (λ x. element_of a.c x ≢ Some a.carried) c.if-carried-eq-NONE.false c.any.result
-    (any_below n (λ x. (number_in a.g x ≡ a.number) × (element_of a.c x ≢ Some a.carried)) c.any.result
-    (cases_from_any _ _ c.any.result (λ x. (number_in a.g x ≡ a.number) × (element_of a.c x ≢ Some a.carried)) (λ x. (number_in a.g x ≡ a.number) × (element_of a.c x ≢ Some a.carried) → ⊥) c.any.ensures.ran (YieldsList-from_range 0 n n refl (omega arith)) (λ x q k. search (rules, tests)) (λ x q k. search (rules, tests))))
+    let held = c.in-Some.held in
+    beside a.carried held n (λ x. number_in a.g x ≡ a.number) (λ d x. element_of a.c x ≢ Some d) c.in-Some.is c.any.result
+    (any_below n (λ x. (number_in a.g x ≡ a.number) × (element_of a.c x ≢ Some held)) c.any.result
+    (cases_from_any _ _ c.any.result (λ x. (number_in a.g x ≡ a.number) × (element_of a.c x ≢ Some held)) (λ x. (number_in a.g x ≡ a.number) × (element_of a.c x ≢ Some held) → ⊥) c.any.ensures.ran (YieldsList-from_range 0 n n refl (omega arith)) (λ x q k. search (rules, tests)) (λ x q k. search (rules, tests))))

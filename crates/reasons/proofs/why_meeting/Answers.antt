@@ -1,4 +1,4 @@
-use mathlib.Core.Path.{◌≡◌, refl, sym, ◌∙◌, subst}
+use mathlib.Core.Path.{◌≡◌, sym, ◌∙◌, subst}
 use mathlib.Core.List.{[], ◌∷◌}
 use Prim.Native.Nat.{ℕ, suc}
 use native.Mathlib.Omega.{arith}
@@ -6,7 +6,6 @@ use Rattle.semantics.specs.Runs.{meet}
 use Rattle.model.specs.Places.{objects}
 use lib.ListN.{take}
 use Rattle.model.specs.Records.{stage_at, stage_body, program_of}
-use Rattle.model.proofs.Accepted.{stage_body_lem}
 use Rattle.replay_session.specs.Sessions.{Says, session_in}
 use Rattle.facts_candidates.specs.declared.Choice.{Choice}
 use Rattle.facts_find.specs.Bodies.{Fixed}
@@ -14,7 +13,7 @@ use Rattle.replay_steps.specs.Tries.{Holding}
 use Rattle.replay_meetings.specs.Carried.{choice_of}
 use Rattle.reasons_bodies.specs.Blames.{Blames}
 use Rattle.reasons.specs.Reasons.{AnySwapped, Beyond}
-use Rattle.replay_meetings.proofs.Meetings.{part-within, part-supported, slots-enough}
+use Rattle.replay_meetings.proofs.Meetings.{part-within, codes-long, codes-say, codes-good, slots-seat, part-supported}
 use Rattle.reasons.proofs.Meetings.{other-stage, other-count, swapped-cell, none-swapped, no-object, swapped, stage-literal}
 use Rattle.reasons.proofs.why_meeting.Goals as goal
 
@@ -46,16 +45,18 @@ returns-then-any_swapped c = let a = c.args in
     let d = swapped-cell a.m.now l.ready.accepted (stage_at a.m.now a.at.met) a.at.carried (choice_of a.first a.second a.third) (subst (λ (k : Choice). AnySwapped a.m.now.carried (stage_at a.m.now a.at.met) a.at.carried k) c.choice-fixed.ensures (subst (Says _) c.if-any_swapped.true c.any_swapped.ensures)) in
     swapped a.m.now (session_in states a.at) v a.work.now l.ready l.left a.first a.second a.third a.stage next (sym c.count.ensures ∙ c.if-count-g.false) d
 
+pub body-requires : goal.body-requires
+body-requires c = let a = c.args in let l = c.requires.2 in part-within a.m.now l.ready.accepted a.at.met l.left
+
 pub blame-index-requires : goal.blame-index-requires
 blame-index-requires c = let a = c.args in
     let l = c.requires.2 in
-    let w = l.ready.accepted in (
+    let w = l.ready.accepted in
+    rw c.body.ensures (
       l.ready.sees.known.agree,
-      slots-enough a.m.now c.requires.0 (session_in c.requires.1 a.at) a.slots.now a.work.now (meet a.stage (objects (a.first ∷ a.second ∷ a.third ∷ []))) l,
-      (w.stage a.at.met l.left).part.short,
-      part-within a.m.now w a.at.met l.left,
-      stage_body_lem a.m.now w a.at.met l.left,
-      part-supported a.m.now w a.at.met l.left,
+      omega (arith, codes-long a.m.now w a.at.met l.left, (w.stage a.at.met l.left).part.short),
+      codes-good a.m.now w a.at.met l.left,
+      rw (codes-say a.m.now w a.at.met l.left) (part-supported a.m.now w a.at.met l.left),
     )
 
 pub returns : goal.returns
@@ -67,4 +68,4 @@ returns c = let a = c.args in
     let none = none-swapped a.m.now l.ready.accepted (stage_at a.m.now a.at.met) a.at.carried (choice_of a.first a.second a.third) (subst (λ (k : Choice). AnySwapped a.m.now.carried (stage_at a.m.now a.at.met) a.at.carried k → ⊥) c.choice-fixed.ensures (subst (Says _) c.if-any_swapped.false c.any_swapped.ensures)) in
     let g = stage_at a.m.now a.at.met in
     stage-literal a.m.now z v a.work.now l.ready l.left a.first a.second a.third a.stage next (sym c.count.ensures ∙ c.if-count-g.false) none c.blame-index.result
-    (subst (λ (k : Choice). ((σ : ℕ → ℕ) → Holding a.m.now z (stage_body a.m.now.literals g) g.variables k σ → ⊥) → Blames (program_of a.m.now) (take a.at.objects states) (stage_body a.m.now.literals g) (Fixed g.variables k) c.blame-index.result) c.choice-fixed.ensures (λ no. c.blame-index.ensures a.m.now v z l.ready (l.rests a.at.met l.left next) l.seats refl no))
+    (subst (λ (k : Choice). ((σ : ℕ → ℕ) → Holding a.m.now z (stage_body a.m.now.literals g) g.variables k σ → ⊥) → Blames (program_of a.m.now) (take a.at.objects states) (stage_body a.m.now.literals g) (Fixed g.variables k) c.blame-index.result) c.choice-fixed.ensures (λ no. (rw (c.body.ensures, codes-say a.m.now l.ready.accepted a.at.met l.left) at c.blame-index.ensures) a.m.now v z l.ready (l.rests a.at.met l.left next) (slots-seat a.m.now v z a.slots.now a.work.now (meet a.stage (objects (a.first ∷ a.second ∷ a.third ∷ []))) l) no))

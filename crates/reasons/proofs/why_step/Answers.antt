@@ -1,3 +1,4 @@
+use native.Mathlib.Omega.{arith}
 use mathlib.Core.Path.{◌≡◌, refl, subst}
 use Prim.Native.Nat.{ℕ}
 use Rattle.std.specs.Prelude.{None}
@@ -9,7 +10,7 @@ use Rattle.model.specs.Records.{up_from, clause_body, program_of}
 use Rattle.model.proofs.Lines.{line_other}
 use Rattle.replay_session.specs.Sessions.{session_in}
 use Rattle.replay_steps.specs.Tries.{Fixes}
-use Rattle.replay_steps.proofs.Steps.{on-action, part-within, part-good, part-supported, slots-enough, stepping}
+use Rattle.replay_steps.proofs.Steps.{on-action, part-within, codes-long, codes-say, codes-good, codes-supported, slots-seat, stepping}
 use Rattle.reasons.specs.declared.Reason.TheVariants.{NotNext, NoObject, Literal}
 use Rattle.reasons.specs.Reasons.{Explains}
 use Rattle.reasons.proofs.Steps.{no-clause, no_step, new-other, next-other, step-literal, part-short}
@@ -49,11 +50,17 @@ returns-in-Next c = let a = c.args in let f = c.in-Some in let plus = c.in-Next.
     (next-other a.m.now z v a.work.now l.ready l.left f.c.line a.object plus minus (clause_body a.m.now.literals f.c) f.c.variables (on-action a.m.now v z a.slots.now a.work.now f.c t (Next plus minus) c.in-Next.is)
     (subst (λ (k : Action). Fixes k a.at.objects a.object None) c.in-Next.is c.in_default-fixed.ensures))
 
+pub body-requires : goal.body-requires
+body-requires c = let a = c.args in let f = c.in-Some in
+    let m = a.m.now in let v = c.requires.0.0 in let z = session_in c.requires.0.1 a.at in
+    let t = stepping m v z a.slots.now a.work.now a.line a.object c.requires.0.2 f.c f.ensures in
+    part-within m v z a.slots.now a.work.now f.c t
+
 pub blame-index-requires : goal.blame-index-requires
 blame-index-requires c = let a = c.args in let f = c.in-Some in
     let m = a.m.now in let v = c.requires.0.0 in let z = session_in c.requires.0.1 a.at in
     let t = stepping m v z a.slots.now a.work.now a.line a.object c.requires.0.2 f.c f.ensures in
-    (t.ready.sees.known.agree, slots-enough m v z a.slots.now a.work.now f.c t, part-short m v z a.slots.now a.work.now f.c t, part-within m v z a.slots.now a.work.now f.c t, part-good m v z a.slots.now a.work.now f.c t, part-supported m v z a.slots.now a.work.now f.c t)
+    rw c.body.ensures (t.ready.sees.known.agree, omega (arith, codes-long m v z a.slots.now a.work.now f.c t, part-short m v z a.slots.now a.work.now f.c t), codes-good m v z a.slots.now a.work.now f.c t, codes-supported m v z a.slots.now a.work.now f.c t)
 
 pub returns : goal.returns
 returns c = let a = c.args in let f = c.in-Some in
@@ -61,4 +68,4 @@ returns c = let a = c.args in let f = c.in-Some in
     let z = session_in states a.at in
     let t = stepping a.m.now v z a.slots.now a.work.now a.line a.object l f.c f.ensures in
     subst (λ (ℓ : ℕ). Explains a.m.now z (step ℓ a.object) (Literal c.blame-index.result)) f.ensures.3
-    (step-literal a.m.now v z a.slots.now a.work.now f.c t a.object f.c.action refl c.in-Some-fixed.fixed c.in-Some-fixed.ensures c.blame-index.result (λ no. c.blame-index.ensures a.m.now v z t.ready t.rests t.seats refl no))
+    (step-literal a.m.now v z a.slots.now a.work.now f.c t a.object f.c.action refl c.in-Some-fixed.fixed c.in-Some-fixed.ensures c.blame-index.result (λ no. (rw (c.body.ensures, codes-say a.m.now v z a.slots.now a.work.now f.c t) at c.blame-index.ensures) a.m.now v z t.ready t.rests (slots-seat a.m.now v z a.slots.now a.work.now f.c t) no))

@@ -1,5 +1,6 @@
 use mathlib.Core.List.{[], ◌∷◌}
 use Prim.Native.Nat.{ℕ}
+use Rattle.std.specs.Prelude.{None}
 use lib.ListN.{get_or}
 use Rattle.replay_meetings.specs.Carried.{Named}
 use Rattle.replay_meetings.proofs.Objects.{each-cell}
@@ -8,4 +9,4 @@ use Rattle.replay_meetings.proofs.all_named.Goals as goal
 pub returns : goal.returns
 returns c =
     let a = c.args in
-    each-cell (λ (v : ℕ). Named a.g (get_or a.numbers v 0) a.c (get_or (c.named-first.result ∷ c.named-second.result ∷ []) v 0)) c.named-first.ensures c.named-second.ensures
+    each-cell (λ (v : ℕ). Named a.g (get_or a.numbers v 0) a.c (get_or (c.named-first.result ∷ c.named-second.result ∷ []) v None)) c.named-first.ensures c.named-second.ensures

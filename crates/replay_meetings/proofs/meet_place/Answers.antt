@@ -1,20 +1,17 @@
-use mathlib.Core.Path.{◌≡◌, refl, sym, ◌∙◌, subst}
+use mathlib.Core.Path.{◌≡◌, sym, ◌∙◌, subst}
 use mathlib.Core.List.{[], ◌∷◌}
-use Prim.Native.Nat.{suc, ◌<◌}
+use Prim.Native.Nat.{suc}
 use native.Mathlib.Omega.{arith}
 use Rattle.semantics.specs.Runs.{meet}
 use Rattle.model.specs.Places.{objects}
 use Rattle.std.specs.Prelude.{Some, None}
 use Rattle.model.specs.Records.{stage_at, stage_body}
-use Rattle.model.proofs.Accepted.{stage_body_lem}
 use Rattle.facts_candidates.specs.declared.Choice.{Choice}
-use Rattle.facts_candidates.specs.Choices.{chosen}
 use Rattle.facts_find.specs.Bodies.{Decides}
 use Rattle.replay_session.specs.Sessions.{Says, session_in}
 use Rattle.replay_steps.specs.Tries.{Holding}
 use Rattle.replay_meetings.specs.Carried.{choice_of, AllNamed, AllAgree}
-use Rattle.replay_meetings.proofs.Objects.{chosen-small}
-use Rattle.replay_meetings.proofs.Meetings.{named-cells, part-within, part-supported, slots-enough, other-stage, other-count, not-held, disagrees, meeting-kept}
+use Rattle.replay_meetings.proofs.Meetings.{named-cells, part-within, codes-say, codes-good, slots-seat, part-supported, other-stage, other-count, not-held, disagrees, meeting-kept}
 use Rattle.replay_meetings.proofs.meet_place.Goals as goal
 
 pub returns-then-stage-i-clause-tried_by : goal.returns-then-stage-i-clause-tried_by
@@ -29,8 +26,8 @@ returns-then-count-g-clause-tried_by c =
 
 pub all_named-objects-requires : goal.all_named-objects-requires
 all_named-objects-requires c =
-    let a = c.args in let l = c.requires.0.2 in
-    ((l.ready.accepted.stage a.at.met l.left).part.few, λ x. subst (λ (k : Choice). chosen k x < 256) (sym c.choice-fixed.ensures) (chosen-small a.first a.second a.third x c.requires.1 c.requires.2 c.requires.3))
+    let a = c.args in let l = c.requires.2 in
+    (l.ready.accepted.stage a.at.met l.left).part.few
 
 pub returns-then-not-all_agree-clause-tried_by : goal.returns-then-not-all_agree-clause-tried_by
 returns-then-not-all_agree-clause-tried_by c =
@@ -41,14 +38,16 @@ returns-then-not-all_agree-clause-tried_by c =
     let n = subst (Says (AllAgree a.at.carried f.result)) c.if-not-all_agree.true c.all_agree.ensures in
     disagrees a.m.now (session_in states a.at) v a.work.now l.ready l.left a.first a.second a.third a.stage next count f.result found n
 
+pub body-requires : goal.body-requires
+body-requires c = let a = c.args in let l = c.requires.2 in part-within a.m.now l.ready.accepted a.at.met l.left
+
 pub decide-requires : goal.decide-requires
 decide-requires c =
-    let a = c.args in let l = c.requires.0.2 in let w = l.ready.accepted in (
+    let a = c.args in let l = c.requires.2 in let w = l.ready.accepted in
+    rw c.body.ensures (
       l.ready.sees.known.agree,
-      slots-enough a.m.now c.requires.0.0 (session_in c.requires.0.1 a.at) a.slots.now a.work.now (meet a.stage (objects (a.first ∷ a.second ∷ a.third ∷ []))) l,
-      part-within a.m.now w a.at.met l.left,
-      stage_body_lem a.m.now w a.at.met l.left,
-      part-supported a.m.now w a.at.met l.left,
+      codes-good a.m.now w a.at.met l.left,
+      rw (codes-say a.m.now w a.at.met l.left) (part-supported a.m.now w a.at.met l.left),
     )
 
 pub returns-in_err-decide-clause-tried_by : goal.returns-in_err-decide-clause-tried_by
@@ -58,10 +57,10 @@ returns-in_err-decide-clause-tried_by c =
     let z = session_in states a.at in
     let g = stage_at a.m.now a.at.met in
     not-held a.m.now z v a.work.now l.ready l.left a.first a.second a.third a.stage next count
-    (subst (λ (k : Choice). Decides g.variables (Holding a.m.now z (stage_body a.m.now.literals g) g.variables k) None) c.choice-fixed.ensures (c.in_err-decide.ensures a.m.now v z l.ready (l.rests a.at.met l.left next) l.seats refl)))
+    (subst (λ (k : Choice). Decides g.variables (Holding a.m.now z (stage_body a.m.now.literals g) g.variables k) None) c.choice-fixed.ensures ((rw (c.body.ensures, codes-say a.m.now l.ready.accepted a.at.met l.left) at c.in_err-decide.ensures) a.m.now v z l.ready (l.rests a.at.met l.left next) (slots-seat a.m.now v z a.slots.now a.work.now (meet a.stage (objects (a.first ∷ a.second ∷ a.third ∷ []))) l))))
 
 pub overflow_add-result-2 : goal.overflow_add-result-2
-overflow_add-result-2 c = record { fits = omega (arith, c.requires.0.2.ready.room) }
+overflow_add-result-2 c = record { fits = omega (arith, c.requires.2.ready.room) }
 
 pub returns-clause-tried_by : goal.returns-clause-tried_by
 returns-clause-tried_by c =
@@ -72,5 +71,5 @@ returns-clause-tried_by c =
     let found = named-cells a.m.now l.ready.accepted (stage_at a.m.now a.at.met) (choice_of a.first a.second a.third) f.result (subst (λ (k : Choice). AllNamed a.m.now.carried (stage_at a.m.now a.at.met) k f.result) c.choice-fixed.ensures f.ensures) in
     let agree = subst (Says (AllAgree a.at.carried f.result)) c.if-not-all_agree.false c.all_agree.ensures in
     let g = stage_at a.m.now a.at.met in
-    let held = subst (λ (k : Choice). Decides g.variables (Holding a.m.now z (stage_body a.m.now.literals g) g.variables k) (Some c.in_ok-decide.field-0)) c.choice-fixed.ensures (c.in_ok-decide.ensures a.m.now v z l.ready (l.rests a.at.met l.left next) l.seats refl) in
+    let held = subst (λ (k : Choice). Decides g.variables (Holding a.m.now z (stage_body a.m.now.literals g) g.variables k) (Some c.in_ok-decide.field-0)) c.choice-fixed.ensures ((rw (c.body.ensures, codes-say a.m.now l.ready.accepted a.at.met l.left) at c.in_ok-decide.ensures) a.m.now v z l.ready (l.rests a.at.met l.left next) (slots-seat a.m.now v z a.slots.now a.work.now (meet a.stage (objects (a.first ∷ a.second ∷ a.third ∷ []))) l)) in
     meeting-kept a.m.now z v a.work.now l.ready l.left a.first a.second a.third a.stage next count f.result found agree c.carry_all.result c.carry_all.ensures _ held.good

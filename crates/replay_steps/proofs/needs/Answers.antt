@@ -1,5 +1,7 @@
 use mathlib.Core.Path.{sym, ap, ◌∙◌, subst}
 use Prim.Native.Nat.{ℕ}
+use lib.ListN.{drop}
+use Rattle.model.proofs.Bodies as bodies
 use Rattle.semantics.specs.Models.{line}
 use Rattle.model.specs.Records.{program_of}
 use Rattle.model.proofs.Lines.{line_other}
@@ -13,12 +15,15 @@ returns-in_default c =
     let a = c.args in
     λ o. subst (Within _) (sym (ap line_body (line_other a.m.now a.line c.in_default.ensures))) tt
 
+pub body-requires : goal.body-requires
+body-requires c = let f = c.in-Some in let g = f.ensures in own-within c.args.m.now c.requires g.0 g.1 f.c g.2
+
 pub add-requires : goal.add-requires
 add-requires c =
-    let a = c.args in
+    let m = c.args.m.now in
     let f = c.in-Some in
     let g = f.ensures in
-    (own-within a.m.now c.requires g.0 g.1 f.c g.2, (f.c.variables, own-good a.m.now c.requires g.0 g.1 f.c g.2))
+    (f.c.variables, rw c.body.ensures (bodies.own-good (drop f.c.first m.literals) f.c.count f.c.variables (own-good m c.requires g.0 g.1 f.c g.2)))
 
 pub returns : goal.returns
 returns c =
@@ -26,4 +31,4 @@ returns c =
     let f = c.in-Some in
     let g = f.ensures in
     let same = ap (λ (x : ℕ). line_body (line (program_of a.m.now) x)) (sym g.3) ∙ own_body a.m.now c.requires g.0 g.1 f.c g.2 in
-    λ o. subst (Within c.add.result) (sym same) c.add.ensures.2
+    λ o. subst (Within c.add.result) (sym same) (rw (c.body.ensures, bodies.own-body (drop f.c.first a.m.now.literals) f.c.count (own-good a.m.now c.requires g.0 g.1 f.c g.2).within) at c.add.ensures.2)

@@ -12,7 +12,7 @@ use Rattle.search_levels.proofs.fitting.Given as goal
 
 -- the row has slot e, and the stage holds with it
 abbrev pub Fitting : List ℕ → List ℕ → List ℕ → Meeting → ℕ → List ℕ → ℕ → Type 0
-Fitting S work literals t f row e = (bit_at row e ≡ true) × Met S work literals t e f
+Fitting S work body t f row e = (bit_at row e ≡ true) × Met S work body t e f
 
 abbrev pub invariant-loop-e : goal.invariant-loop-e
-invariant-loop-e l = (l.e-iterator.row ≡ l.fn.row) × (length l.out ≡ width.bytes) × Over l.work l.n (λ S. Marks l.out (With (replicate width.bytes 0) (InRow 0 l.e-iterator.at (Fitting S l.work l.literals l.t l.f l.fn.row))))
+invariant-loop-e l = (l.e-iterator.row ≡ l.fn.row) × (length l.out ≡ width.bytes) × Over l.work (length l.slots) (λ S. Marks l.out (With (replicate width.bytes 0) (InRow 0 l.e-iterator.at (Fitting S l.work l.body l.t l.f l.fn.row))))

@@ -10,4 +10,4 @@ pub returns : goal.returns
 returns c =
     let a = c.args in
     let any = c.union-any.result in
-    λ S R n. hopeful-has S a.work.now a.literals.now a.ways.now a.t a.rows.now a.k any (subst (λ (all : List ℕ). Has any (Picked a.rows.now (limit.listed * a.k) all)) c.full.ensures c.union-any.ensures) c.onward-row.result c.onward-row.ensures c.met.result (c.met.ensures S R n)
+    λ S R n. hopeful-has S a.work.now a.body.now a.ways.now a.t a.rows.now a.k any (subst (λ (all : List ℕ). Has any (Picked a.rows.now (limit.listed * a.k) all)) c.full.ensures c.union-any.ensures) c.onward-row.result c.onward-row.ensures c.met.result (c.met.ensures S R n)

@@ -29,10 +29,10 @@ next_row-row-requires c =
       omega (arith, c.requires.1),
       c.loop-f-test.true,
       λ S R n.
-          has-so c.hopeful-able.result (Hopeful S a.work.now a.literals.now a.ways.now a.t (pair_at a.rows.now a.k)) (Hopeful S a.work.now a.literals.now a.ways.now a.t (pair_at l.rows a.k))
+          has-so c.hopeful-able.result (Hopeful S a.work.now a.body.now a.ways.now a.t (pair_at a.rows.now a.k)) (Hopeful S a.work.now a.body.now a.ways.now a.t (pair_at l.rows a.k))
           (λ e g. (
-            hopeful-so a.ways.now a.t (pair_at a.rows.now a.k) (pair_at l.rows a.k) (λ u v p q. sym (before_same (goal.at.next_row-row-requires c).At-loop-f u v p q)) S a.work.now a.literals.now e,
-            hopeful-so a.ways.now a.t (pair_at l.rows a.k) (pair_at a.rows.now a.k) (before_same (goal.at.next_row-row-requires c).At-loop-f) S a.work.now a.literals.now e,
+            hopeful-so a.ways.now a.t (pair_at a.rows.now a.k) (pair_at l.rows a.k) (λ u v p q. sym (before_same (goal.at.next_row-row-requires c).At-loop-f u v p q)) S a.work.now a.body.now e,
+            hopeful-so a.ways.now a.t (pair_at l.rows a.k) (pair_at a.rows.now a.k) (before_same (goal.at.next_row-row-requires c).At-loop-f) S a.work.now a.body.now e,
           ))
           (c.hopeful-able.ensures S R n),
     )
@@ -46,8 +46,8 @@ loop-f-preserved c =
     let joined = subst (λ (i : ℕ). Joined l.rows i c.next_row-row.result j.new.work) at j.ensures.1 in (
       written-more (limit.listed * suc a.k) l.f a.rows.now l.rows l.invariant.0 c.next_row-row.result j.new.work joined j.auto.work,
       λ S R n. rows_more (limit.listed * suc a.k) l.f a.rows.now l.rows l.invariant.0 c.next_row-row.result j.new.work joined
-          (Paired S a.work.now a.literals.now a.ways.now a.t a.rows.now a.k)
-          (has-so c.next_row-row.result (λ e. Paired S a.work.now a.literals.now a.ways.now a.t l.rows a.k e l.f) (λ e. Paired S a.work.now a.literals.now a.ways.now a.t a.rows.now a.k e l.f)
+          (Paired S a.work.now a.body.now a.ways.now a.t a.rows.now a.k)
+          (has-so c.next_row-row.result (λ e. Paired S a.work.now a.body.now a.ways.now a.t l.rows a.k e l.f) (λ e. Paired S a.work.now a.body.now a.ways.now a.t a.rows.now a.k e l.f)
           (λ e g. (
             (λ q. (led-so a.ways.now a.t (pair_at l.rows a.k) (pair_at a.rows.now a.k) (before_same (goal.at.loop-f-preserved c).At-loop-f) e l.f q.0, q.1)),
             λ q. (led-so a.ways.now a.t (pair_at a.rows.now a.k) (pair_at l.rows a.k) (λ u v p y. sym (before_same (goal.at.loop-f-preserved c).At-loop-f u v p y)) e l.f q.0, q.1),

@@ -1,3 +1,4 @@
+use lib.ListN.{length}
 use mathlib.Core.Path.{◌≡◌}
 use mathlib.Core.Logic.{◌↔◌}
 use mathlib.Core.Bool.{true}
@@ -12,7 +13,7 @@ use Rattle.search_levels.proofs.pass.Given as goal
 
 -- the stage holds with a pair to which level k leads
 abbrev pub Paired : Database → List ℕ → List ℕ → List ℕ → Meeting → List ℕ → ℕ → ℕ → ℕ → Type 0
-Paired S work literals ways t rows k e f = Led ways t (pair_at rows k) e f × Met S work literals t e f
+Paired S work body ways t rows k e f = Led ways t (pair_at rows k) e f × Met S work body t e f
 
 abbrev pub invariant-loop-f : goal.invariant-loop-f
-invariant-loop-f l = Written (limit.listed * suc l.k) (limit.listed * suc l.k + l.f) l.initial.rows l.rows × Over l.work l.n (λ S. (e g : ℕ) → e < limit.listed → g < l.f → (pair_at l.rows (suc l.k) e g ≡ true) ↔ Paired S l.work l.literals l.ways l.t l.initial.rows l.k e g)
+invariant-loop-f l = Written (limit.listed * suc l.k) (limit.listed * suc l.k + l.f) l.initial.rows l.rows × Over l.work (length l.slots) (λ S. (e g : ℕ) → e < limit.listed → g < l.f → (pair_at l.rows (suc l.k) e g ≡ true) ↔ Paired S l.work l.body l.ways l.t l.initial.rows l.k e g)

@@ -1,41 +1,22 @@
-use mathlib.Core.Path.{◌≡◌, refl}
-use mathlib.Core.Bool.{false≢true}
+use mathlib.Core.Path.{◌≡◌}
+use mathlib.Core.List.{List}
+use Prim.Native.Nat.{ℕ}
+use lib.ListN.{length}
 use borrow.Author.Rules.{rules}
-use Rattle.search_levels.proofs.Aiming.{none-begins, fits-here, none_more, none-fits}
+use borrow.Author.Tests.{tests}
+use Rattle.std.proofs.lemmas.Iterator.{cases_from_any}
+use Rattle.facts_bits.proofs.Walks.{YieldsList-from_slots, any-slot}
+use Rattle.search_levels.specs.Passing.{Holding, Over}
+use Rattle.search_levels.proofs.Aiming.{some-slot, over-said, over-denied}
 use Rattle.search_levels.proofs.somewhere.Goals as goal
-
-pub loop-e-init : goal.loop-e-init
-loop-e-init c =
-    let a = c.args in
-    let at : c.into_iter-e-iterator.result.at ≡ 0 = search rules in
-    (search rules, λ S R m. rw at (none-begins S a.work.now a.literals.now a.part a.c a.row))
-
-pub returns-then-shows : goal.returns-then-shows
-returns-then-shows c =
-    let a = c.args in
-    let n = rw c.loop-e.invariant.0 at c.in-Some.ensures.steps.2 in
-    λ S R m. (
-      (λ q. fits-here S a.work.now a.literals.now a.part a.c a.row c.requires.1 c.requires.0.body c.requires.2 c.in-Some.e c.choose-one.result c.choose-one.ensures c.shows.result (c.shows.ensures S R m) c.if-shows.true n.set),
-      λ q. refl,
-    )
-
-pub loop-e-preserved : goal.loop-e-preserved
-loop-e-preserved c =
-    let a = c.args in
-    let l = c.loop-e in
-    let g = c.in-Some.ensures.steps in
-    let n = rw l.invariant.0 at g.2 in (
-      rw g.0 l.invariant.0,
-      λ S R m. rw g.1
-          (none_more S a.work.now a.literals.now a.part a.c a.row c.requires.1 c.requires.0.body c.requires.2 c.in-Some.e c.choose-one.result c.choose-one.ensures c.shows.result (c.shows.ensures S R m) c.if-shows.false l.e-iterator.at (l.invariant.1 S R m) n),
-    )
 
 pub returns : goal.returns
 returns c =
     let a = c.args in
-    let l = c.loop-e in
-    let none = rw l.invariant.0 at c.in-None.ensures.steps in
-    λ S R m. (
-      (λ q. absurd (false≢true q)),
-      λ q. absurd (none-fits S a.work.now a.literals.now a.part a.c a.row c.requires.1 c.requires.0.body l.e-iterator.at (rw m c.requires.0.few) (l.invariant.1 S R m) none q),
-    )
+    let n = length a.slots.now in
+    let Here : List ℕ → ℕ → Type 0 = λ S e. Holding S a.work.now a.body.now a.variables a.c (λ σ. σ 0 ≡ e) in
+    let Yes : ℕ → Type 0 = λ e. Over a.work.now n (λ S. Here S e) in
+    let No : ℕ → Type 0 = λ e. Over a.work.now n (λ S. Here S e → ⊥) in
+    some-slot a.work.now a.body.now a.variables a.c c.requires.1 c.requires.0.body a.row n c.requires.0.few c.any.result
+    (any-slot a.row c.any.result Yes No
+    (cases_from_any _ _ c.any.result Yes No c.any.ensures.ran (YieldsList-from_slots a.row _ (search rules) (search rules)) (λ x q k. search (rules, tests, over-said)) (λ x q k. search (rules, tests, over-denied))))

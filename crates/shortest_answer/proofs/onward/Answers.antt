@@ -11,7 +11,7 @@ use Rattle.search_states.specs.declared.States.{States}
 use Rattle.search_states.specs.States.{row, Proper, Known}
 use Rattle.search_states.proofs.Seats.{sought-known}
 use Rattle.shortest_answer.specs.Ending.{Ended}
-use Rattle.shortest_answer.proofs.Laws.{known-row, slot, stuck}
+use Rattle.shortest_answer.proofs.Laws.{between-ended, known-row, slot, stuck}
 use Rattle.shortest_answer.proofs.onward.Goals as goal
 
 -- the slot that is sought is that of the state
@@ -51,5 +51,6 @@ pub returns : goal.returns
 returns c =
     let a = c.args in
     let r = c.between in
-    subst (λ (y : ℕ). Ended (program_of a.m) (row a.s) a.from y a.run.now r.new.run r.result) (seated c.args.s c.requires.0.proper c.args.to c.unwrap-u.result c.if-to-eq0.false c.requires.2 (rw c.unwrap-u.ensures at c.seek-2.ensures).1).1
-    (subst (λ (x : ℕ). Ended (program_of a.m) (row a.s) x (state (row a.s) c.unwrap-u.result) a.run.now r.new.run r.result) (seated c.args.s c.requires.0.proper c.args.from c.unwrap-e.result c.if-from-eq0.false c.requires.1 (rw c.unwrap-e.ensures at c.seek.ensures).1).1 r.ensures)
+    subst (λ (y : ℕ). Ended (program_of a.m) (row a.s) a.from y a.run.now r.new.out r.result) (seated c.args.s c.requires.0.proper c.args.to c.unwrap-u.result c.if-to-eq0.false c.requires.2 (rw c.unwrap-u.ensures at c.seek-2.ensures).1).1
+    (subst (λ (x : ℕ). Ended (program_of a.m) (row a.s) x (state (row a.s) c.unwrap-u.result) a.run.now r.new.out r.result) (seated c.args.s c.requires.0.proper c.args.from c.unwrap-e.result c.if-from-eq0.false c.requires.1 (rw c.unwrap-e.ensures at c.seek.ensures).1).1
+    (between-ended a.m a.s c.unwrap-e.result c.unwrap-u.result a.run.now r.new.out r.result r.ensures))

@@ -1,17 +1,10 @@
-use mathlib.Core.Path.{◌≡◌, sym, ◌∙◌}
+use mathlib.Core.Path.{◌≡◌, refl, sym, ◌∙◌}
 use native.Mathlib.Omega.{arith}
 use lib.ListN.{length, take}
-use lib.Seq.{length-take-le, get_or-take}
-use borrow.Author.Rules.{rules}
-use Rattle.strike_list.proofs.Records.{chosen_none, chosen-struck, chosen-kept, chosen-all}
+use lib.Seq.{length-take-le}
+use Rattle.strike_list.proofs.Records.{chosen-struck, chosen-kept}
 use Rattle.strike_list.proofs.choose.Goals as goal
 use Rattle.strike_list.proofs.choose.Goals.{else-has, then-has}
-
-pub loop-i-init : goal.loop-i-init
-loop-i-init c = let a = c.args in chosen_none (take a.l.count a.l.lines) a.number
-
-pub bounds-lines-count : goal.bounds-lines-count
-bounds-lines-count c = omega (arith, c.loop-i.invariant.few)
 
 pub loop-i-preserved : goal.loop-i-preserved
 loop-i-preserved c =
@@ -19,7 +12,7 @@ loop-i-preserved c =
     let a = c.args in
     let xs = take a.l.count a.l.lines in
     let e : length xs ≡ a.l.count = length-take-le a.l.count a.l.lines (omega arith) in
-    elim (c.if-has.branch) [ then-has w ↦ rw (w.lines-is, w.count-is) (chosen-struck xs a.number l.lines l.count l.i _ l.invariant (omega (arith, e)) (omega (arith, e)) _ (get_or-take a.l.count a.l.lines l.i 0 (search rules)) (omega (arith, e)) (sym c.has.ensures ∙ w.if-has.true)) | else-has w ↦ rw (w.lines-is, w.count-is) (chosen-kept xs a.number l.lines l.count l.i _ l.invariant (omega (arith, e)) (omega (arith, e)) (sym c.has.ensures ∙ w.if-has.false)) ]
-
-pub returns : goal.returns
-returns c = let l = c.loop-i in let a = c.args in chosen-all (take a.l.count a.l.lines) a.number l.lines l.count l.i l.invariant (omega (arith, length-take-le a.l.count a.l.lines (omega arith)))
+    elim c.if-has.branch [
+      | then-has w ↦ rw (w.chosen-is, w.push.ensures.0, w.push.ensures.1) (chosen-struck xs a.number l.chosen.lines l.chosen.count l.i _ l.invariant (omega (arith, e)) (omega (arith, e)) _ refl (omega (arith, e)) (sym c.has.ensures ∙ w.if-has.true))
+      | else-has w ↦ rw w.chosen-is (chosen-kept xs a.number l.chosen.lines l.chosen.count l.i _ l.invariant (omega (arith, e)) (omega (arith, e)) (sym c.has.ensures ∙ w.if-has.false))
+    ]

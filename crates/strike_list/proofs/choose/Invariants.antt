@@ -3,4 +3,4 @@ use Rattle.strike_list.proofs.Records.{Chosen}
 use Rattle.strike_list.proofs.choose.Given as goal
 
 abbrev pub invariant-loop-i : goal.invariant-loop-i
-invariant-loop-i l = Chosen (take l.fn.l.count l.fn.l.lines) l.number l.lines l.count l.i
+invariant-loop-i l = Chosen (take l.fn.l.count l.fn.l.lines) l.number l.chosen.lines l.chosen.count l.i

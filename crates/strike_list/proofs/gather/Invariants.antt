@@ -3,5 +3,5 @@ use Rattle.strike_list.proofs.Records.{Holds}
 use Rattle.strike_list.proofs.Gathering.{begun}
 use Rattle.strike_list.proofs.gather.Given as goal
 
-abbrev pub invariant-loop-i : goal.invariant-loop-i
-invariant-loop-i l = Holds l.lines l.count (named (begun l.m l.i) l.list)
+abbrev pub invariant-loop-c : goal.invariant-loop-c
+invariant-loop-c l = Holds l.found.lines l.found.count (named (begun l.fn.m l.c-index) l.list)

@@ -1,11 +1,8 @@
 use mathlib.Core.Path.{sym, ◌∙◌}
-use Rattle.strike_model.proofs.Laws.{list_any-elem, moved-start, moved-struck, moved-kept, moved-end}
+use Rattle.strike_model.proofs.Laws.{list_any-elem, moved-struck, moved-kept, moved-end}
 use borrow.Author.Rules.{rules}
 use Rattle.strike_model.proofs.strike.Goals as goal
 use Rattle.strike_model.proofs.strike.Goals.{else-not-contains, then-not-contains}
-
-pub loop-i-init : goal.loop-i-init
-loop-i-init c = moved-start c.args.lines.now c.args.m c.requires.row
 
 pub loop-i-preserved : goal.loop-i-preserved
 loop-i-preserved c =

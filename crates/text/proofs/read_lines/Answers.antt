@@ -1,8 +1,9 @@
 use mathlib.Core.Path.{sym, ◌∙◌}
 use native.Mathlib.Omega.{arith}
 use lib.Seq.{length-take-le}
+use Rattle.std.proofs.lemmas.Result.{err_from_is_err_and}
 use Rattle.model.specs.Records.{program_of}
-use Rattle.text.proofs.Lines.{reached-start, onwards-start, onwards-bad, valid-there, line_refused, onwards-on, reached-on, onwards-end}
+use Rattle.text.proofs.Lines.{reached-start, onwards-start, onwards-bad, valid-there, line-failed, line-passed, line_refused, onwards-on, reached-on, onwards-end}
 use borrow.Author.Rules.{rules}
 use Rattle.text.proofs.read_lines.Goals as goal
 
@@ -16,7 +17,7 @@ pub line_end-requires : goal.line_end-requires
 line_end-requires c = c.loop-at-test.true
 
 pub returns-in_default : goal.returns-in_default
-returns-in_default c = rw (c.refusal.ensures, c.loop-at.invariant.2) (onwards-bad c.loop-at.invariant.1 c.in_default.ensures)
+returns-in_default c = rw c.loop-at.invariant.2 (onwards-bad c.loop-at.invariant.1 c.in_default.ensures)
 
 pub slice_bounds-at_bytes-end : goal.slice_bounds-at_bytes-end
 slice_bounds-at_bytes-end c = let h = c.in-Some.ensures.ends in sym (length-take-le c.in-Some.e c.args.text.now (omega arith))
@@ -50,12 +51,14 @@ read_line-requires c =
     let so = c.loop-at.invariant.1 in
     (omega (arith, k), omega (arith, k, c.loop-at.invariant.0), valid-there so l, so.limited, (program_of c.loop-at.m, so.holds))
 
-pub returns-in-Err : goal.returns-in-Err
-returns-in-Err c =
+pub returns-in_err-on_line : goal.returns-in_err-on_line
+returns-in_err-on_line c =
     let i = c.loop-at.invariant in
-    let l = c.in-Some.ensures in
     let a = c.at_bytes.ensures.missing c.if-at_bytes.false in
-    rw (c.refusal-in-Err.ensures, i.2) (line_refused i.1 l c.in-Err.row (c.in-Err.ensures.steps (λ _. a) (program_of c.loop-at.m) i.1.holds))
+    let p = err_from_is_err_and c.from_residual.result c.from_residual.ensures.1 in
+    let f = line-failed _ _ c.on_line.ensures c.in_err-on_line.was in
+    let r = rw f.1 at c.read_line.ensures in
+    rw (p.1, p.2, f.2, i.2) (line_refused i.1 c.in-Some.ensures f.0 (r.steps (λ _. a) (program_of c.loop-at.m) i.1.holds))
 
 pub overflow_add-at : goal.overflow_add-at
 overflow_add-at c = let h = c.in-Some.ensures.ends in omega (arith, c.loop-at.invariant.0)
@@ -71,9 +74,9 @@ loop-at-preserved c =
     let i = c.loop-at.invariant in
     let l = c.in-Some.ensures in
     let a = c.at_bytes.ensures.missing c.if-at_bytes.false in
-    let r = c.in_default-read_line.ensures in
+    let r = rw (line-passed _ _ c.on_line.ensures c.in_ok-on_line.was) at c.read_line.ensures in
     let s = r.steps (λ _. a) (program_of c.loop-at.m) i.1.holds in
     (i.0, reached-on i.1 l s r.aside, i.2 ∙ onwards-on i.1 l s a)
 
 pub returns : goal.returns
-returns c = let k = c.loop-at in rw (c.refusal-2.ensures, k.invariant.2) (onwards-end c.args.text.now k.at k.line k.d k.m (omega (arith, c.loop-at-test.false)))
+returns c = let k = c.loop-at in rw k.invariant.2 (onwards-end c.args.text.now k.at k.line k.d k.m (omega (arith, c.loop-at-test.false)))

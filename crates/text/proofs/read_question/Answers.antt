@@ -1,8 +1,9 @@
 use mathlib.Core.Path.{sym}
 use native.Mathlib.Omega.{arith}
 use lib.Seq.{length-take-le}
+use Rattle.std.proofs.lemmas.Result.{err_from_is_err_and}
 use Rattle.text_opening.proofs.Laws.{fitted-empty}
-use Rattle.text.proofs.Lines.{valid-there}
+use Rattle.text.proofs.Lines.{valid-there, line-failed, line-passed}
 use Rattle.text.proofs.Asking.{ask-refused, ask-followed, ask-last}
 use Rattle.text.proofs.read_question.Goals as goal
 
@@ -17,11 +18,14 @@ read_ask-requires c =
     let k = length-take-le a.e a.text.now (omega arith) in
     (omega (arith, k, c.requires.2.room), omega arith, omega (arith, k, c.requires.0), valid-there so c.requires.2.line, rw c.fit.ensures (fitted-empty a.d a.line so.holds so.stagecount so.stages))
 
-pub returns-in-Err : goal.returns-in-Err
-returns-in-Err c = rw c.refusal.ensures (ask-refused c.requires.1 c.requires.2 c.in-Err.row c.in-Err.ensures)
+pub returns-in_err-on_line : goal.returns-in_err-on_line
+returns-in_err-on_line c =
+    let p = err_from_is_err_and c.from_residual.result c.from_residual.ensures.1 in
+    let f = line-failed _ _ c.on_line.ensures c.in_err-on_line.was in
+    rw (p.1, p.2, f.2) (ask-refused c.requires.1 c.requires.2 f.0 (rw f.1 at c.read_ask.ensures.0))
 
 pub returns-then-e-text : goal.returns-then-e-text
-returns-then-e-text c = rw c.refusal-then-e-text.ensures (ask-followed c.requires.1 c.requires.2 c.in_default.ensures c.if-e-text.true)
+returns-then-e-text c = ask-followed c.requires.1 c.requires.2 (rw (line-passed _ _ c.on_line.ensures c.in_ok-on_line.was) at c.read_ask.ensures.0) c.if-e-text.true
 
 pub returns : goal.returns
-returns c = ask-last c.requires.1 c.requires.2 c.in_default.ensures (omega (arith, c.if-e-text.false)) c.fit.ensures
+returns c = ask-last c.requires.1 c.requires.2 (rw (line-passed _ _ c.on_line.ensures c.in_ok-on_line.was) at c.read_ask.ensures.0) (omega (arith, c.if-e-text.false)) c.fit.ensures

@@ -1,23 +1,24 @@
 use native.Mathlib.Nat.{sub-zero}
 use native.Mathlib.Omega.{arith}
 use Rattle.grammar.proofs.Reading.{reading-full, reading-ends, reading-fails}
-use Rattle.text_ask.proofs.Laws.{stages-start, stages-addable, stages-more, stages-closed}
+use Rattle.text_stages.proofs.Adding.{none-aside}
+use Rattle.text_ask.proofs.Laws.{aside-more, stages-start, stages-addable, stages-more, stages-closed}
 use Rattle.text_ask.proofs.read_stages.Goals as goal
 
 pub loop-init : goal.loop-init
-loop-init c = rw (sub-zero c.args.n) (stages-start c.requires.0, c.requires.1, c.requires.2, c.requires.3)
+loop-init c = rw (sub-zero c.args.n) (stages-start c.requires.0, c.requires.1, c.requires.2, c.requires.3, none-aside)
 
 pub returns-then-at_byte : goal.returns-then-at_byte
-returns-then-at_byte c = stages-closed c.loop.invariant.0 (c.at_byte.ensures.found c.if-at_byte.true).0 (c.at_byte.ensures.found c.if-at_byte.true).1
+returns-then-at_byte c = (stages-closed c.loop.invariant.0 (c.at_byte.ensures.found c.if-at_byte.true).0 (c.at_byte.ensures.found c.if-at_byte.true).1, c.loop.invariant.4)
 
 pub returns-then-not-at_byte : goal.returns-then-not-at_byte
-returns-then-not-at_byte c = reading-ends c.loop.invariant.0.reading (c.at_byte.ensures.missing c.if-at_byte.false) (c.at_byte-in-loop.ensures.missing c.if-not-at_byte.true)
+returns-then-not-at_byte c = (reading-ends c.loop.invariant.0.reading (c.at_byte.ensures.missing c.if-at_byte.false) (c.at_byte-in-loop.ensures.missing c.if-not-at_byte.true), c.loop.invariant.4)
 
 pub read_stage-requires : goal.read_stage-requires
 read_stage-requires c = (omega (arith, (c.at_byte-in-loop.ensures.found c.if-not-at_byte.false).0), c.loop.invariant.1, c.loop.invariant.2)
 
 pub returns-in_err-b : goal.returns-in_err-b
-returns-in_err-b c = rw c.from_residual.ensures (reading-fails c.loop.invariant.0.reading (c.at_byte.ensures.missing c.if-at_byte.false) (c.at_byte-in-loop.ensures.found c.if-not-at_byte.false).1 c.in_err-b.ensures)
+returns-in_err-b c = (rw c.from_residual.ensures (reading-fails c.loop.invariant.0.reading (c.at_byte.ensures.missing c.if-at_byte.false) (c.at_byte-in-loop.ensures.found c.if-not-at_byte.false).1 c.in_err-b.ensures), c.loop.invariant.4)
 
 pub add-table-requires : goal.add-table-requires
 add-table-requires c = stages-addable c.loop.invariant.0 (omega arith) c.loop.invariant.3 c.in_ok-b.ensures
@@ -28,10 +29,11 @@ loop-preserved c = (
   c.loop.invariant.1,
   c.loop.invariant.2,
   c.loop.invariant.3,
+  aside-more c.loop.invariant.4 c.add-table.ensures.aside,
 )
 
 pub returns-then-not-at_byte-2 : goal.returns-then-not-at_byte-2
-returns-then-not-at_byte-2 c = reading-full c.loop.invariant.0.reading (omega arith) (c.at_byte-2.ensures.missing c.if-not-at_byte-2.true)
+returns-then-not-at_byte-2 c = (reading-full c.loop.invariant.0.reading (omega arith) (c.at_byte-2.ensures.missing c.if-not-at_byte-2.true), c.loop.invariant.4)
 
 pub returns : goal.returns
-returns c = let f = c.at_byte-2.ensures.found c.if-not-at_byte-2.false in stages-closed c.loop.invariant.0 f.0 f.1
+returns c = let f = c.at_byte-2.ensures.found c.if-not-at_byte-2.false in (stages-closed c.loop.invariant.0 f.0 f.1, c.loop.invariant.4)

@@ -7,4 +7,4 @@ use Rattle.text_carried.proofs.Entering.{NumberedSo}
 use Rattle.text_carried.proofs.number.Given as goal
 
 abbrev pub invariant-loop-j : goal.invariant-loop-j
-invariant-loop-j l = scopes.Valid l.text l.s × (l.initial.t.count + l.s.count ≤ 12) × ((ws : List Word) × Holds l.text l.initial.t ws) × NumberedSo l.text l.initial.t l.s l.t l.numbers l.j
+invariant-loop-j l = scopes.Valid l.text l.fn.s × (l.initial.t.count + l.fn.s.count ≤ 12) × ((ws : List Word) × Holds l.text l.initial.t ws) × NumberedSo l.text l.initial.t l.fn.s l.t l.numbers l.j

@@ -6,7 +6,7 @@ use lib.Seq.{slice}
 use borrow.Author.Tests.{ne_eqb, lt-leb}
 use Rattle.text_names.specs.Names.{declared_of}
 use Rattle.text_names.proofs.Laws.{tally-count}
-use Rattle.text_declarations.proofs.Laws.{tally-le, rel-crowded, rel-pairs, rel-free, rel-again}
+use Rattle.text_declarations.proofs.Laws.{tally-le, rel-crowded, rel-pairs, rel-free, taken}
 use Rattle.text_declarations.proofs.rel_room.Goals as goal
 use Rattle.text_declarations.proofs.rel_room.Goals.{else-n-eq2-via-else-n-eq2, else-n-eq2-via-then-n-eq2+else-pairs-ge-PAIRS}
 
@@ -34,12 +34,12 @@ returns-then-pairs-ge-PAIRS c = let t = c.args.text.now in sym (rel-pairs (decla
 pub find-requires : goal.find-requires
 find-requires c = c.requires
 
-pub returns-in-Some : goal.returns-in-Some
-returns-in-Some c = let t = c.args.text.now in
+pub returns-then-is_some : goal.returns-then-is_some
+returns-then-is_some c = let t = c.args.text.now in
     let k : (eqb c.args.n 2 && leb 6 c.tally_of-pairs.result) ≡ false = elim c.else-n-eq2.branch [ else-n-eq2-via-then-n-eq2+else-pairs-ge-PAIRS w ↦ rw (lt-leb 6 c.tally_of-pairs.result w.if-pairs-ge-PAIRS.false) (and-false (eqb c.args.n 2)) | else-n-eq2-via-else-n-eq2 w ↦ rw (ne_eqb c.args.n 2 w.if-n-eq2.false) ] in
-    sym (rel-again (declared_of t c.args.d) (slice c.args.a c.args.e t) c.args.n c.tally_of-nullary.result c.tally_of-single.result c.tally_of-pairs.result (tally-count t c.args.d 1 ∙ sym c.tally_of-nullary.ensures) (tally-count t c.args.d 2 ∙ sym c.tally_of-single.ensures) (tally-count t c.args.d 3 ∙ sym c.tally_of-pairs.ensures) c.if-nullary-single-ge-RELS.false k _ c.in-Some.ensures.1)
+    sym (rel-free (declared_of t c.args.d) (slice c.args.a c.args.e t) c.args.n c.tally_of-nullary.result c.tally_of-single.result c.tally_of-pairs.result (tally-count t c.args.d 1 ∙ sym c.tally_of-nullary.ensures) (tally-count t c.args.d 2 ∙ sym c.tally_of-single.ensures) (tally-count t c.args.d 3 ∙ sym c.tally_of-pairs.ensures) c.if-nullary-single-ge-RELS.false k ∙ rw (taken (declared_of t c.args.d) (slice c.args.a c.args.e t) c.find.result c.find.ensures.1 c.is_some.ensures ∙ c.if-is_some.true))
 
 pub returns : goal.returns
 returns c = let t = c.args.text.now in
     let k : (eqb c.args.n 2 && leb 6 c.tally_of-pairs.result) ≡ false = elim c.else-n-eq2.branch [ else-n-eq2-via-then-n-eq2+else-pairs-ge-PAIRS w ↦ rw (lt-leb 6 c.tally_of-pairs.result w.if-pairs-ge-PAIRS.false) (and-false (eqb c.args.n 2)) | else-n-eq2-via-else-n-eq2 w ↦ rw (ne_eqb c.args.n 2 w.if-n-eq2.false) ] in
-    sym (rel-free (declared_of t c.args.d) (slice c.args.a c.args.e t) c.args.n c.tally_of-nullary.result c.tally_of-single.result c.tally_of-pairs.result (tally-count t c.args.d 1 ∙ sym c.tally_of-nullary.ensures) (tally-count t c.args.d 2 ∙ sym c.tally_of-single.ensures) (tally-count t c.args.d 3 ∙ sym c.tally_of-pairs.ensures) c.if-nullary-single-ge-RELS.false k c.in_default.ensures.1)
+    sym (rel-free (declared_of t c.args.d) (slice c.args.a c.args.e t) c.args.n c.tally_of-nullary.result c.tally_of-single.result c.tally_of-pairs.result (tally-count t c.args.d 1 ∙ sym c.tally_of-nullary.ensures) (tally-count t c.args.d 2 ∙ sym c.tally_of-single.ensures) (tally-count t c.args.d 3 ∙ sym c.tally_of-pairs.ensures) c.if-nullary-single-ge-RELS.false k ∙ rw (taken (declared_of t c.args.d) (slice c.args.a c.args.e t) c.find.result c.find.ensures.1 c.is_some.ensures ∙ c.if-is_some.false))

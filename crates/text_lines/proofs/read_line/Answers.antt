@@ -13,7 +13,7 @@ pub returns-in_err-d : goal.returns-in_err-d
 returns-in_err-d c =
     let s = drop (c.args.at + 7) c.args.text.now in
     let p = passed c.in_err-d.was c.from_residual.ensures.1 in
-    rw p.1 (line-undeclared (state_rest s) (state-none (declared_of c.args.text.now c.args.d.now) c.args.number s) (line-state (drop c.args.at c.args.text.now) (c.at_bytes.ensures.found c.if-at_bytes.true).1) p.0 _ _ (rw p.2 at c.read_state.ensures))
+    rw p.1 (line-undeclared (state_rest s) (state-none (declared_of c.args.text.now c.args.d.now) c.args.number s) (line-state (drop c.args.at c.args.text.now) (c.at_bytes.ensures.found c.if-at_bytes.true).1) p.0 (rw p.2 at c.read_state.ensures))
 
 pub returns-then-at_bytes : goal.returns-then-at_bytes
 returns-then-at_bytes c =
@@ -27,7 +27,7 @@ pub returns-in_err-d-2 : goal.returns-in_err-d-2
 returns-in_err-d-2 c =
     let s = drop (c.args.at + 5) c.args.text.now in
     let p = passed c.in_err-d-2.was c.from_residual-in_err-d-2.ensures.1 in
-    rw p.1 (line-undeclared (rel_rest s) (rel-none (declared_of c.args.text.now c.args.d.now) c.args.number s) (line-rel (drop c.args.at c.args.text.now) (c.at_bytes.ensures.missing c.if-at_bytes.false) (c.at_bytes-2.ensures.found c.if-at_bytes-2.true).1) p.0 _ _ (rw p.2 at c.read_rel.ensures))
+    rw p.1 (line-undeclared (rel_rest s) (rel-none (declared_of c.args.text.now c.args.d.now) c.args.number s) (line-rel (drop c.args.at c.args.text.now) (c.at_bytes.ensures.missing c.if-at_bytes.false) (c.at_bytes-2.ensures.found c.if-at_bytes-2.true).1) p.0 (rw p.2 at c.read_rel.ensures))
 
 pub returns-then-at_bytes-2 : goal.returns-then-at_bytes-2
 returns-then-at_bytes-2 c =
@@ -38,7 +38,7 @@ pub read_clause-requires : goal.read_clause-requires
 read_clause-requires c = (c.requires.0, c.requires.1, c.requires.2, record { states = c.at_bytes.ensures.missing c.if-at_bytes.false; relations = c.at_bytes-2.ensures.missing c.if-at_bytes-2.false })
 
 pub returns-in_err-r : goal.returns-in_err-r
-returns-in_err-r c = let p = passed c.in_err-r.was c.from_residual-in_err-r.ensures.1 in rw p.1 (line-refused c.args.at c.args.number c.requires.2 c.requires.3 p.0 _ _ (rw p.2 at c.read_clause.ensures))
+returns-in_err-r c = let p = passed c.in_err-r.was c.from_residual-in_err-r.ensures.1 in rw p.1 (line-refused c.args.at c.args.number c.requires.2 c.requires.3 p.0 (rw p.2 at c.read_clause.ensures))
 
 pub add_clause-requires : goal.add_clause-requires
 add_clause-requires c = line-storable c.args.at c.args.number c.requires.2 c.requires.3 c.requires.4.1 c.in_ok-r.ensures

@@ -1,19 +1,12 @@
 use mathlib.Core.Path.{refl}
+use borrow.Author.Rules.{rules}
 use Rattle.text_names.specs.declared.Name.{Name}
 use Rattle.text_opening.specs.Openings.{place_of}
-use Rattle.text_opening.proofs.Laws.{column-start, fitting-more, fitting-all}
-use borrow.Author.Rules.{rules}
+use Rattle.text_opening.proofs.Laws.{made-row}
 use Rattle.text_opening.proofs.fit.Goals as goal
 
-pub loop-i-init : goal.loop-i-init
-loop-i-init c = record {
-  codes = column-start (λ (x : Name). x.code) (search rules);
-  names = column-start place_of refl;
-  rest = refl;
-}
-
-pub loop-i-preserved : goal.loop-i-preserved
-loop-i-preserved c = fitting-more c.loop-i.invariant (search rules)
-
 pub returns : goal.returns
-returns c = fitting-all c.loop-i.invariant (search rules) (search rules)
+returns c =
+    let codes = made-row c.args.d (λ (x : Name). x.code) _ _ (λ i r q m. search rules) c.from_fn.result c.from_fn.ensures.items (search rules) in
+    let names = made-row c.args.d place_of _ _ (λ i r q m. search rules) c.from_fn-m.result c.from_fn-m.ensures.items (search rules) in
+    rw (codes, names) refl

@@ -1,19 +1,22 @@
-use mathlib.Core.Path.{sym, ◌∙◌}
-use Rattle.text_scan.proofs.Laws.{line-start, line-more, line-found, line-bad, line-unended}
-use borrow.Author.Rules.{rules}
+use mathlib.Core.Path.{◌≡◌, refl, ◌∙◌}
+use mathlib.Core.Bool.{true, false}
+use lib.ListN.{drop}
+use Rattle.std.proofs.Common.{rules, tests}
+use Rattle.std.specs.Prelude.{None, Some}
+use Rattle.std.proofs.lemmas.List.{take_rest}
+use Rattle.std.proofs.lemmas.Iterator.{YieldsList-from_slice, IsFirst-from_position}
+use Rattle.grammar.specs.Bytes.{allowed}
+use Rattle.text_scan.proofs.Laws.{line-good, line-stops}
 use Rattle.text_scan.proofs.line_end.Goals as goal
 
-pub loop-i-init : goal.loop-i-init
-loop-i-init c = line-start (search rules)
-
-pub returns-then-b-eq10 : goal.returns-then-b-eq10
-returns-then-b-eq10 c = line-found c.loop-i.invariant (search rules) c.if-b-eq10.true
-
-pub loop-i-preserved : goal.loop-i-preserved
-loop-i-preserved c = line-more c.loop-i.invariant (search rules) c.if-b-eq10.false (sym c.is_allowed.ensures ∙ c.if-not-is_allowed.false)
-
-pub returns-then-not-is_allowed : goal.returns-then-not-is_allowed
-returns-then-not-is_allowed c = line-bad c.loop-i.invariant (search rules) c.if-b-eq10.false (sym c.is_allowed.ensures ∙ c.if-not-is_allowed.true)
+pub returns-in_err-n : goal.returns-in_err-n
+returns-in_err-n c =
+    let a = c.args in
+    let h = IsFirst-from_position _ _ None (λ b. allowed b ≡ false) (λ b. allowed b ≡ true) c.in_err-n.ensures.ran (YieldsList-from_slice (drop a.at a.text.now) (c.iter.ensures.rest ∙ take_rest a.text.now a.at)) (λ x q k. search (rules, tests)) (λ x q k. search (rules, tests)) in
+    rw c.from_residual.ensures (line-good a.text.now a.at c.requires h)
 
 pub returns : goal.returns
-returns c = line-unended c.loop-i.invariant (search rules) (search rules)
+returns c =
+    let a = c.args in
+    let h = IsFirst-from_position _ _ (Some c.in_ok-n.n) (λ b. allowed b ≡ false) (λ b. allowed b ≡ true) c.in_ok-n.ensures.ran (YieldsList-from_slice (drop a.at a.text.now) (c.iter.ensures.rest ∙ take_rest a.text.now a.at)) (λ x q k. search (rules, tests)) (λ x q k. search (rules, tests)) in
+    rw c.then_some.ensures (line-stops a.text.now a.at c.requires c.in_ok-n.n _ h.0 h.2 (h.1 0) refl)

@@ -1,3 +1,5 @@
+use mathlib.Core.Path.{refl, sym}
+use lib.Seq.{length-take-le}
 use native.Mathlib.Omega.{arith}
 use Rattle.witness_walk.proofs.Laws.{written-length, behind-index}
 use Rattle.witness.proofs.Laws.{building-few, turn-fits, whole, shown}
@@ -22,13 +24,21 @@ build-r-requires c =
       omega (arith, p.2, building-few a.m a.work.now a.s p.0.known 0, behind-index a.m a.work.now a.s a.rows.now a.table.now a.steps.now a.ways.now p.0 _ 0 a.run.now _ _ _ _ _ h, written-length _ _ _ _ _ _ h.played),
     )
 
-pub turn-requires : goal.turn-requires
-turn-requires c =
+pub slice_bounds-reverse-end : goal.slice_bounds-reverse-end
+slice_bounds-reverse-end c =
     let p = c.requires in
     let a = c.args in
     let h = c.walk-from.ensures in
     let e = c.build-r.ensures in
     turn-fits _ _ a.run.now _ _ (whole a.m a.work.now a.s a.rows.now a.table.now a.steps.now a.ways.now p.0 a.run.now _ _ _ _ _ _ h e.0 e.1) (omega (arith, p.2))
+
+pub slice_bounds-reverse-end-2 : goal.slice_bounds-reverse-end-2
+slice_bounds-reverse-end-2 c =
+    let p = c.requires in
+    let a = c.args in
+    let h = c.walk-from.ensures in
+    let e = c.build-r.ensures in
+    sym (length-take-le _ _ (turn-fits _ _ a.run.now _ _ (whole a.m a.work.now a.s a.rows.now a.table.now a.steps.now a.ways.now p.0 a.run.now _ _ _ _ _ _ h e.0 e.1) (omega (arith, p.2))))
 
 pub returns : goal.returns
 returns c =
@@ -36,4 +46,4 @@ returns c =
     let a = c.args in
     let h = c.walk-from.ensures in
     let e = c.build-r.ensures in
-    shown a.m a.work.now a.s a.rows.now a.table.now a.steps.now a.ways.now p.0 a.run.now _ _ (whole a.m a.work.now a.s a.rows.now a.table.now a.steps.now a.ways.now p.0 a.run.now _ _ _ _ _ _ h e.0 e.1) (omega (arith, p.2)) _ c.turn.ensures
+    shown a.m a.work.now a.s a.rows.now a.table.now a.steps.now a.ways.now p.0 a.run.now _ _ (whole a.m a.work.now a.s a.rows.now a.table.now a.steps.now a.ways.now p.0 a.run.now _ _ _ _ _ _ h e.0 e.1) (omega (arith, p.2)) _ (rw c.reverse.ensures.after refl)

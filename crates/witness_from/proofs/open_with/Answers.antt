@@ -43,7 +43,7 @@ errand-then-requires c =
       p.1,
       omega arith,
       p.0.model.one,
-      ready_at a.m a.s p.0.proper e.0 e.1.0.0.0 1 a.p.second e.1.0.1.1,
+      ready_at a.m a.s p.0.proper e.0 e.1.0.0.0 1 a.p.pair.second e.1.0.1.1,
       p.4.second,
       omega (arith, p.9, t.index, t.few),
     )
@@ -61,7 +61,7 @@ approach-at-requires c =
       p.0.proper,
       p.0.found,
       p.1,
-      ready_at a.m a.s p.0.proper e.0 e.1.0.0.0 0 a.p.first e.1.0.1.0,
+      ready_at a.m a.s p.0.proper e.0 e.1.0.0.0 0 a.p.pair.first e.1.0.1.0,
       p.4.first,
       omega (arith, p.9, t.index, t.few, d.index, d.few),
     )
@@ -92,5 +92,5 @@ returns c =
     let p = c.requires in
     let a = c.args in
     let e = c.opening-c.ensures in
-    opening-written a.m a.work.now a.s p.0 a.cast a.carried a.object a.slot a.p.first a.p.second _ e.0 e.1.0 (rw c.unwrap-to.ensures at (e.2 0 p.7)) a.run.now _ _ _ _ a.p.at _ _ _ _
+    opening-written a.m a.work.now a.s p.0 a.cast a.carried a.object a.slot a.p.pair.first a.p.pair.second _ e.0 e.1.0 (rw c.unwrap-to.ensures at (e.2 0 p.7)) a.run.now _ _ _ _ a.p.at _ _ _ _
     (c.meet_first-met.ensures e.0 e.2) c.errand-then.ensures c.approach-at.ensures c.lead.ensures

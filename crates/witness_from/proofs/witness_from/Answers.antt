@@ -1,7 +1,8 @@
-use mathlib.Core.Path.{◌≡◌, sym, ap, ◌∙◌, subst}
+use mathlib.Core.Path.{◌≡◌, refl, sym, ap, ◌∙◌, subst}
 use mathlib.Core.Bool.{Bool}
 use Prim.Native.Nat.{ℕ}
 use native.Mathlib.Omega.{arith}
+use lib.Seq.{length-take-le}
 use Rattle.witness_meetings.specs.declared.Cast.{Cast}
 use Rattle.witness_meetings.specs.Meetings.{Written, Numbered}
 use Rattle.witness_walk.specs.Walk.{Behind}
@@ -24,11 +25,11 @@ walk-p-requires c =
 
 -- what is written of the walk
 behind : (c : After-walk-p) → let a = c.args in let q = c.walk-p.result in
-    Behind a.m a.s (cast_from (first_carried a.m) a.existing a.s.count a.object) 1 a.rows.now a.run.now c.walk-p.new.run 1 q.first q.second q.at
+    Behind a.m a.s (cast_from (first_carried a.m) a.existing a.s.count a.object) 1 a.rows.now a.run.now c.walk-p.new.run 1 q.pair.first q.pair.second q.at
 behind c =
     let a = c.args in
     let q = c.walk-p.result in
-    subst (λ (d : Cast). Behind a.m a.s d 1 a.rows.now a.run.now c.walk-p.new.run 1 q.first q.second q.at) (same a.existing a.s.count a.object _ _ _ c.cast-roles.ensures c.first_carried-carried.ensures) c.walk-p.ensures
+    subst (λ (d : Cast). Behind a.m a.s d 1 a.rows.now a.run.now c.walk-p.new.run 1 q.pair.first q.pair.second q.at) (same a.existing a.s.count a.object _ _ _ c.cast-roles.ensures c.first_carried-carried.ensures) c.walk-p.ensures
 
 pub open_with-at-requires : goal.open_with-at-requires
 open_with-at-requires c =
@@ -50,12 +51,12 @@ open_with-at-requires c =
 
 -- what is written of the opening
 opening : (c : After-open_with-at) → let a = c.args in let q = c.walk-p in
-    Written (Opening a.m a.s (cast_from (first_carried a.m) a.existing a.s.count a.object) (first_carried a.m) a.object a.slot q.result.first q.result.second) (opened a.m a.s (first_carried a.m)) q.new.run q.result.at c.open_with-at.new.run c.open_with-at.result
+    Written (Opening a.m a.s (cast_from (first_carried a.m) a.existing a.s.count a.object) (first_carried a.m) a.object a.slot q.result.pair.first q.result.pair.second) (opened a.m a.s (first_carried a.m)) q.new.run q.result.at c.open_with-at.new.run c.open_with-at.result
 opening c =
     let a = c.args in
     let q = c.walk-p in
-    subst (λ (d : Bool). Written (Opening a.m a.s (cast_from (first_carried a.m) a.existing a.s.count a.object) d a.object a.slot q.result.first q.result.second) (opened a.m a.s d) q.new.run q.result.at c.open_with-at.new.run c.open_with-at.result) c.first_carried-carried.ensures
-    (subst (λ (r : Cast). Written (Opening a.m a.s r c.first_carried-carried.result a.object a.slot q.result.first q.result.second) (opened a.m a.s c.first_carried-carried.result) q.new.run q.result.at c.open_with-at.new.run c.open_with-at.result) (same a.existing a.s.count a.object _ _ _ c.cast-roles.ensures c.first_carried-carried.ensures) c.open_with-at.ensures)
+    subst (λ (d : Bool). Written (Opening a.m a.s (cast_from (first_carried a.m) a.existing a.s.count a.object) d a.object a.slot q.result.pair.first q.result.pair.second) (opened a.m a.s d) q.new.run q.result.at c.open_with-at.new.run c.open_with-at.result) c.first_carried-carried.ensures
+    (subst (λ (r : Cast). Written (Opening a.m a.s r c.first_carried-carried.result a.object a.slot q.result.pair.first q.result.pair.second) (opened a.m a.s c.first_carried-carried.result) q.new.run q.result.at c.open_with-at.new.run c.open_with-at.result) (same a.existing a.s.count a.object _ _ _ c.cast-roles.ensures c.first_carried-carried.ensures) c.open_with-at.ensures)
 
 pub build-r-requires : goal.build-r-requires
 build-r-requires c =
@@ -71,13 +72,21 @@ build-r-requires c =
       omega (arith, p.7, building-few a.m a.work.now a.s p.0.known a.existing, opening-index a.m a.work.now a.s p.0.known p.3 a.existing a.object a.slot p.4 p.5 a.rows.now a.run.now _ _ _ _ h, o.index, o.few, written-length _ _ _ _ _ _ h.played, written-length _ _ _ _ _ _ o),
     )
 
-pub turn-requires : goal.turn-requires
-turn-requires c =
+pub slice_bounds-reverse-end : goal.slice_bounds-reverse-end
+slice_bounds-reverse-end c =
     let p = c.requires in
     let a = c.args in
     let e = c.build-r.ensures in
     let four = c.requires.0.known.model.stages in
-    turn-fits _ _ a.run.now _ _ (whole a.m a.work.now a.s p.0.known p.3 a.existing a.object a.slot p.4 p.5 a.rows.now a.run.now _ _ _ _ (behind (goal.at.turn-requires c).After-walk-p) _ _ _ _ (opening (goal.at.turn-requires c).After-open_with-at) e.0 e.1) (omega (arith, p.7))
+    turn-fits _ _ a.run.now _ _ (whole a.m a.work.now a.s p.0.known p.3 a.existing a.object a.slot p.4 p.5 a.rows.now a.run.now _ _ _ _ (behind (goal.at.slice_bounds-reverse-end c).After-walk-p) _ _ _ _ (opening (goal.at.slice_bounds-reverse-end c).After-open_with-at) e.0 e.1) (omega (arith, p.7))
+
+pub slice_bounds-reverse-end-2 : goal.slice_bounds-reverse-end-2
+slice_bounds-reverse-end-2 c =
+    let p = c.requires in
+    let a = c.args in
+    let e = c.build-r.ensures in
+    let four = c.requires.0.known.model.stages in
+    sym (length-take-le _ _ (turn-fits _ _ a.run.now _ _ (whole a.m a.work.now a.s p.0.known p.3 a.existing a.object a.slot p.4 p.5 a.rows.now a.run.now _ _ _ _ (behind (goal.at.slice_bounds-reverse-end-2 c).After-walk-p) _ _ _ _ (opening (goal.at.slice_bounds-reverse-end-2 c).After-open_with-at) e.0 e.1) (omega (arith, p.7))))
 
 pub returns : goal.returns
 returns c =
@@ -85,4 +94,4 @@ returns c =
     let a = c.args in
     let e = c.build-r.ensures in
     let four = c.requires.0.known.model.stages in
-    shown a.m a.work.now a.s p.0.known p.3 a.existing a.object a.slot p.4 p.5 a.run.now _ _ (whole a.m a.work.now a.s p.0.known p.3 a.existing a.object a.slot p.4 p.5 a.rows.now a.run.now _ _ _ _ (behind (goal.at.returns c).After-walk-p) _ _ _ _ (opening (goal.at.returns c).After-open_with-at) e.0 e.1) (omega (arith, p.7)) _ c.turn.ensures
+    shown a.m a.work.now a.s p.0.known p.3 a.existing a.object a.slot p.4 p.5 a.run.now _ _ (whole a.m a.work.now a.s p.0.known p.3 a.existing a.object a.slot p.4 p.5 a.rows.now a.run.now _ _ _ _ (behind (goal.at.returns c).After-walk-p) _ _ _ _ (opening (goal.at.returns c).After-open_with-at) e.0 e.1) (omega (arith, p.7)) _ (rw c.reverse.ensures.after refl)

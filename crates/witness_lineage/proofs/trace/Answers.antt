@@ -16,7 +16,7 @@ before c =
     let a = c.args in
     let q = c.requires.0 in
     let l = c.loop-i in
-    trace-more q.0 a.s.now _ q.1 a.state a.object a.k a.run.now l.run l.i l.at c.requires.1 (l.invariant.4 q.0 q.1 q.2) c.if-born-i.false
+    trace-more q.0 a.s.now _ q.1 a.state a.object a.k a.run.now l.run l.i l.at c.requires.1 (l.invariant.3 q.0 q.1 q.2) c.if-born-i.false
 
 pub loop-i-init : goal.loop-i-init
 loop-i-init c =
@@ -27,7 +27,6 @@ loop-i-init c =
       first-room q.0 s _ q.1 a.state a.k a.run.now q.2,
       i.0,
       i.1,
-      i.2,
       λ m anc h. made_none m anc.model s anc.proper anc.found a.state a.object a.k a.run.now h.0,
     )
 
@@ -37,7 +36,7 @@ returns-then-born-i c =
     let l = c.loop-i in
     λ m anc h.
     rw c.number_of.ensures
-    (trace-all m a.s.now _ anc a.state a.object a.k a.run.now l.run l.i l.at c.requires.1 (l.invariant.4 m anc h) c.if-born-i.true)
+    (trace-all m a.s.now _ anc a.state a.object a.k a.run.now l.run l.i l.at c.requires.1 (l.invariant.3 m anc h) c.if-born-i.true)
 
 pub loop-i-preserved : goal.loop-i-preserved
 loop-i-preserved c =
@@ -50,8 +49,7 @@ loop-i-preserved c =
       simp length-set (omega (arith, made-room q.0 q.1.model s q.1.proper q.1.found a.state a.object a.k a.run.now _ _ _ w.1 q.2.1)),
       i.0,
       i.1,
-      i.2,
       λ m anc h.
           rw c.number_of.ensures
-          (trace-more m s _ anc a.state a.object a.k a.run.now l.run l.i l.at c.requires.1 (l.invariant.4 m anc h) c.if-born-i.false).1,
+          (trace-more m s _ anc a.state a.object a.k a.run.now l.run l.i l.at c.requires.1 (l.invariant.3 m anc h) c.if-born-i.false).1,
     )

@@ -7,7 +7,7 @@ use Rattle.witness_lineage.proofs.trace.Given as goal
 
 abbrev pub invariant-loop-i : goal.invariant-loop-i
 invariant-loop-i l =
-    (l.at < length l.run) × (l.i < length l.s.lines) × (l.i < length l.s.origins) × (l.i < length l.born)
+    (l.at < length l.run) × (l.i < length l.s.arrivals) × (l.i < length l.born)
     × ((m : Model) → Ancestry m l.s l.born → Makes m l.s l.state l.k l.initial.run → Made m l.s l.state l.object l.k l.initial.run l.run l.i l.at)
 
 abbrev pub decreases-loop-i : goal.decreases-loop-i

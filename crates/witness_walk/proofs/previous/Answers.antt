@@ -1,6 +1,7 @@
 use native.Mathlib.Omega.{arith}
 use borrow.Author.Count.{below_more}
-use Rattle.witness_walk.proofs.Sources.{said, denied, found-pair, pair_found}
+use Rattle.search_ways.proofs.Nearest.{said, denied}
+use Rattle.witness_walk.proofs.Sources.{found-pair, pair_found}
 use Rattle.witness_walk.proofs.previous.Goals as goal
 use Rattle.witness_walk.proofs.previous.Goals.{else-moves, then-moves+in_default}
 

@@ -2,7 +2,8 @@ use borrow.Author.Rules.{rules}
 use borrow.Author.Tests.{tests}
 use Rattle.std.proofs.lemmas.Iterator.{first_from_Range}
 use Rattle.witness_walk.specs.Walk.{Source}
-use Rattle.witness_walk.proofs.Sources.{said, denied, listed_slot}
+use Rattle.search_ways.proofs.Nearest.{said, denied}
+use Rattle.witness_walk.proofs.Sources.{listed_slot}
 use Rattle.witness_walk.proofs.source.Goals as goal
 
 pub returns : goal.returns

@@ -7,11 +7,11 @@ use Rattle.witness_walk.proofs.walk.Goals as goal
 use Rattle.witness_walk.proofs.walk.Goals.{In-loop-k}
 
 -- a level that is not the last of the walk, with the one before
-behind : (c : In-loop-k) → let a = c.args in let l = c.loop-k in Behind a.m a.s a.cast a.until a.rows.now a.run.now l.run (suc (l.k - 1)) l.p.first l.p.second l.p.at
+behind : (c : In-loop-k) → let a = c.args in let l = c.loop-k in Behind a.m a.s a.cast a.until a.rows.now a.run.now l.run (suc (l.k - 1)) l.p.pair.first l.p.pair.second l.p.at
 behind c =
     let a = c.args in
     let l = c.loop-k in
-    subst (λ (n : ℕ). Behind a.m a.s a.cast a.until a.rows.now a.run.now l.run n l.p.first l.p.second l.p.at) (omega arith) l.invariant.1
+    subst (λ (n : ℕ). Behind a.m a.s a.cast a.until a.rows.now a.run.now l.run n l.p.pair.first l.p.pair.second l.p.at) (omega arith) l.invariant.1
 
 pub loop-k-init : goal.loop-k-init
 loop-k-init c =
@@ -34,4 +34,4 @@ pub returns : goal.returns
 returns c =
     let a = c.args in
     let l = c.loop-k in
-    subst (λ (n : ℕ). Behind a.m a.s a.cast a.until a.rows.now a.run.now l.run n l.p.first l.p.second l.p.at) (omega (arith, l.invariant.0)) l.invariant.1
+    subst (λ (n : ℕ). Behind a.m a.s a.cast a.until a.rows.now a.run.now l.run n l.p.pair.first l.p.pair.second l.p.at) (omega (arith, l.invariant.0)) l.invariant.1

@@ -1,5 +1,0 @@
-use native.Mathlib.Omega.{arith}
-use Rattle.exports_game.proofs.coded.Goals as goal
-
-pub overflow_add-result : goal.overflow_add-result
-overflow_add-result c = record { fits = omega (arith, rw c.in-Ok.is at c.requires) }
