@@ -14,7 +14,6 @@ use Rattle.game_rounds.specs.Board.{Number, number_at}
 use Rattle.game_answer.specs.Arranging.{Arranged}
 
 module _ (S : Database) (states : List ℕ) (ranks : List Number) where
-
   pub arranged-more : (i : ℕ) (moves : List ℕ) → Arranged S states i ranks moves → i < limit.listed → (v : ℕ) → v ≡ unwrap_or (number_at ranks (seat (get_or states i 0) S)) limit.none → Arranged S states (i + 1) ranks (set moves i v)
   arranged-more i moves a l v q =
       record {
