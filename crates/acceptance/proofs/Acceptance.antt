@@ -1,7 +1,7 @@
 -- ACCEPTED TEXTS ARE SOUND, by an invariant over their lines.
 use mathlib.Core.Path.{◌≡◌, refl, ap, subst}
 use mathlib.Core.Logic.{◌⊎◌, inl, inr, ⊎_elim}
-use mathlib.Core.Bool.{true, false, ◌&&◌, ◌||◌}
+use mathlib.Core.Bool.{true, false, ◌&&◌, ◌||◌, false≢true}
 use mathlib.Core.List.{List, [], ◌∷◌, ◌++◌}
 use mathlib.Core.Option.{Option, none, some}
 use Prim.Native.Nat.{ℕ, zero, suc, ◌+◌, ◌≤◌, ◌<◌}
@@ -195,5 +195,5 @@ accepted-sound text D P Q e = go (cases_Bool (eqb (length text) 0 || ltb limit.t
         record { most = let z = length-lines text in omega arith; lines = g.0; safe = safe-program (length (lines text)) D P g.0.clause; question = g.1 }
 
     go : ((eqb (length text) 0 || ltb limit.text (length text)) ≡ true) ⊎ ((eqb (length text) 0 || ltb limit.text (length text)) ≡ false) → Sound (length (lines text)) D P Q
-    go (inl q) = absurd (let z = rw q at e in let y : ◌≡◌ {A = ℕ} 0 1 = cc in omega arith)
+    go (inl q) = absurd (let z = rw q at e in false≢true cc)
     go (inr q) = sound (ltb-false limit.text (length text) (or-false (eqb (length text) 0) (ltb limit.text (length text)) q).1) (rw q at e)

@@ -1,7 +1,7 @@
 -- DECLARATIONS stay good where a line has no fault, and a name that is found is a declared relation's.
 use mathlib.Core.Path.{◌≡◌, refl, ap, ◌∙◌, subst}
 use mathlib.Core.Logic.{⊎_elim, ◌≢◌}
-use mathlib.Core.Bool.{Bool, true, false, cond, ◌&&◌}
+use mathlib.Core.Bool.{Bool, true, false, cond, ◌&&◌, false≢true}
 use mathlib.Core.List.{List, [], ◌∷◌, ◌++◌}
 use mathlib.Core.Option.{Option, none, some}
 use Prim.Native.Nat.{ℕ, zero, suc, ◌+◌, ◌-◌, ◌/◌, ◌≤◌, ◌<◌}
@@ -87,7 +87,7 @@ count-all (d ∷ D) h =
 -- LOOKING UP
 pub lookup-some : (w : Word) (D : Declared) (c : ℕ) → lookup w D ≡ some c → (i : ℕ) × (i < length D) × (code_at D i ≡ c)
 unfolding lookup
-lookup-some w [] c e = absurd (let z : ◌≡◌ {A = ℕ} 0 1 = cc in omega arith)
+lookup-some w [] c e = absurd (false≢true cc)
 lookup-some w (d ∷ D) c e = ⊎_elim
     (λ (q : same w d.0 ≡ true). let e' = rw q at e in (0, omega arith, (cc)))
     (λ (q : same w d.0 ≡ false). let r = lookup-some w D c (rw q at e) in (suc r.0, omega arith, r.2)) (cases_Bool (same w d.0))
@@ -95,9 +95,9 @@ lookup-some w (d ∷ D) c e = ⊎_elim
 pub lookup-none : (w : Word) (D : Declared) → lookup w D ≡ none → (i : ℕ) → i < length D → name_at D i ≢ w
 unfolding lookup
 lookup-none w [] e i h p = omega arith
-lookup-none w (d ∷ D) e zero h p = let e' = rw (← p, same_refl d.0) at e in let z : ◌≡◌ {A = ℕ} 0 1 = cc in omega arith
+lookup-none w (d ∷ D) e zero h p = let e' = rw (← p, same_refl d.0) at e in false≢true cc
 lookup-none w (d ∷ D) e (suc i) h p = ⊎_elim
-    (λ (q : same w d.0 ≡ true). let e' = rw q at e in let z : ◌≡◌ {A = ℕ} 0 1 = cc in omega arith)
+    (λ (q : same w d.0 ≡ true). let e' = rw q at e in false≢true cc)
     (λ (q : same w d.0 ≡ false). lookup-none w D (rw q at e) i (omega arith) p) (cases_Bool (same w d.0))
 
 -- A NAME THAT IS FOUND

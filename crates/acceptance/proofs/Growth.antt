@@ -2,10 +2,9 @@
 use mathlib.Core.Path.{◌≡◌, refl, sym, ap, ◌∙◌}
 use mathlib.Core.List.{List, [], ◌∷◌, ◌++◌, map, map-append}
 use Prim.Native.Nat.{ℕ, zero, suc, ◌+◌, ◌≤◌, ◌<◌}
-use native.Mathlib.Nat.{zero-add, suc-add}
 use native.Mathlib.Omega.{arith}
 use lib.ListN.{length, take, drop, get_or}
-use lib.Seq.{take-nil, take-suc, take-take, get_or-take}
+use lib.Seq.{take-suc, take-take, get_or-take}
 use Rattle.std.proofs.lemmas.List.{drop-take}
 use Rattle.semantics.specs.Models.{Body, Program, Question}
 use Rattle.model.specs.declared.Model.{Model}

@@ -71,23 +71,21 @@ fn conclude(m: Model, facts: &[u8], run: &mut [u32], found: Found) -> Answer
     if !found.reached {
         return Answer::Unreached;
     }
-    let moves = &found.explored.moves;
     let places = witness::witness(
         run,
         facts,
         m,
         found.explored.states,
         &found.levels.rows,
-        &moves.table,
-        &moves.steps,
-        &moves.ways,
+        &found.explored.moves,
     );
     let last = model::place_of(run[places - 1]);
     Answer::Reached { places, last }
 }
 
 // The analysis that a search gives: too many states, or the verdict with the states beside it.
-// It stays beside `ask` of `from_here_verdict`: the two are alike but for the run that `conclude` writes, and it is of that run that each promises something else.
+// It and `conclude` stay beside `ask` and `conclude` of `from_here_verdict`: one pair for both would take the writing of the run as a closure, and could promise of the run no more than the closure does, so that each crate would draw its own promise from that anew.
+// The refusal stays an answer and no `Err`, as at `ask` there.
 fn judge(m: Model, facts: &[u8], run: &mut [u32], searched: Option<Found>) -> Analysis
     requires { WellFormed m × Finds m facts.now searched × (limit.run ≤ length run.old) }
     ensures { Answered (program_of m) (question_of m) run.old run.new result.answer × Beside (program_of m) result.states result.count result.answer }

@@ -24,6 +24,7 @@ pub fn write(
 }
 
 // The number of an answer.
+// It stays a function and no `From`: neither a `Result` nor `u64` is a type of this crate.
 pub fn coded(answer: Result<usize, Refusal>) -> u64
     requires { ShortText answer }
     ensures { result ≡ code answer }

@@ -44,7 +44,7 @@ fn kind_of(kinds: &[u32; CELLS], i: usize) -> Kind
 }
 
 // Writes the bytes, and the digit of a level behind them.
-// A level stays a number and the place a parameter: a type of levels would be made of a loop's number by this very clause, to be taken apart for its digit, and each call answers the place of the next one.
+// A level stays a number and the place a parameter: a type of levels would be made of a loop's number or of a cell of C by this very clause, to be taken apart for its digit, and each call answers the place of the next one.
 // It and all that is written by it stay beside `Display`, as `listing_bytes::put_numeral` does: the slice that C lends has the room that each contract asks for.
 fn put_level(out: &mut [u8], at: usize, bytes: &[u8], level: u32) -> usize
     requires { (level < levels) × (at + length bytes.now + 1 ≤ length out.old) }
@@ -104,6 +104,7 @@ fn put_entry(out: &mut [u8], at: usize, a: u32, b: u32) -> usize
 
 // Writes the lines of a row of the table, its columns up to the port level.
 // The port level stays a number: a type of levels would be taken apart here at once, since it ends a loop over numbers.
+// `0..port + 1` stays: over `0..=port` the proof was tried, and wants an answer under a name of the checker's own, `returns-2`, which may change.
 fn put_row(out: &mut [u8], at: usize, port: u32, a: u32) -> usize
     requires { (port < levels) × (a < levels) × (at + 500 ≤ length out.old) }
     ensures { Writes out.old at (printed (row_forms port a)) result out.new }
@@ -128,6 +129,7 @@ fn put_table(out: &mut [u8], at: usize, port: u32) -> usize
 }
 
 // Writes the labels of a receive level.
+// `0..receive + 1` stays, for the reason at `put_row`.
 fn put_receiving(out: &mut [u8], at: usize, receive: u32) -> usize
     requires { (receive < levels) × (at + 15 ≤ length out.old) }
     ensures { Writes out.old at (receiving (suc receive)) result out.new }
@@ -162,7 +164,7 @@ fn put_kind(out: &mut [u8], at: usize, k: Kind) -> usize
 }
 
 // Writes the lines of the first kinds, so many.
-// The cells and their count stay two parameters: the entry has them so from C, and a struct of both would be made there only to be taken apart here.
+// The cells and their count stay two parameters: of the cells that count the number of kinds would be a third of the length, a division by 3 in the contract and in the loop.
 fn put_kinds(out: &mut [u8], at: usize, kinds: &[u32; CELLS], count: usize) -> usize
     requires { (count ≤ most) × AllProper (kinds_of kinds.now count) × (at + 504 ≤ length out.old) }
     ensures { Writes out.old at (printed (map born_form (kinds_of kinds.now count))) result out.new }

@@ -1,7 +1,7 @@
 -- What the calls answer for a mark and for display fits its number.
 use mathlib.Core.Path.{◌≡◌, refl}
 use mathlib.Core.Logic.{⊎_elim}
-use mathlib.Core.Bool.{true, false, ◌||◌}
+use mathlib.Core.Bool.{true, false, ◌||◌, false≢true}
 use mathlib.Core.List.{List}
 use mathlib.Core.Option.{Option, none, some}
 use Prim.Native.Nat.{ℕ, ◌≤◌}
@@ -45,7 +45,7 @@ worth-fits P Q h (Err x) f w = tt
 worth-fits P Q h (Ok (Unreadable l)) f w = tt
 worth-fits P Q h (Ok Right) f w = tt
 worth-fits P Q h (Ok (Other reached)) f w = tt
-worth-fits P Q (unreadable at) (Ok (Breaks place line)) f w = absurd (let z : ◌≡◌ {A = ℕ} 0 1 = cc in omega arith)
+worth-fits P Q (unreadable at) (Ok (Breaks place line)) f w = absurd (false≢true cc)
 worth-fits P Q says-no (Ok (Breaks place line)) f w = absurd w
 worth-fits P Q (says-yes first ps) (Ok (Breaks place line)) f w = omega (arith, f first ps refl, w.1.0)
 
@@ -58,7 +58,7 @@ mark-fits (accepted D P Q) handin work run stood (Ok m) work' run' stood' h = wo
 text-size : (text : List ℕ) (D : Declared) (P : Program) (Q : Question) → outcome text ≡ accepted D P Q → length text ≤ limit.text
 unfolding outcome
 text-size text D P Q e = ⊎_elim
-    (λ (q : (eqb (length text) 0 || ltb limit.text (length text)) ≡ true). absurd (let z = rw q at e in let y : ◌≡◌ {A = ℕ} 0 1 = cc in omega arith))
+    (λ (q : (eqb (length text) 0 || ltb limit.text (length text)) ≡ true). absurd (let z = rw q at e in false≢true cc))
     (λ (q : (eqb (length text) 0 || ltb limit.text (length text)) ≡ false). ltb-false limit.text (length text) (or-false (eqb (length text) 0) (ltb limit.text (length text)) q).1)
     (cases_Bool (eqb (length text) 0 || ltb limit.text (length text)))
 

@@ -1,7 +1,7 @@
 -- NUMBERS OF ANSWERS can be read. The lines of a run stay below 65,536, since a line before it has 8 bytes at least and a place 6, without byte 10; the codes of relations stay below 128.
 use mathlib.Core.Path.{◌≡◌, refl, ap, ◌∙◌}
 use mathlib.Core.Logic.{⊎_elim}
-use mathlib.Core.Bool.{Bool, true, false, cond}
+use mathlib.Core.Bool.{Bool, true, false, cond, false≢true}
 use mathlib.Core.List.{List, [], ◌∷◌, ◌++◌}
 use mathlib.Core.Option.{Option, none, some, none-ne-some, some-injective}
 use Prim.Native.Nat.{ℕ, zero, suc, ◌+◌, ◌*◌, ◌/◌, ◌%◌, ◌≤◌, ◌<◌}
@@ -120,7 +120,7 @@ few_bytes (b ∷ s) =
 
 -- THE FIRST LINE of a run, and its places
 no-yes : {A : Type 0} (n first : ℕ) (ps : List Place) → unreadable n ≡ says-yes first ps → A
-no-yes n first ps e = absurd (let z : ◌≡◌ {A = ℕ} 0 1 = cc in omega arith)
+no-yes n first ps e = absurd (false≢true cc)
 
 module _ (first : ℕ) (ps : List Place) where
   one_place : (n : ℕ) (qs : List Place) (l : Line) (ls : List Line) (o : Option Said) → said_by (content l) ≡ o
@@ -144,7 +144,7 @@ module _ (first : ℕ) (ps : List Place) where
   follows-first : (reached : Bool) (n : ℕ) (ls : List Line) → follows reached n ls ≡ says-yes first ps → first * 9 + length ps * 7 ≤ n * 9 + size ls
   unfolding follows
   follows-first true n ls e = omega (arith, run-first n [] ls e)
-  follows-first false n [] e = absurd (let z : ◌≡◌ {A = ℕ} 0 1 = cc in omega arith)
+  follows-first false n [] e = absurd (false≢true cc)
   follows-first false n (l ∷ ls) e = no-yes n first ps e
 
   one_line : (reached : Bool) (n : ℕ) (l : Line) (ls : List Line) (o : Option Said) → said_by (content l) ≡ o → (preface reached (suc n) ls ≡ says-yes first ps → first * 9 + length ps * 7 ≤ suc n * 9 + size ls)

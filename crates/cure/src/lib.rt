@@ -1,31 +1,18 @@
 // Which lines to strike: the cheapest cure of a text.
 #![tactic(auto)]
 
-ghost use Rattle.std.specs.Prelude.{◌≡◌, List, ℕ, ◌≤◌};
+ghost use Rattle.std.specs.Prelude.{List, ℕ, ◌≤◌};
 ghost use Rattle.semantics.specs.Models.{Program, Question};
 ghost use Rattle.striking.specs.Striking.{most};
 ghost use Rattle.strike_list.specs.Lists.{listed};
 ghost use Rattle.strike_calls.specs.Choices.{Decided};
 ghost use Rattle.cure.specs.Curing.{Advises, Cures};
-ghost use Rattle.cure.specs.Soonest.{size_of, size_at, Soonest};
+ghost use Rattle.cure.specs.Soonest.{size_at, Soonest};
 
 use rows::Refusal;
 use strike_calls::Choices;
 use strike_list::{Lines, MOST};
 use strike_table::Table;
-
-// How many lines the choice strikes; a reached one counts as eleven, more than any strikes.
-// Eleven stays for a reached choice: `filter` would leave it out, but the proof over `filter` and `min_by_key` did not close, as at `soonest`.
-fn size(l: Lines, reached: bool, n: u32) -> usize
-    requires { l.count ≤ most }
-    ensures { result ≡ size_of (listed l) reached n }
-{
-    if reached {
-        MOST + 1
-    } else {
-        strike_list::choose(l, n).count
-    }
-}
 
 // The number of the smallest unreached choice, the highest of equally small ones.
 // The loop stays beside `filter` and `min_by_key`: neither that each choice left can be asked for its size nor which of equal sizes is taken could be proved, and no lemma of the library says it of a reversed range.
@@ -36,10 +23,12 @@ fn soonest(l: Lines, t: Table) -> Option<usize>
     let mut best = None;
     let mut least = MOST + 1;
     for i in (0..t.total).rev() {
-        let s = size(l, t.said[i].unwrap_or(false), i as u32);
-        if s < least {
-            best = Some(i);
-            least = s;
+        if !t.said[i].unwrap_or(false) {
+            let s = strike_list::choose(l, i as u32).count;
+            if s < least {
+                best = Some(i);
+                least = s;
+            }
         }
     }
     best

@@ -1,7 +1,7 @@
 -- Laws of the parts of a line.
 use mathlib.Core.Path.{◌≡◌, refl, sym, ap, ◌∙◌, subst}
 use mathlib.Core.Logic.{⊎_elim}
-use mathlib.Core.Bool.{Bool, true, false}
+use mathlib.Core.Bool.{Bool, true, false, false≢true}
 use mathlib.Core.List.{List, [], ◌∷◌, ◌++◌, append_assoc}
 use mathlib.Core.Option.{Option, none, some}
 use Prim.Native.Nat.{ℕ, ◌-◌, ◌≤◌, ◌<◌}
@@ -170,7 +170,7 @@ module _ {A : Type 0} (read : List ℕ → Read A) (s : List ℕ) (b : ℕ) wher
       let w = sym v.found ∙ q in
       let t : drop e s ≡ [] = (same_read w).1 in
       let d = sym t ∙ next s e (omega (arith, v.ends)) in
-      absurd (let y : ◌≡◌ {A = ℕ} 0 1 = cc in omega arith)
+      absurd (false≢true cc)
 
   -- it ends with the line, if there is something
   pub closes-said : {P : ℕ → Type 0} (e : std.Option ℕ) (r : Bool) → Ends read s b e → MatchOption e (r ≡ false) P → ((x : ℕ) → P x → r ≡ eqb x (length s)) → Closes read s b r

@@ -26,7 +26,7 @@ pub struct Part {
 }
 
 // Whether the line ends with at most n items, each after a space, and the closing bracket.
-// The line and a place stay two parameters: the place goes into the part as it is, which a slice from it on would not show.
+// The line and a place stay two parameters, as those of `items_end`, whose answer is compared with the line's length here: of what is left of the line it would be compared with what is left.
 fn closes<T: Item>(line: &[u8], at: usize, n: usize) -> bool
     requires { at ≤ length line.now }
     ensures { Closes (rest T.read n) line.now at result }
@@ -39,10 +39,7 @@ fn clause(line: &[u8], head: Option<Span>, from: usize, body: usize) -> Option<P
     requires { body ≤ length line.now }
     ensures { Ended line.now head from body result }
 {
-    if !closes::<Literal>(line, body, BODY) {
-        return None;
-    }
-    Some(Part {
+    closes::<Literal>(line, body, BODY).then_some(Part {
         head,
         from,
         body,
@@ -97,6 +94,7 @@ fn clause_part(line: &[u8]) -> Option<Part>
 }
 
 // Stage n of an `ask` line, from 1.
+// The test stays an `if`: `then_some` would go behind `item_at`, whose answer is a stage of the question only in a line that closes.
 fn stage_part(line: &[u8], n: usize) -> Option<Part>
     requires { (n ≡ 0 → ⊥) × (5 ≤ length line.now) × (after (bytes "(ask ") line.now ≡ some (drop 5 line.now)) }
     ensures { Gives line.now (part_of line.now n) result }

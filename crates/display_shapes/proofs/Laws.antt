@@ -1,32 +1,28 @@
 -- Laws of the ends of lists, atoms, literals and stages.
-use mathlib.Core.Path.{◌≡◌, refl, sym, ap, ◌∙◌}
+use mathlib.Core.Bool.{false≢true}
+use mathlib.Core.Path.{◌≡◌, refl, ap, ◌∙◌}
 use mathlib.Core.List.{List, [], ◌∷◌, ◌++◌, append-nil}
 use mathlib.Core.Option.{Option, none, some}
-use Prim.Native.Nat.{ℕ, zero, suc, ◌+◌, ◌-◌, ◌≤◌, ◌<◌}
+use Prim.Native.Nat.{ℕ, zero, suc, ◌-◌, ◌≤◌, ◌<◌}
 use native.Mathlib.Omega.{arith}
 use lib.ListN.{length, drop, length-drop}
 use Rattle.limits.specs.Limits as limit
 use Rattle.grammar.specs.Bytes.{bytes}
 use Rattle.grammar.specs.Forms.{plain, negated}
 use Rattle.grammar.specs.Shapes.{Read, ◌>>=◌, after, name, rest, bracket, atom, literal, list, stage}
-use Rattle.grammar.proofs.Reading.{onto, onto-nothing, onto-more, rest-closes, rest-full, rest-ends, rest-fails, rest-item}
-use Rattle.text_scan.specs.Found.{NameEnd}
-use Rattle.display_shapes.specs.Ends.{after_space, Closed, EndsAt, Ends}
+use Rattle.grammar.proofs.Reading.{onto, onto-more, rest-closes, rest-full, rest-ends, rest-fails, rest-item}
+use Rattle.text_scan.specs.Found.{BytesEnd, NameEnd}
+use Rattle.display_shapes.specs.Ends.{after_space, EndsAt, Ends}
 use Rattle.std.specs.Prelude as std
-use Rattle.std.specs.Prelude.{Some, None}
+use Rattle.std.specs.Prelude.{Some, None, MatchOption}
 use lib.Seq.{slice}
 
 pub ends_some : {A : Type 0} {read : List ℕ → Read A} {text : List ℕ} {at e : ℕ} {x : A} → at < e → e ≤ length text → read (drop at text) ≡ some (x, drop e text) → EndsAt read text at e
 ends_some {x} a b h = record { value = x; begins = a; ends = b; found = h }
 
--- AFTER A SPACE
-module _ {A : Type 0} (read : List ℕ → Read A) (text : List ℕ) (at : ℕ) where
-  pub space-missing : after (bytes " ") (drop at text) ≡ none → after_space read (drop at text) ≡ none
-  space-missing h = rw h
-
-  pub space-found : after (bytes " ") (drop at text) ≡ some (drop (at + 1) text) → (e : std.Option ℕ) → Ends read text (at + 1) e → Ends (after_space read) text at e
-  space-found h None v = rw h v
-  space-found h (Some e) v = ends_some {x = v.value} (omega (arith, v.begins)) v.ends (rw h v.found)
+-- where the bytes w that are next end, as `past` says it
+abbrev Past : List ℕ → ℕ → List ℕ → std.Option ℕ → Type 0
+Past text at w r = MatchOption r (after w (drop at text) ≡ none) (BytesEnd text at w)
 
 -- ITEMS, one after the other: those more were read from at to i, of at most n items; at most k are left
 pub record Going {A : Type 0} (item : List ℕ → Read A) (text : List ℕ) (at n i k : ℕ) : Type 0 where
@@ -35,9 +31,6 @@ pub record Going {A : Type 0} (item : List ℕ → Read A) (text : List ℕ) (at
   pub ends : i ≤ length text
   pub read : rest item n (drop at text) ≡ onto more (rest item k (drop i text))
 
-pub going_start : {A : Type 0} {item : List ℕ → Read A} {text : List ℕ} {at n : ℕ} → at ≤ length text → Going item text at n at n
-going_start {item} {text} {at} {n} h = record { more = []; begins = omega arith; ends = h; read = sym (onto-nothing (rest item n (drop at text))) }
-
 module _ {A : Type 0} (item : List ℕ → Read A) where
   -- an item behind a space is read
   rest-spaced : (k : ℕ) (s : List ℕ) {x : A} {u : List ℕ} → 0 < k → after (bytes ")") s ≡ none → after_space item s ≡ some (x, u) → rest item k s ≡ onto (x ∷ []) (rest item (k - 1) u)
@@ -45,7 +38,7 @@ module _ {A : Type 0} (item : List ℕ → Read A) where
   rest-spaced (suc k) s {x} {u} h p q = go (after (bytes " ") s) refl q
     where
       go : (o : Option (List ℕ)) → after (bytes " ") s ≡ o → (o >>= item) ≡ some (x, u) → rest item (suc k) s ≡ onto (x ∷ []) (rest item (suc k - 1) u)
-      go none e r = absurd (let z : ◌≡◌ {A = ℕ} 0 1 = cc in omega arith)
+      go none e r = absurd (false≢true cc)
       go (some t) e r = let z : suc k - 1 ≡ k = omega arith in rw z (rest-item item k s p e r)
 
   -- neither the bracket nor an item behind a space is read
@@ -65,36 +58,36 @@ module _ {A : Type 0} {item : List ℕ → Read A} {text : List ℕ} {at n i k :
     read = go.read ∙ (ap (onto go.more) (rest-spaced item k (drop i text) h p v.found) ∙ onto-more go.more v.value (rest item (k - 1) (drop e text)));
   }
 
-  pub going-closed : {e : ℕ} → Closed text i (Some e) → EndsAt (rest item n) text at e
-  going-closed (z, l, p) = ends_some {x = go.more} (omega (arith, go.begins, z)) l (go.read ∙ rw (rest-closes item k (drop i text) p, append-nil))
+  pub going-closed : {e : ℕ} → BytesEnd text i (bytes ")") e → EndsAt (rest item n) text at e
+  going-closed c = ends_some {x = go.more} (omega (arith, go.begins, c.begins)) c.ends (go.read ∙ rw (rest-closes item k (drop i text) c.read, append-nil))
 
   pub going-stops : after (bytes ")") (drop i text) ≡ none → after_space item (drop i text) ≡ none → rest item n (drop at text) ≡ none
   going-stops p q = go.read ∙ rw (rest-stops item k (drop i text) p q)
 
-  pub going-last : k ≤ 0 → (e : std.Option ℕ) → Closed text i e → Ends (rest item n) text at e
+  pub going-last : k ≤ 0 → (e : std.Option ℕ) → Past text i (bytes ")") e → Ends (rest item n) text at e
   going-last h None p = let z : k ≡ 0 = omega arith in go.read ∙ rw (z, rest-full item (drop i text) p)
   going-last h (Some e) c = going-closed c
 
 -- BRACKETS
 module _ (text : List ℕ) (at : ℕ) where
-  pub list-empty : at + 2 ≤ length text → after (bytes "()") (drop at text) ≡ some (drop (at + 2) text) → EndsAt list text at (at + 2)
+  pub list-empty : {e : ℕ} → BytesEnd text at (bytes "()") e → EndsAt list text at e
   unfolding list
-  list-empty h k = ends_some {x = []} (omega arith) h (rw k)
+  list-empty h = ends_some {x = []} (omega (arith, h.begins)) h.ends (rw h.read)
 
   module _ (no : after (bytes "()") (drop at text) ≡ none) where
     pub list-unopened : after (bytes "(") (drop at text) ≡ none → list (drop at text) ≡ none
     unfolding list bracket
     list-unopened h = rw (no, h)
 
-    module _ (h : after (bytes "(") (drop at text) ≡ some (drop (at + 1) text)) where
-      pub list-nameless : name (drop (at + 1) text) ≡ none → list (drop at text) ≡ none
+    module _ {i : ℕ} (h : BytesEnd text at (bytes "(") i) where
+      pub list-nameless : name (drop i text) ≡ none → list (drop at text) ≡ none
       unfolding list bracket
-      list-nameless k = rw (no, h, k)
+      list-nameless k = rw (no, h.read, k)
 
-      pub list-found : {e : ℕ} → NameEnd text (at + 1) e → (r : std.Option ℕ) → Ends (rest name (limit.list - 1)) text e r → Ends list text at r
+      pub list-found : {e : ℕ} → NameEnd text i e → (r : std.Option ℕ) → Ends (rest name (limit.list - 1)) text e r → Ends list text at r
       unfolding list bracket
-      list-found v None w = rw (no, h, v.read, w)
-      list-found {e} v (Some r) w = ends_some {x = slice (at + 1) e text ∷ w.value} (omega (arith, v.begins, w.begins)) w.ends (rw (no, h, v.read, w.found))
+      list-found v None w = rw (no, h.read, v.read, w)
+      list-found {e} v (Some r) w = ends_some {x = slice i e text ∷ w.value} (omega (arith, h.begins, v.begins, w.begins)) w.ends (rw (no, h.read, v.read, w.found))
 
   pub atom-unopened : after (bytes "(") (drop at text) ≡ none → atom (drop at text) ≡ none
   unfolding atom
@@ -104,37 +97,37 @@ module _ (text : List ℕ) (at : ℕ) where
   unfolding stage bracket
   stage-unopened h = rw h
 
-  module _ (h : after (bytes "(") (drop at text) ≡ some (drop (at + 1) text)) where
-    pub atom-nameless : name (drop (at + 1) text) ≡ none → atom (drop at text) ≡ none
+  module _ {i : ℕ} (h : BytesEnd text at (bytes "(") i) where
+    pub atom-nameless : name (drop i text) ≡ none → atom (drop at text) ≡ none
     unfolding atom
-    atom-nameless k = rw (h, k)
+    atom-nameless k = rw (h.read, k)
 
-    pub atom-found : {e : ℕ} → NameEnd text (at + 1) e → (r : std.Option ℕ) → Ends (rest name (length text - at)) text e r → Ends atom text at r
+    pub atom-found : {e : ℕ} → NameEnd text i e → (r : std.Option ℕ) → Ends (rest name (length text - at)) text e r → Ends atom text at r
     unfolding atom
-    atom-found v None w = rw (h, v.read, length-drop, w)
+    atom-found v None w = rw (h.read, v.read, length-drop, w)
     atom-found {e} v (Some r) w =
-        ends_some {x = record { name = slice (at + 1) e text; variables = w.value }} (omega (arith, v.begins, w.begins)) w.ends (rw (h, v.read, length-drop, w.found))
+        ends_some {x = record { name = slice i e text; variables = w.value }} (omega (arith, h.begins, v.begins, w.begins)) w.ends (rw (h.read, v.read, length-drop, w.found))
 
-    pub stage-empty : literal (drop (at + 1) text) ≡ none → stage (drop at text) ≡ none
+    pub stage-empty : literal (drop i text) ≡ none → stage (drop at text) ≡ none
     unfolding stage bracket
-    stage-empty k = rw (h, k)
+    stage-empty k = rw (h.read, k)
 
-    pub stage-found : {e : ℕ} → EndsAt literal text (at + 1) e → (r : std.Option ℕ) → Ends (rest literal (limit.body - 1)) text e r → Ends stage text at r
+    pub stage-found : {e : ℕ} → EndsAt literal text i e → (r : std.Option ℕ) → Ends (rest literal (limit.body - 1)) text e r → Ends stage text at r
     unfolding stage bracket
-    stage-found v None w = rw (h, v.found, w)
-    stage-found v (Some r) w = ends_some {x = v.value ∷ w.value} (omega (arith, v.begins, w.begins)) w.ends (rw (h, v.found, w.found))
+    stage-found v None w = rw (h.read, v.found, w)
+    stage-found v (Some r) w = ends_some {x = v.value ∷ w.value} (omega (arith, h.begins, v.begins, w.begins)) w.ends (rw (h.read, v.found, w.found))
 
   -- LITERALS
-  module _ (h : after (bytes "(not ") (drop at text) ≡ some (drop (at + 5) text)) where
-    pub not-missing : atom (drop (at + 5) text) ≡ none → literal (drop at text) ≡ none
+  module _ {i : ℕ} (h : BytesEnd text at (bytes "(not ") i) where
+    pub not-missing : atom (drop i text) ≡ none → literal (drop at text) ≡ none
     unfolding literal
-    not-missing z = rw (h, z)
+    not-missing z = rw (h.read, z)
 
-    module _ {e : ℕ} (v : EndsAt atom text (at + 5) e) where
-      pub not-closed : (r : std.Option ℕ) → Closed text e r → Ends literal text at r
+    module _ {e : ℕ} (v : EndsAt atom text i e) where
+      pub not-closed : (r : std.Option ℕ) → Past text e (bytes ")") r → Ends literal text at r
       unfolding literal
-      not-closed None k = rw (h, v.found, k)
-      not-closed (Some r) (z, l, k) = ends_some {x = negated v.value} (omega (arith, v.begins, z)) l (rw (h, v.found, k))
+      not-closed None k = rw (h.read, v.found, k)
+      not-closed (Some r) k = ends_some {x = negated v.value} (omega (arith, h.begins, v.begins, k.begins)) k.ends (rw (h.read, v.found, k.read))
 
   pub plain-found : after (bytes "(not ") (drop at text) ≡ none → (e : std.Option ℕ) → Ends atom text at e → Ends literal text at e
   unfolding literal

@@ -1,4 +1,5 @@
 -- Laws of items in a row.
+use mathlib.Core.Bool.{false≢true}
 use mathlib.Core.Path.{◌≡◌, refl, sym, ap, ◌∙◌, subst}
 use mathlib.Core.List.{List, [], ◌∷◌}
 use mathlib.Core.Option
@@ -15,7 +16,7 @@ use Rattle.std.specs.Prelude as std
 use Rattle.std.specs.Prelude.{Some, None}
 
 pub some-none : {A B : Type 0} {o : Option A} {x : A} → o ≡ some x → o ≡ none → B
-some-none p q = absurd (let z : ◌≡◌ {A = ℕ} 0 1 = cc in omega arith)
+some-none p q = absurd (false≢true cc)
 
 -- PLACES IN A LIST
 pub pick-in : {A : Type 0} (xs : List A) (i : ℕ) (d : A) → i < length xs → pick xs i ≡ some (get_or xs i d)
@@ -33,9 +34,6 @@ pub record Walking {A : Type 0} (read : List ℕ → Read A) (text : List ℕ) (
   pub ends : i ≤ length text
   pub left : (xs : List A) → Row read (drop at text) xs → (ys : List A) × Row read (drop i text) ys × (pick xs k ≡ pick ys n)
 
-pub walking_start : {A : Type 0} {read : List ℕ → Read A} {text : List ℕ} {at k : ℕ} → at ≤ length text → Walking read text at k at k
-walking_start h = record { ends = h; left = λ xs r. (xs, r, refl) }
-
 -- the item and the bytes left
 pub same_read : {A : Type 0} {x y : A} {s t : List ℕ} → ◌≡◌ {A = Read A} (some (x, s)) (some (y, t)) → (x ≡ y) × (s ≡ t)
 same_read {A} {x} {y} {s} {t} e = (ap (λ (o : Read A). (Option.get_or o (x, s)).0) e, ap (λ (o : Read A). (Option.get_or o (x, s)).1) e)
@@ -43,7 +41,7 @@ same_read {A} {x} {y} {s} {t} e = (ap (λ (o : Read A). (Option.get_or o (x, s))
 module _ {A : Type 0} (read : List ℕ → Read A) where
   no_row : {B : Type 0} (s : List ℕ) (xs : List A) → s ≡ [] → Row read s xs → B
   no_row s [] z (t, e) = some-none e (rw z)
-  no_row s (x ∷ xs) z (c, t, u, e, f, g, r) = absurd (let y : ◌≡◌ {A = ℕ} 0 1 = cc in omega arith)
+  no_row s (x ∷ xs) z (c, t, u, e, f, g, r) = absurd (false≢true cc)
 
   -- one item is read from the row
   front : (text : List ℕ) (i : ℕ) (xs : List A) {x : A} {u : List ℕ} → i < length text → after (bytes ")") (drop i text) ≡ none → read (drop (i + 1) text) ≡ some (x, u) → Row read (drop i text) xs

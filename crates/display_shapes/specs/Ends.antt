@@ -1,5 +1,5 @@
 -- WHERE WHAT A SPEC-LEVEL READER READS ENDS.
-use Rattle.std.specs.Prelude.{◌≡◌, Option, Some, None, List, ℕ, ◌+◌, ◌≤◌, ◌<◌, length, drop}
+use Rattle.std.specs.Prelude.{◌≡◌, Option, Some, None, List, ℕ, ◌≤◌, ◌<◌, length, drop}
 use Rattle.std.proofs.Math.Option.{none, some}
 use Rattle.grammar.specs.Bytes.{bytes}
 use Rattle.grammar.specs.Shapes.{Read, ◌>>=◌, after}
@@ -19,8 +19,3 @@ pub record EndsAt {A : Type 0} (read : List ℕ → Read A) (text : List ℕ) (a
 abbrev pub Ends : {A : Type 0} → (List ℕ → Read A) → List ℕ → ℕ → Option ℕ → Type 0
 Ends read text at None = read (drop at text) ≡ none
 Ends read text at (Some e) = EndsAt read text at e
-
--- where the closing bracket that is next ends
-abbrev pub Closed : List ℕ → ℕ → Option ℕ → Type 0
-Closed text at None = after (bytes ")") (drop at text) ≡ none
-Closed text at (Some e) = (e ≡ at + 1) × (e ≤ length text) × (after (bytes ")") (drop at text) ≡ some (drop e text))

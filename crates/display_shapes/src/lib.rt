@@ -5,11 +5,11 @@ ghost use Rattle.std.specs.Prelude.{◌≤◌, length, List, ℕ};
 ghost use Rattle.grammar.specs.Bytes.{Word};
 ghost use Rattle.grammar.specs.Forms as form;
 ghost use Rattle.grammar.specs.Shapes.{Read, name, rest, atom, literal, list, stage};
-ghost use Rattle.display_shapes.specs.Ends.{Closed, Ends, after_space};
+ghost use Rattle.display_shapes.specs.Ends.{Ends, after_space};
 ghost use Rattle.display_shapes.specs.Rows.{Behind, Picked};
 
 use limits::{BODY, LIST};
-use text_scan::{at_byte, at_bytes};
+use text_scan::{at_byte, past, past_bytes};
 
 // The bytes from `from` up to, not including, `to`.
 #[derive(Clone, Copy)]
@@ -57,13 +57,10 @@ impl Item for Names {
     ghost read = { list };
 
     fn end(text: &[u8], at: usize) -> Option<usize> {
-        if at_bytes(text, at, b"()") {
-            return Some(at + 2);
+        if let Some(end) = past_bytes(text, at, b"()") {
+            return Some(end);
         }
-        if !at_byte(text, at, b'(') {
-            return None;
-        }
-        let e = text_scan::name_end(text, at + 1)?;
+        let e = text_scan::name_end(text, past(text, at, b'(')?)?;
         items_end::<Name>(text, e, NAMES)
     }
 }
@@ -76,12 +73,10 @@ impl Item for Literal {
     ghost read = { literal };
 
     fn end(text: &[u8], at: usize) -> Option<usize> {
-        if at_bytes(text, at, b"(not ") {
-            let e = atom_end(text, at + 5)?;
-            close(text, e)
-        } else {
-            atom_end(text, at)
-        }
+        let Some(inner) = past_bytes(text, at, b"(not ") else {
+            return atom_end(text, at);
+        };
+        past(text, atom_end(text, inner)?, b')')
     }
 }
 
@@ -93,22 +88,9 @@ impl Item for Stage {
     ghost read = { stage };
 
     fn end(text: &[u8], at: usize) -> Option<usize> {
-        if at_byte(text, at, b'(') {
-            let e = Literal::end(text, at + 1)?;
-            items_end::<Literal>(text, e, LITERALS)
-        } else {
-            None
-        }
+        let e = Literal::end(text, past(text, at, b'(')?)?;
+        items_end::<Literal>(text, e, LITERALS)
     }
-}
-
-// Where the closing bracket that is next ends.
-// The line and a place stay two parameters, as at `Item::end`.
-fn close(text: &[u8], at: usize) -> Option<usize>
-    requires { at ≤ length text.now }
-    ensures { Closed text.now at result }
-{
-    at_byte(text, at, b')').then_some(at + 1)
 }
 
 // Where a space and the item behind it end.
@@ -116,11 +98,7 @@ fn close(text: &[u8], at: usize) -> Option<usize>
 pub fn spaced_end<T: Item>(text: &[u8], at: usize) -> Option<usize>
     ensures { Ends (after_space T.read) text.now at result }
 {
-    if at_byte(text, at, b' ') {
-        T::end(text, at + 1)
-    } else {
-        None
-    }
+    T::end(text, past(text, at, b' ')?)
 }
 
 // Where at most n items, each after a space, end with the closing bracket.
@@ -132,12 +110,12 @@ pub fn items_end<T: Item>(text: &[u8], at: usize, n: usize) -> Option<usize>
 {
     let mut i = at;
     for _turn in 0..n {
-        if at_byte(text, i, b')') {
-            return Some(i + 1);
+        if let Some(end) = past(text, i, b')') {
+            return Some(end);
         }
         i = spaced_end::<T>(text, i)?;
     }
-    close(text, i)
+    past(text, i, b')')
 }
 
 // Where the atom that is next ends.
@@ -147,23 +125,17 @@ pub fn atom_end(text: &[u8], at: usize) -> Option<usize>
     requires { at ≤ length text.now }
     ensures { Ends atom text.now at result }
 {
-    if !at_byte(text, at, b'(') {
-        return None;
-    }
-    let e = text_scan::name_end(text, at + 1)?;
+    let e = text_scan::name_end(text, past(text, at, b'(')?)?;
     items_end::<Name>(text, e, text.len() - at)
 }
 
 // The item behind byte i, unless that closes the row.
-// The line and a place stay two parameters: a span of a slice from the place on would be moved back by it at each call.
+// The line and a place stay two parameters: to both ends of a span of what is left the place would be added again at each call.
 fn item_behind<T: Item>(text: &[u8], i: usize) -> Option<Span>
     requires { i ≤ length text.now }
     ensures { Behind T.read text.now i result }
 {
-    if i == text.len() {
-        return None;
-    }
-    if at_byte(text, i, b')') {
+    if i == text.len() || at_byte(text, i, b')') {
         return None;
     }
     let to = T::end(text, i + 1)?;

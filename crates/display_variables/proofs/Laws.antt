@@ -1,7 +1,7 @@
 -- Laws of variables in order of first appearance.
 use mathlib.Core.Path.{◌≡◌, refl, sym, ap, ◌∙◌, subst}
 use mathlib.Core.Logic.{⊎_elim}
-use mathlib.Core.Bool.{Bool, true, false, ◌||◌, or_assoc, or-false}
+use mathlib.Core.Bool.{Bool, true, false, ◌||◌, or_assoc, or-false, false≢true}
 use mathlib.Core.List.{List, [], ◌∷◌, ◌++◌, append_assoc, append-nil}
 use mathlib.Core.Option.{none, some}
 use Prim.Native.Nat.{ℕ, zero, suc, ◌+◌, ◌-◌, ◌≤◌, ◌<◌}
@@ -31,7 +31,7 @@ use Rattle.display_variables.specs.Order.{behind_at, before, Within, BehindEnd, 
 -- A NAME THAT IS READ has a letter, and stands at the front
 name-long : (w : Word) → is_name w ≡ true → 0 < length w
 unfolding is_name
-name-long [] h = absurd (let z : ◌≡◌ {A = ℕ} 0 1 = cc in omega arith)
+name-long [] h = absurd (false≢true cc)
 name-long (b ∷ w) h = omega arith
 
 name-front : (s : List ℕ) {w t : List ℕ} → name s ≡ some (w, t) → (0 < length w) × (s ≡ w ++ t)

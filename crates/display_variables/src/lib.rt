@@ -36,7 +36,7 @@ fn is_head(line: &[u8], head: Option<Span>, name: &[u8]) -> bool
 }
 
 // Whether the name stands in the part before byte i.
-// That the part lies in the line stays a clause: as an invariant it would ask for the line in each part, beside the places that `display_parts` promises more of.
+// That the part lies in the line stays a clause: as an invariant it would ask for the line as a field of each part, for this crate alone, since `display_parts` promises more of a part (`Placed`) and would name the line through it.
 fn is_known(line: &[u8], p: Part, i: usize, name: &[u8]) -> bool
     requires { Within line.now p × (p.from ≤ i) × (i ≤ length line.now) }
     ensures { result ≡ member name.now (before line.now p i) }

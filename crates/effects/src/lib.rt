@@ -11,7 +11,7 @@ ghost use Rattle.effects.specs.Effects.{action_made, made as made_on, effect_at}
 use model::{Action, Model};
 
 // The number of what a clause makes of an object in a state.
-// The kinds 2 and 3 stay numbers, as in `lines::describe`: each stands once, beside the action whose kind it is.
+// The kinds 2 and 3 stay numbers, as in `lines::describe`: each stands here once, beside the action whose kind it is.
 fn made(action: Action, state: u32) -> u64
     ensures { result ≡ action_made action state }
 {

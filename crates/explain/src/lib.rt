@@ -47,7 +47,7 @@ fn why(m: Model, s: Session, n: u32, work: &mut [u8]) -> Reason
 }
 
 // Why a run breaks at a place, in the state to which the places before it lead.
-// The model, the run and the work area stay apart: `why` takes no run and `tell` no second buffer, so that a struct of them would be taken apart from call to call.
+// The model, the run and the work area stay apart: `play_run` before and `why` behind take them one by one, so that a struct of them would be made in `explain_run` for two functions alone.
 fn why_broken(m: Model, s: Session, place: usize, run: &[u32], work: &mut [u8]) -> Reason
     requires { WellFormed m × (length run.now ≤ limit.run) × (room ≤ length work.old) × Replays (program_of m) (question_of m) (start []) run.now 0 (BrokenAt place) × Stopped m run.now place s }
     ensures { Reasoned (program_of m) (question_of m) run.now place result × (length work.new ≡ length work.old) }

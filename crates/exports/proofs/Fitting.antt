@@ -1,7 +1,7 @@
 -- What the public calls answer fits the numbers and cells.
 use mathlib.Core.Path.{◌≡◌, sym, ◌∙◌}
 use mathlib.Core.Logic.{⊎_elim}
-use mathlib.Core.Bool.{Bool, true, false}
+use mathlib.Core.Bool.{Bool, true, false, false≢true}
 use mathlib.Core.List.{List, [], ◌∷◌}
 use Prim.Native.Nat.{ℕ, suc, ◌+◌, ◌≤◌, ◌<◌}
 use native.Mathlib.Omega.{arith}
@@ -45,7 +45,7 @@ called-taken text short long D P Q e = ⊎_elim
     record { text-accepted = sym (called-lines text short long z) ∙ e; long-not = (sizes (length text) short long z).1 })
     (λ (q : eqb row 0 ≡ false).
     let r : refused row 0 ≡ accepted D P Q = sym (called-early text short long (eqb-false row 0 q)) ∙ e in
-    absurd (let z : ◌≡◌ {A = ℕ} 0 1 = cc in omega arith))
+    absurd (false≢true cc))
     (cases_Bool (eqb row 0))
   where
     row : ℕ

@@ -87,8 +87,7 @@ fn last_number(answer: analyzer_verdict::Answer, run: &[u32]) -> u32
 {
     match answer {
         analyzer_verdict::Answer::Reached { places, .. } => run[places - 1],
-        analyzer_verdict::Answer::Unreached => 0,
-        analyzer_verdict::Answer::Refused { .. } => 0,
+        analyzer_verdict::Answer::Unreached | analyzer_verdict::Answer::Refused { .. } => 0,
     }
 }
 
@@ -278,6 +277,7 @@ pub extern "C" fn eon_relation(text: &[u8], i: usize) -> u64
 }
 
 // Literal k of a line's clause, which is stage 0, or of a stage of an `ask` line.
+// The test of the length stays here and in `eon_variable`: a function for it would be handed what was read of a line that is too long, or would take the reading as a closure, with a contract over it that is longer than these three lines.
 #[unsafe(no_mangle)]
 pub extern "C" fn eon_literal(line: &[u8], stage: usize, k: usize) -> u64
     ensures { Spanned line.now (literal_at line.now stage k) result }

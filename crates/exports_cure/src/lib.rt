@@ -10,6 +10,7 @@ use strike_list::{Lines, MOST};
 use words::Kind;
 
 // The number of an answer.
+// It stays a function and no `From`: neither a `Result` nor `u64` is a type of this crate.
 fn coded(advice: Result<Option<Lines>, Refusal>) -> u64
     requires { Few advice }
     ensures { result ≡ code_of advice }
@@ -22,13 +23,13 @@ fn coded(advice: Result<Option<Lines>, Refusal>) -> u64
 }
 
 // The cells beside an answer.
-// It stays a `match` over the three cases: as `map_or` it would be one closure inside the other, with the zeros written twice.
 fn cells(advice: Result<Option<Lines>, Refusal>) -> [u32; MOST]
     ensures { result ≡ cells_of advice }
 {
-    match advice {
-        Ok(Some(l)) => l.lines,
-        Ok(None) | Err(_) => [0u32; MOST],
+    if let Ok(Some(l)) = advice {
+        l.lines
+    } else {
+        [0; MOST]
     }
 }
 

@@ -11,6 +11,7 @@ use rows::Refusal;
 use words::Kind;
 
 // The number of an answer, with how many states stand beside it.
+// It stays a function and no `From`: neither a `Result` nor `u64` is a type of this crate.
 fn coded(game: Result<Game, Refusal>) -> u64
     requires { Few game }
     ensures { result ≡ code_of game }

@@ -13,6 +13,7 @@ use words::Kind;
 const COUNTS: usize = 4;
 
 // The number of an answer.
+// It stays a function and no `From`: neither a `Result` nor `u64` is a type of this crate.
 fn coded(count: Result<Count, Refusal>) -> u64
     ensures { result ≡ code_of count }
 {

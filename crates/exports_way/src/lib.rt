@@ -9,6 +9,7 @@ use rows::Refusal;
 use words::Kind;
 
 // The number of an answer.
+// It stays a function and no `From`: neither a `Result` nor `u64` is a type of this crate.
 fn coded(steps: Result<Option<usize>, Refusal>) -> u64
     requires { Few steps }
     ensures { result ≡ code_of steps }

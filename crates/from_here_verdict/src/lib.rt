@@ -27,20 +27,14 @@ fn show(m: Model, s: Session, object: u32, facts: &[u8], run: &mut [u32], found:
     ensures { ShownFrom m (there m s) object run.old run.new result }
 {
     let states = found.explored.states;
-    let moves = &found.explored.moves;
-    let slot = search_states::seek(
-        &states.states[..states.count],
-        s.states[object as usize],
-    ).unwrap();
+    let slot = search_states::seek(states.row(), s.states[object as usize]).unwrap();
     witness_from::witness_from(
         run,
         facts,
         m,
         states,
         &found.levels.rows,
-        &moves.table,
-        &moves.steps,
-        &moves.ways,
+        &found.explored.moves,
         s.objects as u32,
         object,
         slot,
@@ -68,6 +62,8 @@ fn conclude(
 }
 
 // The answer about an object that was created: too many states, or the verdict with the states beside it.
+// The refusals stay answers and no `Err`, here and in `judge`: document 01 has a refusal as a case of the answer, and with a `Result` inside, `Put` and `Told` would be said of both.
+// It and `conclude` stay beside `judge` and `conclude` of `analyzer_verdict`, for the reason there.
 fn ask(m: Model, s: Session, object: u32, run: &mut [u32]) -> Analysis
     requires { Ready m s object × (limit.run ≤ length run.old) }
     ensures { Told m s object run.old result run.new }

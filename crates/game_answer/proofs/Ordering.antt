@@ -1,10 +1,10 @@
 -- The numbers in the listing's order, one by one.
-use mathlib.Core.Path.{◌≡◌, refl, sym, ap, ◌∙◌}
+use mathlib.Core.Path.{◌≡◌, sym, ap, ◌∙◌}
 use mathlib.Core.List.{List}
 use Prim.Native.Nat.{ℕ, suc, ◌+◌, ◌-◌, ◌<◌}
 use native.Mathlib.Omega.{arith}
 use borrow.Author.Count.{below_more}
-use lib.ListN.{get_or, set, drop, replicate, length-set, length-replicate}
+use lib.ListN.{get_or, set, drop, replicate, length-set}
 use lib.Seq.{drop-set-lt, drop-drop, get_or-set_same, get_or-set_other}
 use Rattle.std.specs.Prelude.{unwrap_or}
 use Rattle.limits.specs.Limits as limit
@@ -14,9 +14,6 @@ use Rattle.game_rounds.specs.Board.{Number, number_at}
 use Rattle.game_answer.specs.Arranging.{Arranged}
 
 module _ (S : Database) (states : List ℕ) (ranks : List Number) where
-  pub arranged-none : Arranged S states 0 ranks (replicate limit.listed 0)
-  arranged-none = record { long = length-replicate {A = ℕ} limit.listed 0; each = λ i l. absurd (omega (arith, l)); rest = refl }
-
   pub arranged-more : (i : ℕ) (moves : List ℕ) → Arranged S states i ranks moves → i < limit.listed → (v : ℕ) → v ≡ unwrap_or (number_at ranks (seat (get_or states i 0) S)) limit.none → Arranged S states (i + 1) ranks (set moves i v)
   arranged-more i moves a l v q =
       record {

@@ -30,13 +30,14 @@ pub struct Game {
 }
 
 // The numbers in the order of the listing, NONE where there is none.
+// The cells stay written by their number, for the reason at `facts_bits::widen`.
 fn arranged(s: States, listing: Listing, ranks: [Option<u32>; LISTED]) -> [u32; LISTED]
     requires { Proper s × Lists s listing }
     ensures { Arranged (row s) listing.states listing.count ranks result }
 {
     let mut moves = [0u32; LISTED];
     for (i, state) in listing.states[..listing.count].iter().enumerate() {
-        let slot = search_states::seek(&s.states[..s.count], *state).unwrap_or(s.count);
+        let slot = search_states::seek(s.row(), *state).unwrap_or(s.count);
         moves[i] = ranks[slot].unwrap_or(NONE);
     }
     moves
@@ -64,16 +65,13 @@ fn tell(m: Model, attacker: &[u32], guardian: &[u32], facts: &[u8], found: Explo
 }
 
 // Explores a well-formed model and tells the game, or that there are too many states; it leaves the work bytes zero.
-// `let .. else` stays: `ok_or(CROWDED)?` would save two lines here and cost a lemma about `ok_or` in the proof, which the crate does not need for anything else.
 fn explored(m: Model, attacker: &[u32], guardian: &[u32], work: &mut [u8]) -> Result<Game, Refusal>
     requires { WellFormed m × (limit.work ≤ length work.old) × (faulted (program_of m) attacker.now guardian.now ≡ false) × OneVariable m }
     ensures { Settles (program_of m) (question_of m) attacker.now guardian.now work.old result work.new }
 {
     let mut facts = [0u8; ROOM];
     calls::wipe(work);
-    let Some(found) = search::explore(&mut facts, m) else {
-        return Err(CROWDED);
-    };
+    let found = search::explore(&mut facts, m).ok_or(CROWDED)?;
     Ok(tell(m, attacker, guardian, &facts, found))
 }
 

@@ -1,37 +1,18 @@
 -- What a clause's line is, what a list names, and the form of the question by its record.
 use mathlib.Core.Path.{◌≡◌, refl, sym, ap, ◌∙◌}
-use mathlib.Core.Logic.{⊎_elim, ◌≢◌}
-use mathlib.Core.Bool.{Bool, true, false, not, ◌||◌}
+use mathlib.Core.Bool.{Bool, true, not, ◌||◌}
 use Rattle.std.specs.List.{list_any}
 use mathlib.Core.List.{List, [], ◌∷◌, map}
 use Prim.Native.Nat.{ℕ, ◌<◌}
 use native.Mathlib.Omega.{arith}
 use borrow.Author.Tests.{le-ltb, lt-ltb}
 use lib.ListN.{length, get_or}
-use Rattle.std.specs.Prelude.{Option, Some, None, MatchOption}
 use Rattle.semantics.specs.Models.{Body, Program, line, Question, names}
-use Rattle.model.specs.declared.Clause.{Clause}
 use Rattle.model.specs.declared.Model.{Model}
-use Rattle.model.specs.Lookups.{OnLine}
-use Rattle.model.specs.Records.{clause_body, line_of, program_of, number_in, stage_of, question_of, clause_at, stage_at, up_from}
+use Rattle.model.specs.Records.{number_in, stage_of, question_of, stage_at, up_from}
 use Rattle.model.specs.WellFormed.{WellFormed}
-use Rattle.model.proofs.Accepted.{on_line, stages, stage-here, stage-names, stage-count}
-use Rattle.model.proofs.Lines.{clause-or-other}
+use Rattle.model.proofs.Accepted.{stages, stage-here, stage-names, stage-count}
 use Rattle.game_lists.specs.Lists.{most, is_next, strange, faulty, Form, OneVariable}
-
--- on a line that no clause stands on is no `next` line
-pub no-clause : (m : Model) (ℓ : ℕ) → ((i : ℕ) → i < m.clausecount → (clause_at m i).line ≢ ℓ) → is_next (line (program_of m) ℓ) ≡ false
-no-clause m ℓ h = ⊎_elim (λ c. absurd (h c.0 c.1 c.2)) (λ c. ap is_next c.1) (clause-or-other m ℓ)
-
--- the line, by the clause that is found on it
-pub next-on : (m : Model) → WellFormed m → (ℓ : ℕ) (o : Option Clause) (r : Bool) (Told : Clause → Type 0) → OnLine m ℓ o → MatchOption o (r ≡ false) Told → ((d : Clause) → Told d → (b : Body) → r ≡ is_next (line_of d.action b)) → r ≡ is_next (line (program_of m) ℓ)
-next-on m wf ℓ None r Told h e says = e ∙ sym (no-clause m ℓ h)
-next-on m wf ℓ (Some d) r Told (k, here, is, on) e says =
-    let b = clause_body m.literals (clause_at m k) in
-    says d e b
-    ∙ ap (λ (x : Clause). is_next (line_of x.action b)) is
-    ∙ sym (ap is_next (on_line m wf k here))
-    ∙ ap (λ (n : ℕ). is_next (line (program_of m) n)) (ap (λ (x : Clause). x.line) (sym is) ∙ on)
 
 -- THE LIST, line by line
 pub list_any-strange : (P : Program) (ls : List ℕ) → list_any (λ (ℓ : ℕ). not (is_next (line P ℓ))) ls ≡ strange P ls

@@ -17,7 +17,7 @@ use search_states::States;
 use search_ways::{MATRIX, TABLE};
 
 // Marks where a `next` clause leads from each slot of its row of the table; a state without a slot is the empty one, whose slot is the one behind the last.
-// It stays beside `lead_next` of search_ways, which passes over a state without a slot.
+// It and `lead_clause` stay beside `lead_next` and `lead_clause` of search_ways, where the reason stands.
 fn lead(
     states: &[u32],
     plus: u32,
@@ -49,17 +49,15 @@ fn lead_clause(states: &[u32], c: Clause, table: &[u8; TABLE], i: usize, moves: 
 }
 
 // The moves of a side that has the lines of a list.
-// The loop stays over the numbers of the clauses: the table's rows stand by the number, and `enumerate` would only give a name to the clause, which is read once.
 pub fn own(m: Model, s: States, table: &[u8; TABLE], list: &[u32]) -> [u8; MATRIX]
     requires { WellFormed m × Proper s × Whole (program_of m) (row s) × Marks table.now (CanTake m s) }
     ensures { Marks result (OwnMoves (program_of m) (row s) list.now) }
 {
-    let states = &s.states[..s.count];
+    let states = s.row();
     let mut moves = [0u8; MATRIX];
-    for i in 0..m.clausecount {
-        let c = m.clauses[i];
+    for (i, c) in m.clauses[..m.clausecount].iter().enumerate() {
         if list.contains(&c.line) {
-            lead_clause(states, c, table, i, &mut moves);
+            lead_clause(states, *c, table, i, &mut moves);
         }
     }
     moves

@@ -12,7 +12,7 @@ use Rattle.std.specs.Prelude.{is_some}
 use Rattle.limits.specs.Limits as limit
 use Rattle.facts_bits.specs.Bits.{bit_at}
 use Rattle.games.specs.Game.{Side}
-use Rattle.game_rounds.specs.Board.{Number, number_at, ready_by, given, Turned, Begun}
+use Rattle.game_rounds.specs.Board.{Number, number_at, ready_by, given, Turned}
 
 -- what the test for none says
 pub none-so : (v : Number) (r : Bool) → is_some v ≡ not r → r ≡ true → v ≡ prelude.None
@@ -96,18 +96,3 @@ module _ (M : List ℕ) where
   pub beginning-none : Beginning 0 (replicate limit.listed prelude.None)
   beginning-none =
       record { long = length-replicate {A = Number} limit.listed prelude.None; done = λ k l. absurd (omega (arith, l)); rest = λ k l h. get_or-replicate limit.listed k prelude.None prelude.None h }
-
-  module _ (e : ℕ) (ranks : List Number) (p : Beginning e ranks) (l : e < limit.listed) where
-    pub beginning-met : bit_at M e ≡ true → Beginning (e + 1) (set ranks e (prelude.Some 0))
-    beginning-met q =
-        record {
-          long = length-set ranks e (prelude.Some 0) ∙ p.long;
-          done = below_more _ _ (λ k h. get_or-set_other ranks e k (prelude.Some 0) prelude.None (λ y. omega (arith, h, y)) ∙ p.done k h) (get_or-set_same ranks e (prelude.Some 0) prelude.None (omega (arith, l, p.long)) ∙ rw q refl);
-          rest = λ k h g. get_or-set_other ranks e k (prelude.Some 0) prelude.None (λ y. omega (arith, h, y)) ∙ p.rest k (omega (arith, h)) g;
-        }
-
-    pub beginning-kept : bit_at M e ≡ false → Beginning (e + 1) ranks
-    beginning-kept q = record { long = p.long; done = below_more _ _ p.done (p.rest e (omega arith) l ∙ rw q refl); rest = λ k h g. p.rest k (omega (arith, h)) g }
-
-  pub beginning-all : (n e : ℕ) (ranks : List Number) → suc n ≤ e → Beginning e ranks → Begun M n ranks
-  beginning-all n e ranks z p = record { long = p.long; each = λ k l. p.done k (omega (arith, l, z)) }

@@ -29,7 +29,8 @@ fn sooner(rank: Option<u32>, round: u32) -> bool
 
 // Has some slot of row e a number below the round's?
 // The facts on n and e stay clauses: e counts up to n within a turn, so that a struct of both would be made anew for each slot.
-// The parameters stay: a turn lends the moves of one side and the numbers of the other, which change places from turn to turn.
+// The parameters stay, here, in `all_sooner` and in `ready`: a struct of the side, its moves, their bound, the other side's numbers and the round would be made for each turn, twice in `solve`, and each contract would read the five through it.
+// `0..n + 1` stays here and in `all_sooner`: the library says what a range without its end yields, by which `any` and `all` are read, and says it of no range with its end.
 fn some_sooner(
     moves: &[u8; MATRIX],
     e: usize,
@@ -128,7 +129,7 @@ pub fn solve(
     let mut first = outset(met, n);
     let mut second = first;
     let mut round: u32 = 1;
-    // The loop stays: it ends when a round gives no number, after no number of rounds that is known before.
+    // The loop stays: it ends when a round gives no number, after no number of rounds that is known before; a `for` over `1..` would count the rounds, and need an `unreachable!()` behind it.
     loop {
         let moved = turn(Side::Attacker, ours, n, &mut first, &second, round);
         let answered = turn(Side::Guardian, theirs, n, &mut second, &first, round);

@@ -1,7 +1,7 @@
 -- How a hand-in is read from line to line.
 use mathlib.Core.Path.{◌≡◌, refl, sym, ap, ◌∙◌}
 use mathlib.Core.Logic.{⊎_elim}
-use mathlib.Core.Bool.{Bool, true, false, cond}
+use mathlib.Core.Bool.{Bool, true, false, cond, false≢true}
 use mathlib.Core.List.{List, [], ◌∷◌, ◌++◌, map, map-append}
 use mathlib.Core.Option.{Option, none, some}
 use Prim.Native.Nat.{ℕ, suc, ◌+◌, ◌≤◌, ◌<◌}
@@ -23,9 +23,13 @@ use Rattle.handin_lines.specs.Lines as lines_of
 use Rattle.handin_lines.specs.Lines.{verdict, nothing, place, said_by}
 use Rattle.handin_lines.specs.Found.{is_silent, number_said, clear}
 use Rattle.std.specs.Prelude.{Some, None}
+use Rattle.std.specs.Prelude as std
+use Rattle.std.specs.Option.{MatchOption}
+use denote.Ref.{Bor}
+use Rattle.handin.specs.declared.Lines.{Lines}
 use Rattle.handin.specs.Handins.{Handin, says-no, says-yes, unreadable, content, onwards, follows, preface, read_lines, reading}
 use Rattle.handin.specs.declared.Start.{Start}
-use Rattle.handin.specs.Answers.{first_length, Front, PrefaceEnd}
+use Rattle.handin.specs.Answers.{first_length, Front, Gives, PrefaceEnd}
 
 -- THE FIRST LINE of some bytes
 First : List ℕ → Type 0
@@ -109,17 +113,14 @@ module _ (ps : List Place) (l : Line) (ls : List Line) (v : ℕ) where
   onwards-on e h = go (said_by (content l)) refl e
     where
       go : (o : Option lines_of.Said) → said_by (content l) ≡ o → number_said o ≡ Some v → More
-      go none q k = absurd (let z : ◌≡◌ {A = ℕ} 0 1 = cc in omega arith)
-      go (some nothing) q k = absurd (let z : ◌≡◌ {A = ℕ} 0 1 = cc in omega arith)
+      go none q k = absurd (false≢true cc)
+      go (some nothing) q k = absurd (false≢true cc)
       go (some (place p)) q k = (p, cc, λ first. rw (q, onwards, lt-ltb (length ps) limit.run h))
 
 -- THE PREFACE: the lines before those of i, where line n is next, say nothing
 pub record PrefaceSo (left i : List ℕ) (n : ℕ) : Type 0 where
   pub small : n + length i ≤ length left + 2
   pub read : (reached : Bool) → preface reached 2 (lines left) ≡ preface reached n (lines i)
-
-pub preface-start : (left : List ℕ) → PrefaceSo left left 2
-preface-start left = record { small = omega arith; read = λ reached. refl }
 
 module _ {left i : List ℕ} {n : ℕ} (so : PrefaceSo left i n) where
   pub preface-all : i ≡ [] → (reached : Bool) → preface reached 2 (lines left) ≡ follows reached n (lines i)
@@ -182,7 +183,7 @@ run_of (says-yes first ps) = ps
 run_of (unreadable n) = []
 
 pub no-yes : {n first : ℕ} {ps : List Place} → unreadable n ≡ says-yes first ps → ⊥
-no-yes e = absurd (let z : ◌≡◌ {A = ℕ} 0 1 = cc in omega arith)
+no-yes e = absurd (false≢true cc)
 
 -- THE TABLE: one number more
 store-more : (xs d : List ℕ) (v : ℕ) → length xs < length d → set (xs ++ drop (length xs) d) (length xs) v ≡ (xs ++ v ∷ []) ++ drop (suc (length xs)) d
@@ -228,14 +229,6 @@ module _ (left : List ℕ) (n : ℕ) where
   follows-none h = rw (nil_from_length left h)
 
 -- THE FIRST LINE
-clear-some : (o : Option Bool) (reached : Bool) → clear o ≡ Some reached → o ≡ some reached
-clear-some none reached e = cc
-clear-some (some r) reached e = let z : r ≡ reached = cc in cc
-
-clear_none : (o : Option Bool) → clear o ≡ None → o ≡ none
-clear_none none e = refl
-clear_none (some r) e = cc
-
 module _ (handin : List ℕ) where
   pub reading-long : limit.handin < length handin → reading handin ≡ unreadable 0
   unfolding reading
@@ -245,7 +238,7 @@ module _ (handin : List ℕ) where
   unfolding reading
   reading-short h = rw (le-ltb limit.handin (length handin) h)
 
-  pub reading-empty : length handin ≤ limit.handin → handin ≡ [] → reading handin ≡ unreadable 1
+  reading-empty : length handin ≤ limit.handin → handin ≡ [] → reading handin ≡ unreadable 1
   unfolding read_lines
   reading-empty h z = reading-short h ∙ rw z
 
@@ -254,31 +247,41 @@ module _ (handin : List ℕ) where
     unfolding read_lines
     first_said o q = reading-short h ∙ rw (f.read, ← q, ← f.says)
 
-    pub reading-yes : clear (verdict line) ≡ Some true → reading handin ≡ preface true 2 (lines others)
-    reading-yes q = first_said (some true) (clear-some (verdict line) true q)
+-- what a hand-in says whose first line has this verdict
+abbrev pub read_on : std.Option Bool → List ℕ → Handin
+read_on None others = unreadable 1
+read_on (Some reached) others = preface reached 2 (lines others)
 
-    pub reading-no : clear (verdict line) ≡ Some false → reading handin ≡ preface false 2 (lines others)
-    reading-no q = first_said (some false) (clear-some (verdict line) false q)
-
-    pub reading-none : clear (verdict line) ≡ None → reading handin ≡ unreadable 1
-    reading-none q = first_said none (clear_none (verdict line) q)
+pub reading-first : {P : Bor (List ℕ) → Type 0} (s : Lines) (o : std.Option (Bor (List ℕ))) (t : Lines) (r : std.Option Bool) → length s.left.now ≤ limit.handin → Gives s o t → MatchOption o (r ≡ None) P
+    → ((x : Bor (List ℕ)) → P x → r ≡ clear (verdict x.now)) → reading s.left.now ≡ read_on r t.left.now
+reading-first s None t r h g m f = rw m (reading-empty s.left.now h g)
+reading-first s (Some x) t r h g m f = rw (f x m) (go (verdict x.now) refl)
+  where
+    go : (v : Option Bool) → verdict x.now ≡ v → reading s.left.now ≡ read_on (clear v) t.left.now
+    go none q = first_said s.left.now h g none q
+    go (some reached) q = first_said s.left.now h g (some reached) q
 
 -- A HAND-IN THAT SAYS YES
 module _ (handin : List ℕ) {first : ℕ} {ps : List Place} (yes : reading handin ≡ says-yes first ps) where
   pub yes-short : length handin ≤ limit.handin
   yes-short = ⊎_elim (λ q. absurd (no-yes (sym (reading-long handin (ltb-true limit.handin (length handin) q)) ∙ yes))) (λ q. ltb-false limit.handin (length handin) q) (cases_Bool (ltb limit.handin (length handin)))
 
-  pub yes-some : handin ≡ [] → ⊥
+  yes-some : handin ≡ [] → ⊥
   yes-some z = no-yes (sym (reading-empty handin yes-short z) ∙ yes)
 
   pub yes-run : {line others : List ℕ} {s : Start} → Front handin line others → PrefaceEnd others s → onwards s.line [] (lines s.left.now) ≡ says-yes first ps
   yes-run {line} {others} {s} f p = go (verdict line) refl
     where
       away : follows false s.line (lines s.left.now) ≡ says-yes first ps → ⊥
-      away q = ⊎_elim (λ z. absurd (let y = sym (follows-none s.left.now s.line (eqb-true (length s.left.now) 0 z)) ∙ q in let x : ◌≡◌ {A = ℕ} 0 1 = cc in omega arith))
+      away q = ⊎_elim (λ z. absurd (let y = sym (follows-none s.left.now s.line (eqb-true (length s.left.now) 0 z)) ∙ q in false≢true cc))
           (λ z. no-yes (sym (follows-more s.left.now s.line (eqb-false (length s.left.now) 0 z)) ∙ q)) (cases_Bool (eqb (length s.left.now) 0))
 
       go : (o : Option Bool) → verdict line ≡ o → onwards s.line [] (lines s.left.now) ≡ says-yes first ps
       go none q = absurd (no-yes (sym (first_said handin yes-short f none q) ∙ yes))
       go (some true) q = sym (follows-yes s.left.now s.line) ∙ sym (p.read true) ∙ sym (first_said handin yes-short f (some true) q) ∙ yes
       go (some false) q = absurd (away (sym (p.read false) ∙ sym (first_said handin yes-short f (some false) q) ∙ yes))
+
+-- the first line of a hand-in that says yes
+pub yes-front : (s : Lines) (o : std.Option (Bor (List ℕ))) (t : Lines) → Gives s o t → {first : ℕ} {ps : List Place} → reading s.left.now ≡ says-yes first ps → (line : List ℕ) × Front s.left.now line t.left.now
+yes-front s None t g e = absurd (yes-some s.left.now e g)
+yes-front s (Some line) t g e = (line.now, g)

@@ -145,10 +145,7 @@ pub fn read(handin: &[u8]) -> Result<Option<Run>, Unreadable>
         return Err(Unreadable { line: 0 });
     }
     let mut lines = Lines { left: handin };
-    let Some(first) = lines.next() else {
-        return Err(Unreadable { line: 1 });
-    };
-    match read_verdict(first) {
+    match lines.next().and_then(read_verdict) {
         Some(true) => after_yes(lines.left),
         Some(false) => after_no(lines.left),
         None => Err(Unreadable { line: 1 }),
@@ -156,6 +153,7 @@ pub fn read(handin: &[u8]) -> Result<Option<Run>, Unreadable>
 }
 
 // Writes the numbers of the places into the table.
+// The `return` is never taken: in a hand-in that says yes each line behind the preface is a place.
 fn write_places(left: &[u8], run: &mut [u32])
     requires { (limit.run ≤ length run.old)
         × ((n first : ℕ) × (ps : List Place) × (onwards n [] (lines left.now) ≡ says-yes first ps)) }
@@ -178,9 +176,7 @@ pub fn write(handin: &[u8], run: &mut [u32])
         → run.new ≡ map number_of ps ++ drop (length ps) run.old }
 {
     let mut lines = Lines { left: handin };
-    let Some(_) = lines.next() else {
-        return;
-    };
+    lines.next();
     let s = preface_end(lines.left);
     write_places(s.left, run);
 }

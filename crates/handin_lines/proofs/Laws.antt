@@ -16,7 +16,7 @@ use native.Mathlib.Omega.{arith}
 use lib.Dec.{eqb, ltb}
 use lib.ListN.{length, take, drop, get_or, length-drop}
 use lib.Seq.{length-slice, take-length}
-use borrow.Author.Tests.{le-leb, le-ltb, ltb-true, ltb-false, eqb-true, eqb-false, eq-eqb, ne_eqb}
+use borrow.Author.Tests.{le-leb, le-ltb, ltb-true, ltb-false, eqb-true, eq-eqb, ne_eqb}
 use Rattle.grammar.specs.Bytes.{bytes, digit, Word, same}
 use Rattle.grammar.specs.Shapes.{Read, ◌>>=◌, after, word, rest, whole}
 use Rattle.grammar.proofs.Tests.{clash, and_left, and_right}
@@ -58,16 +58,6 @@ stripped w s None h = next-missing w s h
 stripped w s (Some x) h = next-found w s h.0 ∙ ap some (sym h.1)
 
 -- THE END OF A LINE
-end-byte : (b : ℕ) → eqb b 41 ≡ eqb 41 b
-end-byte b = ⊎_elim
-    (λ (q : eqb 41 b ≡ true). rw (q, eq-eqb b 41 (sym (eqb-true 41 b q))) refl)
-    (λ (q : eqb 41 b ≡ false). rw (q, ne_eqb b 41 (λ e. eqb-false 41 b q (sym e))) refl)
-    (cases_Bool (eqb 41 b))
-
-pub ends_there : (line : List ℕ) → same line (bytes ")") ≡ last (after (bytes ")") line)
-ends_there [] = refl
-ends_there (b ∷ []) = rw (end-byte b) (⊎_elim (λ (q : eqb 41 b ≡ true). rw q refl) (λ (q : eqb 41 b ≡ false). rw q refl) (cases_Bool (eqb 41 b)))
-ends_there (b ∷ c ∷ s) = rw (end-byte b) (⊎_elim (λ (q : eqb 41 b ≡ true). rw q refl) (λ (q : eqb 41 b ≡ false). rw q refl) (cases_Bool (eqb 41 b)))
 
 pub whole-last : {A : Type 0} (x : A) (o : Option (List ℕ)) → whole (o >>= λ t. some (x, t)) ≡ cond (last o) (some x) none
 whole-last x none = refl
@@ -82,9 +72,6 @@ pub record DigitsSo (line : List ℕ) (v i : ℕ) : Type 0 where
   pub sum : ℕ
   pub value : v ≡ cut sum
   pub read : value_after 0 (digits line) ≡ value_after sum (digits (drop i line))
-
-pub digits-start : (line : List ℕ) → DigitsSo line 0 0
-digits-start line = record { ends = omega arith; count = omega arith; left = refl; sum = 0; value = refl; read = refl }
 
 -- NUMERALS
 no_number : (s : List ℕ) → is_numeral (digits s) ≡ false → number s ≡ none

@@ -1,7 +1,7 @@
 -- A place that a line says has a number.
 use mathlib.Core.Path.{◌≡◌, subst}
 use mathlib.Core.Logic.{⊎_elim}
-use mathlib.Core.Bool.{true, false, cond}
+use mathlib.Core.Bool.{true, false, cond, false≢true}
 use mathlib.Core.List.{List, [], ◌∷◌}
 use mathlib.Core.Option.{Option, none, some, none-ne-some}
 use Prim.Native.Nat.{ℕ, zero, suc, ◌≤◌, ◌<◌}
@@ -140,7 +140,7 @@ line-good s =
 
 whole-good : (r : Read Said) → Good r → (p : runs.Place) → whole r ≡ some (place p) → Numerable p
 whole-good none g p e = absurd (none-ne-some _ e)
-whole-good (some (nothing, [])) g p e = absurd (let z : ◌≡◌ {A = ℕ} 0 1 = cc in omega arith)
+whole-good (some (nothing, [])) g p e = absurd (false≢true cc)
 whole-good (some (place q, [])) g p e = let z : q ≡ p = cc in subst Numerable z g
 whole-good (some (x, b ∷ s)) g p e = absurd (none-ne-some _ e)
 

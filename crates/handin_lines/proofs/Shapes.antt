@@ -21,6 +21,10 @@ use Rattle.handin_lines.specs.Lines.{verdict, number, below, letters, Said, noth
 use Rattle.handin_lines.specs.Found.{BelowAt, object, last, met, is_silent, number_said, clear}
 use Rattle.handin_lines.specs.declared.Number.{Number}
 use Rattle.std.specs.Prelude.{Some, None}
+use Rattle.std.specs.Prelude as std
+use Rattle.std.specs.Option.{MatchOption}
+use denote.Ref.{Bor}
+use Rattle.grammar.proofs.Tests.{clash}
 use Rattle.handin_lines.proofs.Laws.{space-open}
 
 -- A PLACE, if the line ends with the bracket that is next
@@ -209,6 +213,22 @@ module _ (text : List ℕ) where
         go none none = refl
         go none (some t) = meet-said t
         go (some t) p = step-said t
+
+-- the tests of the two first words
+module _ (text : List ℕ) where
+  pub silent-states : {P : Bor (List ℕ) → Type 0} (o : std.Option (Bor (List ℕ))) {r : Bool} → MatchOption o (after (bytes "(states ") text ≡ none) (λ x. after (bytes "(states ") text ≡ some x.now) → MatchOption o (r ≡ false) P
+      → ((x : Bor (List ℕ)) → P x → whole (states_rest x.now) ≡ cond r (some nothing) none) → r ≡ true → r ≡ is_silent (said_by text)
+  silent-states None e m f h = clash h m
+  silent-states (Some x) e m f h = silent-same (line-states text e ∙ f x m)
+
+  pub silent-atomic : {P Q : Bor (List ℕ) → Type 0} (o p : std.Option (Bor (List ℕ))) {r q : Bool} → MatchOption o (after (bytes "(states ") text ≡ none) (λ x. after (bytes "(states ") text ≡ some x.now) → MatchOption o (r ≡ false) P
+      → ((x : Bor (List ℕ)) → P x → whole (states_rest x.now) ≡ cond r (some nothing) none) → r ≡ false
+      → MatchOption p (after (bytes "(atomic") text ≡ none) (λ x. after (bytes "(atomic") text ≡ some x.now) → MatchOption p (q ≡ false) Q
+      → ((x : Bor (List ℕ)) → Q x → whole (atomic_rest x.now) ≡ cond q (some nothing) none) → q ≡ is_silent (said_by text)
+  silent-atomic None None e m f h d n g = n ∙ line-loud text e d
+  silent-atomic None (Some y) e m f h d n g = silent-same (line-atomic text e d ∙ g y n)
+  silent-atomic (Some x) None e m f h d n g = n ∙ sym h ∙ silent-same (line-states text e ∙ f x m)
+  silent-atomic (Some x) (Some y) e m f h d n g = let z = front (bytes "(states ") text e in absurd (none-ne-some _ (rw z at d))
 
 -- a line that says a place
 pub line_step : (text : List ℕ) {t : List ℕ} → after (bytes "(step ") text ≡ some t → said_by text ≡ whole (step_rest t)

@@ -8,7 +8,7 @@ ghost use Rattle.lines.specs.Lines.{nothing, recorded, line_at};
 use model::{Action, Clause};
 
 // The line of a clause and what stands on it: line × 4, and 1 for a rule, 2 for a `new` line, 3 for a `next` line.
-// The kinds stay numbers in the word that C is told: each stands once, beside the action whose kind it is, and an enum of them would list the actions a second time.
+// The kinds stay numbers in the word that C is told: each stands here once, beside the action whose kind it is, and an enum of them would list the actions a second time.
 fn describe(c: Clause) -> u64
     ensures { result ≡ recorded c }
 {

@@ -7,6 +7,7 @@ ghost use Rattle.listing_bytes.specs.Forms.{items, bytes as quoted};
 ghost use Rattle.listing_bytes.specs.Writing.{Writes};
 
 // Writes one byte at place `at`, and says where the next one goes.
+// The slice and the place stay two parameters, here and in all that writes a line: `Writes` says what stands from the place that a call is given to the one that it answers, and a struct of both would say it of its own fields.
 pub fn put_byte(out: &mut [u8], at: usize, b: u8) -> usize
     requires { at < length out.old }
     ensures { Writes out.old at (b ∷ []) result out.new }

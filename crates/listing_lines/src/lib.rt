@@ -60,7 +60,7 @@ fn put_objects(out: &mut [u8], at: usize, first: u32, second: u32, third: u32) -
 }
 
 // Writes the line of the verdict.
-// That the slice is long enough stays a clause: an array type would ask more of callers than so many bytes at least, and `listing` lends all that is left of its own slice.
+// That the slice is long enough stays a clause: an array type would ask more of callers than so many bytes at least, and `listing` lends what is left of its own slice.
 pub fn verdict_line(out: &mut [u8], reached: bool) -> usize
     requires { longest ≤ length out.old }
     ensures { WritesLine out.old (verdict_line reached) result out.new }

@@ -1,7 +1,7 @@
 -- WHAT A HAND-IN SAYS, by the answer to it; and of a yes, on which line its run begins at the latest, and that the numbers of its places stand for them.
 use mathlib.Core.Path.{◌≡◌, refl, sym, ap, ap₂}
 use mathlib.Core.Logic.{⊎_elim}
-use mathlib.Core.Bool.{Bool, true, false, cond}
+use mathlib.Core.Bool.{Bool, true, false, cond, false≢true}
 use mathlib.Core.List.{List, [], ◌∷◌, ◌++◌, map}
 use mathlib.Core.Option.{Option, none, some}
 use Prim.Native.Nat.{ℕ, suc, ◌+◌, ◌≤◌}
@@ -27,24 +27,24 @@ use Rattle.handin.proofs.Runs.{Numerables}
 
 -- BY THE ANSWER
 pub told-yes : (h : Handin) (r : Run) → told h ≡ Ok (Some r) → (ps : List Place) × (h ≡ says-yes r.first ps) × (r.places ≡ length ps)
-told-yes says-no r e = absurd (let z : ◌≡◌ {A = ℕ} 0 1 = cc in omega arith)
+told-yes says-no r e = absurd (false≢true cc)
 told-yes (says-yes n ps) r e =
     let q : ◌≡◌ {A = Run} (record { first = n; places = length ps }) r = cc in
     (ps, ap (λ (s : Run). says-yes s.first ps) q, sym (ap (λ (s : Run). s.places) q))
-told-yes (unreadable n) r e = absurd (let z : ◌≡◌ {A = ℕ} 0 1 = cc in omega arith)
+told-yes (unreadable n) r e = absurd (false≢true cc)
 
 pub told-no : (h : Handin) → told h ≡ Ok None → h ≡ says-no
 told-no says-no e = refl
-told-no (says-yes n ps) e = absurd (let z : ◌≡◌ {A = ℕ} 0 1 = cc in omega arith)
-told-no (unreadable n) e = absurd (let z : ◌≡◌ {A = ℕ} 0 1 = cc in omega arith)
+told-no (says-yes n ps) e = absurd (false≢true cc)
+told-no (unreadable n) e = absurd (false≢true cc)
 
 pub told-unreadable : (h : Handin) (u : Unreadable) → told h ≡ Err u → h ≡ unreadable u.line
-told-unreadable says-no u e = absurd (let z : ◌≡◌ {A = ℕ} 0 1 = cc in omega arith)
-told-unreadable (says-yes n ps) u e = absurd (let z : ◌≡◌ {A = ℕ} 0 1 = cc in omega arith)
+told-unreadable says-no u e = absurd (false≢true cc)
+told-unreadable (says-yes n ps) u e = absurd (false≢true cc)
 told-unreadable (unreadable n) u e = let q : ◌≡◌ {A = Unreadable} (record { line = n }) u = cc in ap (λ (s : Unreadable). unreadable s.line) q
 
 no-yes : {A : Type 0} (n first : ℕ) (ps : List Place) → unreadable n ≡ says-yes first ps → A
-no-yes n first ps e = absurd (let z : ◌≡◌ {A = ℕ} 0 1 = cc in omega arith)
+no-yes n first ps e = absurd (false≢true cc)
 
 -- LINES are at most as many as bytes
 in-front-count : (b : ℕ) (ls : List Line) → length (in_front b ls) ≤ suc (length ls)
@@ -80,7 +80,7 @@ module _ (first : ℕ) (ps : List Place) where
   follows-first : (reached : Bool) (n : ℕ) (ls : List Line) → follows reached n ls ≡ says-yes first ps → first ≡ n
   unfolding follows
   follows-first true n ls e = run-first n [] ls e
-  follows-first false n [] e = absurd (let z : ◌≡◌ {A = ℕ} 0 1 = cc in omega arith)
+  follows-first false n [] e = absurd (false≢true cc)
   follows-first false n (l ∷ ls) e = no-yes n first ps e
 
   one_line : (reached : Bool) (n : ℕ) (l : Line) (ls : List Line) (o : Option line.Said) → (preface reached (suc n) ls ≡ says-yes first ps → first ≤ suc n + length ls)

@@ -24,21 +24,20 @@ fn short(bytes: usize, places: usize, standing: usize) -> bool
 }
 
 // The mark of a yes: its run is written into the table, and replayed.
-// The hand-in and the three buffers stay apart, since C lends them so; what the run says stays beside the hand-in of which it is read.
+// The hand-in and the three buffers stay apart, since C lends them so.
 fn mark_yes(
     m: Model,
     handin: &[u8],
-    first: u32,
-    places: usize,
+    yes: handin::Run,
     work: &mut [u8],
     run: &mut [u32],
     stood: &mut [u32],
 ) -> Result<Mark, Refusal>
-    requires { WellFormed m × (limit.work ≤ length work.old) × (limit.run ≤ length run.old) × (limit.run ≤ length stood.old) × ((ps : List Place) × (reading handin.now ≡ says-yes first ps) × (places ≡ length ps)) }
+    requires { WellFormed m × (limit.work ≤ length work.old) × (limit.run ≤ length run.old) × (limit.run ≤ length stood.old) × ((ps : List Place) × (reading handin.now ≡ says-yes yes.first ps) × (yes.places ≡ length ps)) }
     ensures { Worth (program_of m) (question_of m) (reading handin.now) result × Leaves (program_of m) (question_of m) (reading handin.now) work.old run.old stood.old work.new run.new stood.new }
 {
     handin::write(handin, run);
-    marker_worth::mark_run(m, first, &run[..places], work, stood)
+    marker_worth::mark_run(m, yes.first, &run[..yes.places], work, stood)
 }
 
 // The mark over a model, by what the hand-in says.
@@ -54,7 +53,7 @@ fn mark_model(
 {
     let said = handin::read(handin);
     match said {
-        Ok(Some(yes)) => mark_yes(m, handin, yes.first, yes.places, work, run, stood),
+        Ok(Some(yes)) => mark_yes(m, handin, yes, work, run, stood),
         Ok(None) => marker_worth::mark_no(m, work),
         Err(Unreadable { line }) => Ok(Mark::Unreadable { line }),
     }

@@ -1,4 +1,5 @@
 -- FROM THE REPLAY TO THE RUN: what is answered to the numbers of places is said of the places. FROM THE VERDICT TO THE MARK.
+use mathlib.Core.Bool.{false≢true}
 use mathlib.Core.Path.{◌≡◌, refl, subst}
 use mathlib.Core.Logic.{inl, inr}
 use mathlib.Core.List.{List, [], ◌∷◌}
@@ -19,18 +20,18 @@ module _ (P : Program) (Q : Question) where
   -- KEPT
   pub plays : (s : Session) (ns : List ℕ) (ps : List Place) (i : ℕ) → Decodes ns ps → Replays P Q s ns i Kept → Plays P Q s ps
   plays s [] [] i d h = h
-  plays s [] (p ∷ ps) i d h = absurd (let z : ◌≡◌ {A = ℕ} 0 1 = cc in omega arith)
-  plays s (n ∷ ns) [] i d h = absurd (let z : ◌≡◌ {A = ℕ} 0 1 = cc in omega arith)
+  plays s [] (p ∷ ps) i d h = absurd (false≢true cc)
+  plays s (n ∷ ns) [] i d h = absurd (false≢true cc)
   plays s (n ∷ ns) (p ∷ ps) i d (inl (q, e, l, g)) =
       let same : q ≡ p = cc in
       subst (λ (x : Place). Plays P Q s (x ∷ ps)) same (l, plays (after P Q s q) ns ps (suc i) (cc) g)
-  plays s (n ∷ ns) (p ∷ ps) i d (inr (never, e)) = absurd (let z : ◌≡◌ {A = ℕ} 0 1 = cc in omega arith)
+  plays s (n ∷ ns) (p ∷ ps) i d (inr (never, e)) = absurd (false≢true cc)
 
   -- BROKEN
   pub breaks : (s : Session) (ns : List ℕ) (ps : List Place) (i j : ℕ) → Decodes ns ps → Replays P Q s ns i (Broken j) → (k : ℕ) × (j ≡ i + k) × BreaksAt P Q s ps k
   breaks s [] [] i j d h = (0, omega (arith, h.1), (omega arith, (s, refl, h.0)))
-  breaks s [] (p ∷ ps) i j d h = absurd (let z : ◌≡◌ {A = ℕ} 0 1 = cc in omega arith)
-  breaks s (n ∷ ns) [] i j d h = absurd (let z : ◌≡◌ {A = ℕ} 0 1 = cc in omega arith)
+  breaks s [] (p ∷ ps) i j d h = absurd (false≢true cc)
+  breaks s (n ∷ ns) [] i j d h = absurd (false≢true cc)
   breaks s (n ∷ ns) (p ∷ ps) i j d (inl (q, e, l, g)) =
       let same : q ≡ p = cc in
       let r = breaks (after P Q s q) ns ps (suc i) j (cc) g in

@@ -31,16 +31,13 @@ pub enum Mark {
 
 // The mark by the verdict of a well-formed model, or the refusal where too many states are reachable for one; the search has a table of its own, and the work bytes are left zero.
 // `WellFormed m` stays a clause: a record is blank before a text is read into it, which is not well formed, and a second type around a well-formed record would be opened wherever a field of it is read; the length of `work` stays one too, since C lends an area that may be longer.
-// `let .. else` stays: `ok_or(CROWDED)?` would save two lines here and cost a lemma about `ok_or` in the proof, which the crate does not need for anything else.
 fn judge(m: Model, reached: Mark, unreached: Mark, work: &mut [u8]) -> Result<Mark, Refusal>
     requires { WellFormed m × (limit.work ≤ length work.old) }
     ensures { Judged (program_of m) (question_of m) reached unreached result × (work.new ≡ wiped work.old) }
 {
     let mut table = [0u8; ROOM];
     calls::wipe(work);
-    let Some(found) = search::search(&mut table, m) else {
-        return Err(CROWDED);
-    };
+    let found = search::search(&mut table, m).ok_or(CROWDED)?;
     if found.reached {
         return Ok(reached);
     }

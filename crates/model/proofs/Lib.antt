@@ -8,3 +8,4 @@ pub mod Carried
 pub mod Office
 pub mod Places
 pub mod Bodies
+pub mod Counted

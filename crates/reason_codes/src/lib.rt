@@ -28,6 +28,7 @@ fn reasoned(reason: Reason) -> u64
 }
 
 // The number of what is said of a run.
+// It stays a function and no `From`: neither a `Result` nor `u64` is a type of this crate.
 pub fn explained(x: Result<Explanation, Refusal>) -> u64
     ensures { result ≡ explanation_code x }
 {

@@ -33,7 +33,7 @@ pub enum Reason {
 }
 
 // Why a step of a line and an object is not allowed.
-// The view and the states stay in the clauses alone: the code reads some parts of them. What is lent stays apart: the slots are a part of the view, the table is one of the stock of facts, and a struct would be made for one place and be taken apart by `blame` again.
+// The view and the states stay in the clauses alone: the code reads some parts of them. What is lent stays apart: the slots are a part of the view and the work area is not, so that a struct of both would be made for one place, to be taken apart by `blame` again.
 fn why_step(m: &Model, slots: &[u8], work: &[u8], at: Position, line: u32, object: u32) -> Reason
     requires { ((v : View) × (states : List ℕ) × Open m.now v (session_in states at) slots.now work.now (step line object)) × (object < limit.objects) }
     ensures { (v : View) (states : List ℕ) → Open m.now v (session_in states at) slots.now work.now (step line object) → Explains m.now (session_in states at) (step line object) result }
@@ -68,6 +68,7 @@ fn beyond(c: Choice, n: usize, objects: usize) -> bool
 }
 
 // Does a choice have another object than the carried one for the stage's variable of a number?
+// It and `any_swapped` stay beside `all_named` and `all_agree` of `replay_meetings`: `all_agree` promises no more than that not all objects agree, and what is promised here is a variable at which another object stands, as the reason says it.
 fn swapped(g: Stage, number: u32, carried: Option<usize>, c: Choice) -> bool
     requires { g.variables ≤ limit.variables }
     ensures { Says (Swapped g number carried c) result }

@@ -17,9 +17,10 @@ use limits::{CARRIED, NONE};
 use model::{Model, Stage};
 use replay_session::Position;
 use replay_steps::Outcome;
+use std::array;
 
 // How many objects a meeting names.
-// The three numbers stay apart, here and below: the comment at `model::Place` says why.
+// The three numbers stay apart, here and below, as the three fields of `model::Place` that they are: `place_of`, `number_of` and `choice` name each of them, and as an array they would name its places 0 to 2.
 pub fn count(first: u32, second: u32, third: u32) -> u32
     ensures { result ≡ length (objects (first ∷ second ∷ third ∷ [])) }
 {
@@ -71,9 +72,7 @@ fn all_named(numbers: [u32; CARRIED], g: Stage, c: Choice) -> [Option<usize>; CA
     requires { g.variables ≤ limit.variables }
     ensures { AllNamed numbers g c result }
 {
-    let first = named(g, numbers[0], c);
-    let second = named(g, numbers[1], c);
-    [first, second]
+    array::from_fn(|v| named(g, numbers[v], c))
 }
 
 // Whether the objects may be met where these, or none, are carried.
@@ -93,7 +92,7 @@ fn carry_all(
 ) -> [Option<usize>; CARRIED]
     ensures { AllCarried carried objects result }
 {
-    [objects[0].or(carried[0]), objects[1].or(carried[1])]
+    array::from_fn(|v| objects[v].or(carried[v]))
 }
 
 // The derived relations that a meeting of a stage rests on, as a row of bits.

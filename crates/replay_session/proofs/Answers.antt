@@ -1,4 +1,5 @@
 -- A run has one answer. It is kept exactly if its places are a kept run, and broken at exactly the first place that is not allowed.
+use mathlib.Core.Bool.{false≢true}
 use mathlib.Core.Path.{◌≡◌, refl, sym, ap, ap₂, ◌∙◌, subst}
 use mathlib.Core.Logic.{inl, inr, ◌↔◌, ◌≢◌}
 use mathlib.Core.List.{List, [], ◌∷◌}
@@ -36,12 +37,12 @@ module _ (P : Program) (Q : Question) where
   kept-plays : (s : Session) (ns : List ℕ) (i : ℕ) → Replays P Q s ns i Kept → (ps : List runs.Place) × Decodes ns ps × Plays P Q s ps
   kept-plays s [] i h = ([], refl, h)
   kept-plays s (n ∷ ns) i (inl (p, e, l, g)) = let r = kept-plays (after P Q s p) ns (suc i) g in (p ∷ r.0, decodes-cons n ns p r.0 e r.1, (l, r.2))
-  kept-plays s (n ∷ ns) i (inr (never, e)) = absurd (let z : ◌≡◌ {A = ℕ} 0 1 = cc in omega arith)
+  kept-plays s (n ∷ ns) i (inr (never, e)) = absurd (false≢true cc)
 
   plays-kept : (s : Session) (ns : List ℕ) (i : ℕ) (ps : List runs.Place) → Decodes ns ps → Plays P Q s ps → Replays P Q s ns i Kept
   plays-kept s [] i [] d h = h
-  plays-kept s [] i (p ∷ ps) d h = absurd (let z : ◌≡◌ {A = ℕ} 0 1 = cc in omega arith)
-  plays-kept s (n ∷ ns) i [] d h = absurd (let z : ◌≡◌ {A = ℕ} 0 1 = cc in omega arith)
+  plays-kept s [] i (p ∷ ps) d h = absurd (false≢true cc)
+  plays-kept s (n ∷ ns) i [] d h = absurd (false≢true cc)
   plays-kept s (n ∷ ns) i (p ∷ ps) d h = inl (p, (cc), h.0, plays-kept (after P Q s p) ns (suc i) ps (cc) h.1)
 
   pub kept : (s : Session) (ns : List ℕ) (i : ℕ) → Replays P Q s ns i Kept ↔ ((ps : List runs.Place) × Decodes ns ps × Plays P Q s ps)
@@ -67,11 +68,11 @@ module _ (P : Program) (Q : Question) where
 
   breaks-broken : (s : Session) (ns : List ℕ) (i j k : ℕ) → j ≡ i + k → Breaks s ns k → Replays P Q s ns i (Broken j)
   breaks-broken s [] i j zero e (l, ([], t, d, h, stuck)) = ((λ q. stuck (ap (λ (x : Session). x.met) (sym h) ∙ q)), omega arith)
-  breaks-broken s [] i j zero e (l, (p ∷ ps, t, d, h, stuck)) = absurd (let z : ◌≡◌ {A = ℕ} 0 1 = cc in omega arith)
+  breaks-broken s [] i j zero e (l, (p ∷ ps, t, d, h, stuck)) = absurd (false≢true cc)
   breaks-broken s [] i j (suc k) e b = absurd (let l = b.0 in omega arith)
   breaks-broken s (n ∷ ns) i j zero e (l, ([], t, d, h, stuck)) = inr ((λ q. stuck (rw (← h) q)), ap Broken (omega arith))
-  breaks-broken s (n ∷ ns) i j zero e (l, (p ∷ ps, t, d, h, stuck)) = absurd (let z : ◌≡◌ {A = ℕ} 0 1 = cc in omega arith)
-  breaks-broken s (n ∷ ns) i j (suc k) e (l, ([], t, d, h, stuck)) = absurd (let z : ◌≡◌ {A = ℕ} 0 1 = cc in omega arith)
+  breaks-broken s (n ∷ ns) i j zero e (l, (p ∷ ps, t, d, h, stuck)) = absurd (false≢true cc)
+  breaks-broken s (n ∷ ns) i j (suc k) e (l, ([], t, d, h, stuck)) = absurd (false≢true cc)
   breaks-broken s (n ∷ ns) i j (suc k) e (l, (p ∷ ps, t, d, h, stuck)) =
       inl (p, (cc), h.0, breaks-broken (after P Q s p) ns (suc i) j k (omega arith) (omega arith, (ps, t, (cc), h.1, stuck)))
 

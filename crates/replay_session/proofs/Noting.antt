@@ -1,7 +1,7 @@
 -- THE TABLE of those who stood by: a run settles it, and at each place it has the number that one place put to the state there is answered.
 use mathlib.Core.Path.{◌≡◌, sym, ap, ap₂, ◌∙◌, subst}
 use mathlib.Core.Logic.{inl, inr, ⊎_elim}
-use mathlib.Core.Bool.{true}
+use mathlib.Core.Bool.{true, false≢true}
 use mathlib.Core.List.{List, [], ◌∷◌, map}
 use mathlib.Core.Option.{some, some-injective}
 use Prim.Native.Nat.{ℕ, zero, suc, ◌≤◌, ◌<◌}
@@ -66,12 +66,12 @@ module _ (P : Program) (Q : Question) where
   pub noted-at : (s r : Session) (ns t t' : List ℕ) (i : ℕ) (ps : List Place) (p : Place) (k : ℕ) → Notes P Q s ns t t' → i < length ns → Decodes (take i ns) ps → Leads P Q s ps r
       → place_of (get_or ns i 0) ≡ some p → Allowed P Q r p → Stands P r p k → get_or t' i 0 ≡ k
   noted-at s r [] t t' i ps p k m l d h e a g = absurd (not-suc-le-zero l)
-  noted-at s r (n ∷ ns) t t' zero (q ∷ ps) p k m l d h e a g = absurd (let z : ◌≡◌ {A = ℕ} 0 1 = cc in omega arith)
+  noted-at s r (n ∷ ns) t t' zero (q ∷ ps) p k m l d h e a g = absurd (false≢true cc)
   noted-at s r (n ∷ ns) t t' zero [] p k (inl (q, f, b, (j, u, o, w, m))) l d h e a g =
       let qp : q ≡ p = some-injective q p (sym f ∙ e) in
       ap (λ (x : List ℕ). get_or x 0 0) w ∙ one-standing P s p j k (subst (λ (x : Place). Stands P s x j) qp o) (subst (λ (x : Session). Stands P x p k) (sym h) g)
   noted-at s r (n ∷ ns) t t' zero [] p k (inr (never, m)) l d h e a g = absurd (never (p, e, subst (λ (x : Session). Allowed P Q x p) (sym h) a))
-  noted-at s r (n ∷ ns) t t' (suc i) [] p k m l d h e a g = absurd (let z : ◌≡◌ {A = ℕ} 0 1 = cc in omega arith)
+  noted-at s r (n ∷ ns) t t' (suc i) [] p k m l d h e a g = absurd (false≢true cc)
   noted-at s r (n ∷ ns) t t' (suc i) (x ∷ ps) p k (inl (q, f, b, (j, u, o, w, m))) l d h e a g =
       let qx : q ≡ x = some-injective q x (sym f ∙ (cc)) in
       ap (λ (y : List ℕ). get_or y (suc i) 0) w ∙ noted-at (after P Q s x) r ns (drop 1 t) u i ps p k (subst (λ (y : Place). Notes P Q (after P Q s y) ns (drop 1 t) u) qx m) (omega arith) (cc) h.1 e a g

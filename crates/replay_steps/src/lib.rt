@@ -123,7 +123,7 @@ pub fn fixed(action: Action, n: usize, object: u32) -> Option<Choice>
 }
 
 // A step of a line and an object.
-// The bound of an object stays a clause: an object is a part of a place's number. What is lent stays apart for the same reason, and the position beside it, which is another one after each place.
+// The bound of an object stays a clause: a type with it would be made of a part of a place's number by this very clause, to be taken apart for an index. What is lent stays apart as at `decide`, and the position beside it, which is another one after each place.
 pub fn step_place(
     m: &Model,
     states: &[u32],

@@ -27,19 +27,13 @@ use Rattle.search_clauses.specs.Reach.{Lists}
 use Rattle.search_reachable.specs.Reachable.{Reaches}
 use Rattle.search_ways.specs.Moves.{Exactly}
 use Rattle.search_ways.proofs.Laws.{whole}
-use Rattle.std.specs.Prelude.{Option, Some, None, MatchOption, is_some}
-use Rattle.search_levels.specs.declared.Pair.{Pair}
-use Rattle.search_levels.specs.Levels.{OnLevel, Aims, Filled}
+use Rattle.std.specs.Prelude.{Option, Some, None}
+use Rattle.search_levels.specs.Levels.{Aims, Filled}
 use Rattle.search_levels.proofs.Targets.{aims-points}
 use Rattle.search_levels.proofs.Laws as levels
 use Rattle.search.specs.declared.Explored.{Explored}
 use Rattle.search.specs.declared.Found.{Found}
 use Rattle.search.specs.Search.{Surveyed, Entered, Judged, Searched, SearchedFrom}
-
--- a level has a pair, where one is found
-pub entered-some : (rows : List ℕ) (k : ℕ) (r : Option Pair) (b : Bool) → MatchOption r ((e f : ℕ) → OnLevel rows k e f → ⊥) (λ p. OnLevel rows k p.first p.second) → b ≡ is_some r → (b ≡ true) ↔ Entered rows k
-entered-some rows k None b h q = ((λ z. absurd (false≢true (sym q ∙ z))), λ s. absurd (h s.0 s.1 (s.2, s.3, s.4)))
-entered-some rows k (Some p) b h q = ((λ z. (p.first, p.second, h.0, h.1, h.2)), λ s. q)
 
 module _ (m : Model) (wf : WellFormed m) (w : List ℕ) (s : States) (reaches : Reaches m w s) where
   pub exactly : Exactly m w s

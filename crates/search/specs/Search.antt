@@ -18,10 +18,10 @@ use Rattle.facts.specs.Facts.{Exact}
 use Rattle.search_states.specs.declared.States.{States}
 use Rattle.search_states.specs.States.{row, Known, Proper, Discovered}
 use Rattle.search_states.specs.Rising.{Lists}
+use Rattle.search_ways.specs.declared.Moves.{Moves}
 use Rattle.search_ways.specs.Moves.{table_bytes, matrix_bytes, Marks, CanTake}
 use Rattle.search_ways.specs.Steps.{Between, OneStep}
 use Rattle.search_levels.specs.Levels.{pair_at, first_variable, Aims, Filled}
-use Rattle.search.specs.declared.Moves.{Moves}
 use Rattle.search.specs.declared.Explored.{Explored}
 use Rattle.search.specs.declared.Found.{Found}
 

@@ -16,16 +16,7 @@ use facts_bits::BYTES;
 use model::Model;
 use search_levels::Levels;
 use search_states::{Listing, States};
-use search_ways::{MATRIX, TABLE};
-
-// From which slots each clause can be taken, to which slots one step at most leads from each slot, and to which any number of steps.
-// The matrices stay two arrays: each is lent by itself, as a matrix of its own.
-#[derive(Clone, Copy)]
-pub struct Moves {
-    pub table: [u8; TABLE],
-    pub steps: [u8; MATRIX],
-    pub ways: [u8; MATRIX],
-}
+use search_ways::{MATRIX, Moves, TABLE};
 
 // The reachable states in order of discovery and by rising number, and their moves.
 #[derive(Clone, Copy)]
@@ -88,7 +79,7 @@ fn judged(work: &[u8], m: Model, explored: Explored, p: Option<[u8; BYTES]>) -> 
     requires { WellFormed m × Surveyed m work.now explored × IfSome p (λ among. 0 < (stage_at m 0).variables) }
     ensures { Judged m work.now explored p result }
 {
-    let moves = explored.moves;
+    let moves = &explored.moves;
     let levels = search_levels::fill(work, m, explored.states, &moves.ways, p);
     let reached = search_levels::first_pair(&levels.rows, m.stagecount).is_some();
     Found {
@@ -113,7 +104,7 @@ pub fn search_from(work: &mut [u8], m: Model, state: u32) -> Option<Found>
     ensures { FindsFrom m state work.new result × (length work.new ≡ length work.old) }
 {
     let explored = explore(work, m)?;
-    let moves = explored.moves;
+    let moves = &explored.moves;
     let among = search_levels::aim(explored.states, &moves.ways, state);
     Some(judged(work, m, explored, Some(among)))
 }

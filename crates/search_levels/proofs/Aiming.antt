@@ -1,7 +1,7 @@
 -- A body with more asked of its first variable: slot by slot of a row.
 use mathlib.Core.Path.{◌≡◌, refl, sym, subst}
 use mathlib.Core.Logic.{◌↔◌}
-use mathlib.Core.Bool.{Bool, true, false, cond, ◌&&◌, false≢true}
+use mathlib.Core.Bool.{Bool, true, false, cond, false≢true}
 use mathlib.Core.List.{List}
 use Prim.Native.Nat.{ℕ, ◌≤◌, ◌<◌}
 use native.Mathlib.Omega.{arith}
@@ -13,14 +13,13 @@ use Rattle.model.specs.Literals.{body_of}
 use Rattle.facts_bits.specs.Width as width
 use Rattle.facts_bits.specs.Bits.{bit_at}
 use Rattle.facts_candidates.specs.declared.Choice.{Choice}
-use Rattle.facts_candidates.specs.Choices.{element_of, chosen}
+use Rattle.facts_candidates.specs.Choices.{element_of}
 use Rattle.facts_find.specs.Bodies.{Fixed}
 use Rattle.facts_holds.specs.Shows.{Evaluable, Tells}
 use Rattle.facts_holds.proofs.Laws.{fixed_more}
 use Rattle.std.specs.Bool.{MatchBool}
-use Rattle.std.specs.Prelude.{Option, Some, None, unwrap_or}
-use Rattle.search_levels.specs.declared.Walker.{Walker}
-use Rattle.search_levels.specs.Passing.{stands, place, Aimed, Holding, Over}
+use Rattle.std.specs.Prelude.{Option, Some, None}
+use Rattle.search_levels.specs.Passing.{Aimed, Holding, Over}
 
 module _ (S w body : List ℕ) (v : ℕ) (c : Choice) where
   module _ (some : 0 < v) (able : Evaluable body v) (free : element_of c 0 ≡ None) where
@@ -65,11 +64,3 @@ over-said w n A r h q = λ S R m. (h S R m).0 q
 
 pub over-denied : (w : List ℕ) (n : ℕ) (A : List ℕ → Type 0) (r : Bool) → Over w n (λ S. (r ≡ true) ↔ A S) → r ≡ false → Over w n (λ S. A S → ⊥)
 over-denied w n A r h q = λ S R m x. clash ((h S R m).1 x) q
-
--- the pair's slots are small
-pub seated-small : (c r : Choice) (a : Walker) (e : ℕ) → e ≤ limit.none → ((x : ℕ) → x < limit.variables → element_of r x ≡ cond (stands a && eqb x (place a)) (Some e) (element_of c x)) → chosen c 0 ≤ limit.none → chosen r 0 ≤ limit.none
-seated-small c r a e l law h = subst (λ (o : Option ℕ). unwrap_or o 255 ≤ limit.none) (sym (law 0 (omega arith))) (go (stands a && eqb 0 (place a)))
-  where
-    go : (b : Bool) → unwrap_or (cond b (Some e) (element_of c 0)) 255 ≤ limit.none
-    go true = l
-    go false = h

@@ -18,10 +18,6 @@ use Rattle.search_levels.specs.Levels.{pair_at, Next, Passed}
 use Rattle.search_levels.specs.Passing.{Has, Clear, Written}
 use Rattle.search_levels.proofs.Rows.{no-bit}
 
--- nothing is written yet
-pub written_none : (from : ℕ) (rows : List ℕ) → Clear from rows → Written from (from + 0) rows rows
-written_none from rows clear = record { long = refl; kept = λ i e l g. refl; clear = λ i e l g. clear i e (omega arith) g }
-
 -- A ROW MORE, joined to one that has no bit, is that row, and the others stay
 module _ (from f : ℕ) (old rows : List ℕ) (w : Written from (from + f) old rows) (r rows' : List ℕ) (j : Joined rows (from + f) r rows') where
   row_here : (e : ℕ) → e < limit.listed → in_row rows' (from + f) e ≡ bit_at r e

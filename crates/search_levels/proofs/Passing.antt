@@ -129,12 +129,6 @@ module _ (ways : List ℕ) (t : Meeting) (A B : ℕ → ℕ → Bool) (same : (u
   led-so e f = onward-so ways (stands t.first) t.first.chosen (λ u. Onward ways (stands t.second) t.second.chosen (λ v. A u v ≡ true) f) (λ u. Onward ways (stands t.second) t.second.chosen (λ v. B u v ≡ true) f)
       (λ u l. onward-so ways (stands t.second) t.second.chosen (λ v. A u v ≡ true) (λ v. B u v ≡ true) (λ v g q. sym (same u v l g) ∙ q) f) e
 
-  pub hopeful-so : (S w body : List ℕ) (e : ℕ) → Hopeful S w body ways t A e → Hopeful S w body ways t B e
-  hopeful-so S w body e q = (
-    onward-so ways (stands t.first) t.first.chosen (λ u. (v : ℕ) × (v < limit.listed) × (A u v ≡ true)) (λ u. (v : ℕ) × (v < limit.listed) × (B u v ≡ true)) (λ u l z. (z.0, z.1, sym (same u z.0 l z.1) ∙ z.2)) e q.0,
-    q.1,
-  )
-
 -- WHERE THE FIRST OBJECT GOES from the slots D of a row
 pub onward-has : (ways : List ℕ) (s c : Bool) (row : List ℕ) (D : ℕ → Type 0) → Has row D → (r : List ℕ) → Has r (Onward ways s c (λ u. bit_at row u ≡ true)) → Has r (Onward ways s c D)
 onward-has ways s c row D h r = has-so r (Onward ways s c (λ u. bit_at row u ≡ true)) (Onward ways s c D) (λ e l. (

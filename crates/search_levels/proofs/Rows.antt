@@ -1,6 +1,6 @@
 -- Rows of slots by value.
 use mathlib.Core.Path.{◌≡◌, refl, sym, ap, ◌∙◌, subst}
-use mathlib.Core.Logic.{◌⊎◌, inl, inr, ⊎_elim, ◌≢◌, ◌↔◌}
+use mathlib.Core.Logic.{inl, inr, ⊎_elim, ◌↔◌}
 use mathlib.Core.Bool.{Bool, true, false}
 use mathlib.Core.List.{List}
 use Prim.Native.Nat.{ℕ, ◌+◌, ◌*◌, ◌≤◌, ◌<◌}
@@ -8,13 +8,13 @@ use native.Mathlib.Omega.{arith}
 use lib.ListN.{replicate}
 use Rattle.std.proofs.lemmas.Bool.{cases_Bool}
 use Rattle.limits.specs.Limits as limit
-use Rattle.semantics.proofs.Tools.{same?, clash}
+use Rattle.semantics.proofs.Tools.{clash}
 use Rattle.facts_bits.specs.Width as width
-use Rattle.facts_bits.specs.Bits.{bit_at, in_row, Copied, Joined}
+use Rattle.facts_bits.specs.Bits.{bit_at, in_row}
 use Rattle.facts_bits.proofs.Laws.{full-bits}
 use Rattle.facts_bits.proofs.Changing.{before?}
 use Rattle.search_ways.specs.Moves.{Marks, With, InRow}
-use Rattle.search_ways.proofs.Marking.{marks-none, marks-so, marks-same, marks_then, marks-join}
+use Rattle.search_ways.proofs.Marking.{marks-none, marks-so}
 use Rattle.search_levels.specs.Passing.{Has, Onward}
 
 -- bytes that are 0 have no bit
@@ -66,34 +66,6 @@ module _ (row : List ℕ) (i j : ℕ) (after : i ≤ j) (clear : (u : ℕ) → i
 module _ (table : List ℕ) (at : ℕ) (picked : List ℕ) where
   abbrev pub PickedBelow : ℕ → ℕ → Type 0
   PickedBelow n e = (u : ℕ) × (u < n) × (u < limit.listed) × (bit_at picked u ≡ true) × (in_row table (at + u) e ≡ true)
-
-  pub picked-begin : (w : List ℕ) → Marks w (With w (InRow 0 width.slots (PickedBelow 0)))
-  picked-begin w = marks-same w (InRow 0 width.slots (PickedBelow 0)) (λ k e q. omega (arith, q.2.1))
-
-  pub picked-on : (i j : ℕ) → i ≤ j → ((u : ℕ) → i ≤ u → u < j → bit_at picked u ≡ false) → (w₀ w : List ℕ) → Marks w (With w₀ (InRow 0 width.slots (PickedBelow i))) → Marks w (With w₀ (InRow 0 width.slots (PickedBelow j)))
-  picked-on i j after clear w₀ w = with-so w₀ w (InRow 0 width.slots (PickedBelow i)) (InRow 0 width.slots (PickedBelow j)) (λ k e l. (
-    (λ q. (q.0, l, (q.2.0, omega (arith, q.2.1, after), q.2.2, q.2.3, q.2.4))),
-    λ q. (q.0, l, (q.2.0, before picked i j after clear q.2.0 q.2.1 q.2.3, q.2.2, q.2.3, q.2.4)),
-  ))
-
-  -- a slot behind the matrix has no row
-  pub picked-over : (w₀ w : List ℕ) (u : ℕ) → limit.listed ≤ u → Marks w (With w₀ (InRow 0 width.slots (PickedBelow u))) → Marks w (With w₀ (InRow 0 width.slots (PickedBelow (u + 1))))
-  picked-over w₀ w u h = with-so w₀ w (InRow 0 width.slots (PickedBelow u)) (InRow 0 width.slots (PickedBelow (u + 1))) (λ k e l. (
-    (λ q. (q.0, l, (q.2.0, omega (arith, q.2.1), q.2.2, q.2.3, q.2.4))),
-    λ q. (q.0, l, (q.2.0, omega (arith, q.2.2, h), q.2.2, q.2.3, q.2.4)),
-  ))
-
-  pub picked_more : (w₀ : List ℕ) (u : ℕ) (w r w' : List ℕ) → u < limit.listed → bit_at picked u ≡ true → Copied table (at + u) r → Joined w 0 r w'
-      → Marks w (With w₀ (InRow 0 width.slots (PickedBelow u))) → Marks w' (With w₀ (InRow 0 width.slots (PickedBelow (u + 1))))
-  picked_more w₀ u w r w' g q c j h = with-so w₀ w' (λ i e. InRow 0 width.slots (PickedBelow u) i e ⊎ InRow 0 width.slots (λ t. bit_at r t ≡ true) i e) (InRow 0 width.slots (PickedBelow (u + 1)))
-      (λ i e l. (
-        λ x. ⊎_elim (λ y. (y.0, l, (y.2.0, omega (arith, y.2.1), y.2.2, y.2.3, y.2.4))) (λ y. (y.0, l, (u, omega arith, g, q, sym (c.bits e (omega arith)) ∙ y.2))) x,
-        λ y. let d = y.2 in ⊎_elim
-            (λ (z : d.0 ≡ u). inr (y.0, l, c.bits e (omega arith) ∙ subst (λ (n : ℕ). in_row table (at + n) e ≡ true) z d.4))
-            (λ (z : d.0 ≢ u). inl (y.0, l, (d.0, omega (arith, d.1, z), d.2, d.3, d.4)))
-            (same? d.0 u),
-      ))
-      (marks_then w₀ w w' (InRow 0 width.slots (PickedBelow u)) (InRow 0 width.slots (λ t. bit_at r t ≡ true)) h (marks-join w 0 r w' j))
 
 -- WHERE AN OBJECT GOES: nowhere else as long as its variable does not stand in the stage, anywhere the first time, and then where `ways` says
 module _ (ways row : List ℕ) where

@@ -15,7 +15,7 @@ ghost use Rattle.search_levels.specs.Passing.{stands, place, Has, Picked, Onward
 
 use facts_bits::{BYTES, SLOTS, WIDTH};
 use facts_candidates::Choice;
-use limits::{LISTED, STAGES};
+use limits::{CARRIED, LISTED, STAGES};
 use model::{Model, Stage};
 use search_states::States;
 use search_ways::MATRIX;
@@ -57,11 +57,12 @@ struct Meeting {
 }
 
 // What is asked where an object of the state stands for the first variable: a slot to which it can come. A state that is not in the row, such as the empty one, comes to none.
+// The `match` stays beside `map_or`: its closure would need a clause of its own, that its slot is one of the matrix.
 pub fn aim(s: States, ways: &[u8; MATRIX], state: u32) -> [u8; BYTES]
     requires { Proper s }
     ensures { Aims s ways.now state result }
 {
-    match search_states::seek(&s.states[..s.count], state) {
+    match search_states::seek(s.row(), state) {
         Some(e) => facts_bits::row(ways, e),
         None => [0u8; BYTES],
     }
@@ -75,6 +76,7 @@ fn asked_at(p: Option<[u8; BYTES]>, k: usize) -> Option<[u8; BYTES]>
 }
 
 // The choice with slot e for the variable, where it stands in the stage.
+// It stays beside `name` of witness_meetings, where the reason stands.
 fn seated(c: Choice, a: Walker, e: usize) -> Choice
     requires { stands a ≡ true → place a < limit.variables }
     ensures { (x : ℕ) → x < limit.variables → element_of result x ≡ (if stands a && x == place a then Some e else element_of c x) }
@@ -86,7 +88,7 @@ fn seated(c: Choice, a: Walker, e: usize) -> Choice
 }
 
 // Does the body hold for a choice with the fixed slots, and with slot e for its first variable, which is free?
-// What is lent stays apart: the work area, the slots and the body go to the evaluator alone, which takes each by itself, so that a struct would be made only to be taken apart.
+// The work area, the slots and the body stay three parameters, here and below: each contract names them one by one, so that with them in `Meeting` only the parameters would be fewer, and each clause would be longer.
 fn begins(work: &[u8], slots: &[u8], body: &[u32], variables: usize, c: Choice, e: usize) -> bool
     requires { Asked work.now slots.now body.now variables × (0 < variables) × (element_of c 0 ≡ None) }
     ensures { Over work.now (length slots.now) (λ S. (result ≡ true) ↔ Holding S work.now body.now variables c (λ σ. σ 0 ≡ e)) }
@@ -96,7 +98,7 @@ fn begins(work: &[u8], slots: &[u8], body: &[u32], variables: usize, c: Choice, 
 }
 
 // Does it hold with some slot of the row for its first variable?
-// What is lent stays apart, as at `begins`: a struct of it would be made only to be taken apart by the evaluator.
+// What is lent stays apart, as at `begins`.
 fn somewhere(
     work: &[u8],
     slots: &[u8],
@@ -136,7 +138,7 @@ fn pointed(
 }
 
 // Does the stage hold with the pair e f?
-// That the stage can be asked and that f is a slot stays in clauses, and the stage and f stay apart: the stage is another one for each level and f for each row, so that a struct of both would be made anew for each row.
+// What is lent stays apart, as at `begins`; that the stage can be asked and that f is a slot stays in clauses, and the stage and f stay apart: the stage is another one for each level and f for each row, so that a struct of both would be made anew for each row.
 fn holds(work: &[u8], slots: &[u8], body: &[u32], t: Meeting, e: usize, f: usize) -> bool
     requires { Ready work.now slots.now body.now t × (e < limit.listed) × (f < limit.listed) }
     ensures { Over work.now (length slots.now) (λ S. (result ≡ true) ↔ Met S work.now body.now t e f) }
@@ -353,7 +355,7 @@ fn standing(stage: Stage, x: u32, chosen: bool) -> Walker
 // A stage with the carried variables, where it is known which of them stood in a stage before, and what is asked besides.
 fn asked(
     stage: Stage,
-    carried: [u32; 2],
+    carried: [u32; CARRIED],
     first: bool,
     second: bool,
     pointing: Option<[u8; BYTES]>,

@@ -1,9 +1,9 @@
 // The row of atomic states that a search has found, in order of discovery, each with how it came, and whether the empty one is among them.
 #![tactic(auto)]
 
-ghost use Rattle.std.specs.Prelude.{◌≡◌, ◌<◌};
+ghost use Rattle.std.specs.Prelude.{◌≡◌, ◌≤◌, ◌<◌, length};
 ghost use Rattle.limits.specs.Limits as limit;
-ghost use Rattle.search_states.specs.States.{nothing, added, Sought, Proper};
+ghost use Rattle.search_states.specs.States.{row, nothing, added, Sought, Proper};
 ghost use Rattle.search_states.specs.Rising.{Lists};
 
 use limits::{ATOMIC, LISTED};
@@ -25,6 +25,16 @@ pub struct States {
     pub arrivals: [Arrival; ATOMIC],
     pub count: usize,
     pub empty: bool,
+}
+
+impl States {
+    // The found states, without the places behind them.
+    pub fn row(&self) -> &[u32]
+        requires { self.now.count ≤ length self.now.states }
+        ensures { result.now ≡ row self.now }
+    {
+        &self.states[..self.count]
+    }
 }
 
 // The states by rising number.
@@ -55,6 +65,7 @@ pub fn seek(row: &[u32], x: u32) -> Option<usize>
 }
 
 // The row with the state behind, unless it is listed already; of the empty state it is noted that it is found. Nothing where there is no room for the state.
+// It stays a function from states to states: over `&mut` it would still have to answer whether there was room, and its contract to say what stands in the states where there was none.
 pub fn add(mut s: States, state: u32, line: u32, origin: u32) -> Option<States>
     requires { Proper s × (state < limit.sets) }
     ensures { result ≡ added s state line origin }
@@ -63,7 +74,7 @@ pub fn add(mut s: States, state: u32, line: u32, origin: u32) -> Option<States>
         s.empty = true;
         return Some(s);
     }
-    if s.states[..s.count].contains(&state) {
+    if s.row().contains(&state) {
         return Some(s);
     }
     let n = s.count;
@@ -85,7 +96,7 @@ pub fn rising(s: States) -> Listing
     // The empty state is number 0, which stands in the first place already.
     let first = usize::from(s.empty);
     let count = first + s.count;
-    states[first..count].copy_from_slice(&s.states[..s.count]);
+    states[first..count].copy_from_slice(s.row());
     states[first..count].sort_unstable();
     Listing { states, count }
 }

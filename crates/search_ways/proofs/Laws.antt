@@ -24,7 +24,7 @@ use Rattle.search_clauses.specs.Reach.{Yields, Lists}
 use Rattle.search_clauses.proofs.Clauses.{lists-within}
 use Rattle.search_ways.specs.Moves.{Marks, Exactly}
 use Rattle.search_ways.specs.Steps.{Between, OneStep}
-use Rattle.search_ways.specs.Chains.{Inside, Links, Linked}
+use Rattle.search_ways.specs.Chains.{Links, Linked}
 use Rattle.search_ways.proofs.Marking.{marks-so}
 
 -- WHERE NO CLAUSE ADDS A STATE the row is whole
@@ -36,10 +36,6 @@ whole m w s ex listed = every-line m (Settled (program_of m) (row s)) tt (λ i h
     settled (new t b) y = λ σ h. y σ (more-facts (row s) (Derived (program_of m) (row s)) (In (table_of w)) (λ r os. (ex.facts r os).1) σ b h)
     settled (next x plus minus b) y = λ σ h. y σ (more-facts (row s) (Derived (program_of m) (row s)) (In (table_of w)) (λ r os. (ex.facts r os).1) σ b h)
     settled other y = tt
-
--- a matrix of slots below n has no others
-pub between-inside : (n : ℕ) (w : List ℕ) (R : ℕ → ℕ → Type 0) → Marks w (Between n R) → Inside n w
-between-inside n w R m e t l h = let b = (m.bits e t l).0 h in (b.0, b.1)
 
 -- CHAINS OF STEPS ARE WAYS
 module _ (m : Model) (wf : WellFormed m) (s : States) (proper : Proper s) (steps : List ℕ) (marked : Marks steps (Between s.count (OneStep (program_of m) (row s)))) where

@@ -118,9 +118,6 @@ abbrev pub Upto : ℕ → ℕ → (ℕ → ℕ → Type 0) → ℕ → ℕ → T
 Upto k n D e t = (e < k) × (t < n) × D e t
 
 module _ (n : ℕ) (D : ℕ → ℕ → Type 0) where
-  pub upto-none : (w : List ℕ) → Marks w (With w (Upto 0 n D))
-  upto-none w = marks-same w (Upto 0 n D) (λ e t q. omega (arith, q.0))
-
   pub upto-more : (k : ℕ) (E : ℕ → Type 0) → ((t : ℕ) → t < n → E t ↔ D k t) → (w₀ w w' : List ℕ) → Marks w (With w₀ (Upto k n D)) → Marks w' (With w (InRow k n E)) → Marks w' (With w₀ (Upto (k + 1) n D))
   upto-more k E f w₀ w w' a b = marks-so w' (With w₀ (λ e t. Upto k n D e t ⊎ InRow k n E e t)) (With w₀ (Upto (k + 1) n D))
       (λ e t l. (

@@ -100,10 +100,6 @@ module _ (w : List ℕ) (n : ℕ) (few : n ≤ limit.listed) (e : ℕ) where
       (λ (z : i ≢ j). f i (omega arith) a)
       (same? i j)
 
--- some other number of pairs leads there, and it is greater
-pub farther : (w : List ℕ) (n e t j : ℕ) → (k : ℕ) × (k < n) × Near w n k e t → NotBefore w n (j + 1) e t → j + 1 < n
-farther w n e t j (k, l, h) f = ⊎_elim (λ q. absurd (f k (ltb-true k (j + 1) q) h)) (λ q. omega (arith, ltb-false k (j + 1) q)) (cases_Bool (ltb k (j + 1)))
-
 -- one pair before
 near-cons : (w : List ℕ) (n j e u t : ℕ) → e < n → in_row w e u ≡ true → Near w n j u t → Near w n (suc j) e t
 near-cons w n zero e u t l q h = (e, l, refl, subst (λ (v : ℕ). in_row w e v ≡ true) h q)

@@ -29,6 +29,15 @@ pub const TABLE: usize = CLAUSES * BYTES;
 // The bytes of a matrix, with a row for each slot of a search.
 pub const MATRIX: usize = LISTED * BYTES;
 
+// From which slots each clause can be taken, to which slots one step at most leads from each slot, and to which any number of steps.
+// The matrices stay two arrays: each is lent by itself, as a matrix of its own.
+#[derive(Clone, Copy)]
+pub struct Moves {
+    pub table: [u8; TABLE],
+    pub steps: [u8; MATRIX],
+    pub ways: [u8; MATRIX],
+}
+
 // Adds to row i of the table the marks of clause i, if it is a `next` clause.
 fn note(work: &[u8], c: Clause, i: usize, table: &mut [u8])
     requires { (room ≤ length work.now) × (i * width.bytes + width.bytes ≤ length table.old) × (i < limit.clauses) }
@@ -42,7 +51,7 @@ fn note(work: &[u8], c: Clause, i: usize, table: &mut [u8])
 
 // The table of moves: row i has the slots from which clause i can be taken, if it is a `next` clause.
 // That the model is well formed stays a clause: a record is blank before a text is read into it, which is not well formed, and a second type around a well-formed record would be opened wherever a field of it is read.
-// Here and in `steps` the loop stays over the numbers of the clauses: what it writes stands by the number, and `enumerate` would only give a name to the clause, which is read once.
+// Here and in `steps` the loop stays over the numbers of the clauses: the rows of the table stand by the number, and `enumerate` would only give a name to the clause, which is read once.
 pub fn takes(work: &[u8], m: Model, table: &mut [u8; TABLE])
     requires { WellFormed m × (room ≤ length work.now) }
     ensures { (s : States) → Exactly m work.now s → Marks table.new (CanTake m s) }
@@ -77,7 +86,8 @@ fn lead_at(states: &[u32], plus: u32, minus: u32, e: usize, ways: &mut [u8; MATR
 }
 
 // Marks where a `next` clause leads from each slot of its row of the table.
-// It stays beside `lead` of game_moves: a state without a slot is passed over here, and is the empty one there, whose slot is marked.
+// It and `lead_clause` stay beside `lead` and `lead_clause` of game_moves: one function would take the slot of a state that is not found, or none, and be public, and `Led` and `Goes`, by which the two rooms say where a line leads, would each have to be drawn from what it promises.
+// The loop stays over the slots: `lead_at` says where slot e is led by its number, and given the state too it would need a clause that this is the state of slot e.
 fn lead_next(
     states: &[u32],
     plus: u32,
@@ -107,14 +117,14 @@ fn lead_clause(states: &[u32], c: Clause, table: &[u8; TABLE], i: usize, ways: &
 }
 
 // The matrix of single steps: row e has slot e and the slots to which some line takes an object of its state.
-// The model, the states and the table stay apart, with what they must be in clauses: a struct of references would be made anew for each call, since the search holds the states and the table in two structs, and the model in none.
+// The model, the states and the table stay apart, with what they must be in clauses, as at `way`; the moves, which hold the table, are made of what this writes.
 pub fn steps(m: Model, s: States, table: &[u8; TABLE], ways: &mut [u8; MATRIX])
     requires { WellFormed m × Proper s × Marks table.now (CanTake m s) }
     ensures { Marks ways.new (Between s.count (OneStep (program_of m) (row s))) }
 {
     ways.fill(0);
     stay(s.count, ways);
-    let states = &s.states[..s.count];
+    let states = s.row();
     for i in 0..m.clausecount {
         lead_clause(states, m.clauses[i], table, i, ways);
     }
@@ -186,10 +196,7 @@ fn before(links: &[u8; MATRIX], layers: &[u8; MATRIX], n: usize, j: usize, t: us
     requires { (n ≤ limit.listed) × (j < limit.listed) × (t < n) × Joined links.now layers.now n j t }
     ensures { (result < n) × Joins links.now layers.now j t result }
 {
-    let Some(u) = (0..n).find(|u| joins(links, layers, j, t, *u)) else {
-        unreachable!()
-    };
-    u
+    (0..n).find(|u| joins(links, layers, j, t, *u)).unwrap()
 }
 
 // Does the clause make one state of the other?
@@ -215,34 +222,27 @@ pub fn line_between(m: Model, table: &[u8; TABLE], u: usize, from: u32, to: u32)
 }
 
 // The line of the first clause that takes an object of the state of slot u to that of slot t.
-fn line_to(m: Model, s: States, table: &[u8; TABLE], u: usize, t: usize) -> u32
-    requires { WellFormed m × Proper s × Marks table.now (CanTake m s) × (u < s.count) × (t < s.count) × ((ℓ : ℕ) × Takes (program_of m) (row s) (state (row s) u) (state (row s) t) (line (program_of m) ℓ)) }
+fn line_to(m: Model, s: States, moves: &Moves, u: usize, t: usize) -> u32
+    requires { WellFormed m × Proper s × Marks moves.now.table (CanTake m s) × (u < s.count) × (t < s.count) × ((ℓ : ℕ) × Takes (program_of m) (row s) (state (row s) u) (state (row s) t) (line (program_of m) ℓ)) }
     ensures { Takes (program_of m) (row s) (state (row s) u) (state (row s) t) (line (program_of m) result) }
 {
-    line_between(m, table, u, s.states[u], s.states[t]).unwrap()
+    line_between(m, &moves.table, u, s.states[u], s.states[t]).unwrap()
 }
 
 // The lines of a shortest way from one slot to another, and how many they are.
+// The model, the states and the moves stay apart: `line_between` reads the model and the table and no states, `reach` and `before` the steps alone, and what makes an object, in `witness_lineage`, the model and the states and no moves.
 // The lines stay in a row that is lent, with their number as the answer: there is no heap, and the row is C's run table or one of fixed size.
-pub fn way(
-    m: Model,
-    s: States,
-    table: &[u8; TABLE],
-    links: &[u8; MATRIX],
-    from: usize,
-    to: usize,
-    out: &mut [u32],
-) -> usize
-    requires { WellFormed m × Proper s × Whole (program_of m) (row s) × Marks table.now (CanTake m s) × Marks links.now (Between s.count (OneStep (program_of m) (row s))) × (from < s.count) × (to < s.count) × Comes (program_of m) (row s) (state (row s) from) (state (row s) to) × (s.count ≤ length out.old) }
+pub fn way(m: Model, s: States, moves: &Moves, from: usize, to: usize, out: &mut [u32]) -> usize
+    requires { WellFormed m × Proper s × Whole (program_of m) (row s) × Marks moves.now.table (CanTake m s) × Marks moves.now.steps (Between s.count (OneStep (program_of m) (row s))) × (from < s.count) × (to < s.count) × Comes (program_of m) (row s) (state (row s) from) (state (row s) to) × (s.count ≤ length out.old) }
     ensures { Shortest (program_of m) (row s) from to out.old out.new result }
 {
     let n = s.count;
     let mut layers = [0u8; MATRIX];
-    let k = reach(links, n, from, to, &mut layers);
+    let k = reach(&moves.steps, n, from, to, &mut layers);
     let mut t = to;
     for j in (0..k).rev() {
-        let u = before(links, &layers, n, j, t);
-        out[j] = line_to(m, s, table, u, t);
+        let u = before(&moves.steps, &layers, n, j, t);
+        out[j] = line_to(m, s, moves, u, t);
         t = u;
     }
     k

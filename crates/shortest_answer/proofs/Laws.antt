@@ -59,17 +59,6 @@ staying m s e t out q = record { few = omega arith; way = q; least = λ ls w. om
 
 -- WHAT IS EXPLORED
 module _ (m : Model) (wf : WellFormed m) (w : List ℕ) (r : Explored) (h : Surveyed m w r) where
-  pub mapped : Mapped m r.states r.moves.table r.moves.steps r.moves.ways
-  mapped =
-      record {
-        model = wf;
-        proper = h.proper;
-        whole = h.whole;
-        moves = h.moves.table;
-        single = h.moves.steps;
-        comes = h.moves.ways;
-      }
-
   full : elem 0 (row r.states) ≡ false
   full = ⊎_elim (λ e. absurd (row-full r.states h.proper e)) (λ e. e) (cases_Bool (elem 0 (row r.states)))
 

@@ -15,8 +15,9 @@ use calls::CROWDED;
 use facts_heads::ROOM;
 use model::Model;
 use rows::{Refusal, Row};
-use search::{Explored, Moves};
+use search::Explored;
 use search_states::States;
+use search_ways::Moves;
 
 // Is the state found?
 fn known(s: States, state: u32) -> bool
@@ -26,7 +27,7 @@ fn known(s: States, state: u32) -> bool
     if state == 0 {
         return s.empty;
     }
-    s.states[..s.count].contains(&state)
+    s.row().contains(&state)
 }
 
 // A shortest way from one found state to another one; from the empty state there is none.
@@ -38,16 +39,15 @@ fn onward(m: Model, s: States, moves: &Moves, from: u32, to: u32, run: &mut [u32
     if from == 0 {
         return None;
     }
-    let e = search_states::seek(&s.states[..s.count], from).unwrap();
+    let e = search_states::seek(s.row(), from).unwrap();
     if to == 0 {
-        return shortest_empty::way(m, s, &moves.table, &moves.steps, &moves.ways, e, run);
+        return shortest_empty::way(m, s, moves, e, run);
     }
-    let u = search_states::seek(&s.states[..s.count], to).unwrap();
-    shortest_empty::between(m, s, &moves.table, &moves.steps, &moves.ways, e, u, run)
+    let u = search_states::seek(s.row(), to).unwrap();
+    shortest_empty::between(m, s, moves, e, u, run)
 }
 
 // The answer that the explored states give.
-// `let .. else` stays: `ok_or(CROWDED)?` would save two lines here and cost a lemma about `ok_or` in the proof, which the crate does not need for anything else.
 fn find(
     m: Model,
     explored: Option<Explored>,
@@ -58,9 +58,7 @@ fn find(
     requires { WellFormed m × ((w : List ℕ) × Explores m w explored) × (limit.run ≤ length run.old) }
     ensures { Answered (program_of m) from to run.old run.new result }
 {
-    let Some(found) = explored else {
-        return Err(CROWDED);
-    };
+    let found = explored.ok_or(CROWDED)?;
     let s = found.states;
     if !known(s, from) || !known(s, to) {
         return Err(Row::Unreachable.refusal());

@@ -25,10 +25,10 @@ use Rattle.semantics.proofs.Cases.{promoted-true}
 
 -- SIDES
 right-left : right ≢ left
-right-left e = let z : ◌≡◌ {A = ℕ} 0 1 = cc in omega arith
+right-left e = false≢true cc
 
 left-right : left ≢ right
-left-right e = let z : ◌≡◌ {A = ℕ} 0 1 = cc in omega arith
+left-right e = false≢true cc
 
 for-both : (R : Side → Type 0) → R left → R right → (b : Side) → R b
 for-both R l r left = l

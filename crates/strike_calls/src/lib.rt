@@ -22,15 +22,12 @@ pub struct Choices {
 }
 
 // Decides every choice of a good list, where not too many states are reachable.
-// `let .. else` stays: `ok_or(CROWDED)?` would save two lines here and cost a lemma about `ok_or` in the proof, which the crate does not need for anything else.
 fn choose(m: Model, list: &[u32]) -> Result<Choices, Refusal>
     requires { WellFormed m × (faulty (program_of m) list.now ≡ false) }
     ensures { Chooses (program_of m) (question_of m) list.now result }
 {
     let lines = strike_list::rising(m, list);
-    let Some(table) = strike_table::fill(m, lines) else {
-        return Err(CROWDED);
-    };
+    let table = strike_table::fill(m, lines).ok_or(CROWDED)?;
     Ok(Choices { lines, table })
 }
 

@@ -6,7 +6,7 @@ use mathlib.Core.List.{List, [], ◌∷◌, ◌++◌}
 use Rattle.std.proofs.lemmas.Bool.{cases_Bool}
 use Rattle.std.specs.Prelude.{Option, None, Some, is_some, unwrap_or}
 use Prim.Native.Nat.{ℕ, zero, suc, ◌+◌, ◌*◌, ◌%◌, ◌^◌, ◌≤◌, ◌<◌}
-use native.Mathlib.Nat.{mod-le, mod-eq_of_lt, two-pow-succ}
+use native.Mathlib.Nat.{mod-le, two-pow-succ}
 use native.Mathlib.Omega.{arith}
 use lib.Bits.{bit_and, bit_or, and_self, or_lt}
 use lib.Pow.{pow_mono, pow_pos}
@@ -144,9 +144,6 @@ module _ (m r : Model) (lines : List ℕ) (s : Strikes m lines r) where
   pub struck-sparse : (MoreThan limit.atomic (program_of m) → ⊥) → MoreThan limit.atomic (program_of r) → ⊥
   struck-sparse sparse h = still-sparse (program_of m) limit.atomic lines sparse (subst (MoreThan limit.atomic) s.program h)
 
-  pub struck-verdict : (C : List ℕ) → lines ≡ C → (b : Bool) → Verdict (program_of r) (question_of r) b → Verdict (strike (program_of m) C) (question_of m) b
-  struck-verdict C e b v = subst (λ (R : Program). Verdict R (question_of m) b) (s.program ∙ ap (strike (program_of m)) e) (subst (λ (q : Question). Verdict (program_of r) q b) s.question v)
-
 -- with nothing struck it is that of the model itself
 none-struck : (xs : List ℕ) → numbered xs 0 ≡ []
 none-struck [] = refl
@@ -162,9 +159,6 @@ total-most count total l e = rw e (pow_mono {i = count} {j = most} l)
 pub next-below : (count i top total : ℕ) → total ≡ 2 ^ count → top < total → i < count → bit_or top (1 * 2 ^ i % 4294967296) < total
 next-below count i top total e h l = subst (λ (z : ℕ). bit_or top (1 * 2 ^ i % 4294967296) < z) (sym e)
     (or_lt count top (1 * 2 ^ i % 4294967296) (omega (arith, e)) (omega (arith, mod-le (1 * 2 ^ i) 4294967296, two-pow-succ i, pow_pos i, pow_mono {i = suc i} {j = count} l)))
-
-pub shift-total : (count : ℕ) → count ≤ most → 1 * 2 ^ count % 18446744073709551616 ≡ 2 ^ count
-shift-total count l = mod-eq_of_lt {n = 1 * 2 ^ count} (omega (arith, pow_mono {i = count} {j = most} l)) ∙ omega arith
 
 -- at first nothing is said
 none-said : (n r k : ℕ) → ◌≡◌ {A = Option Bool} (said_of (take n (replicate r None)) k) None

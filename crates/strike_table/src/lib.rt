@@ -55,15 +55,12 @@ fn reached(m: Model, l: Lines, n: u32, facts: &mut [u8]) -> bool
 {
     let chosen = strike_list::choose(l, n);
     let struck = strike_model::strike(m, &chosen.lines[..chosen.count]);
-    let Some(found) = search::search(facts, struck) else {
-        // No more states are reachable with lines struck than with none.
-        unreachable!()
-    };
-    found.reached
+    // No more states are reachable with lines struck than with none.
+    search::search(facts, struck).unwrap().reached
 }
 
 // Whether a choice is reached: by the table, where a decided one has settled it, or by a search, which then says what it settles.
-// What a choice is decided with stays apart, and that all is ready and the choice is there stays in clauses: the table and the room change in each call, and the model and the lines in none.
+// What a choice is decided with stays apart, and that all is ready and the choice is there stays in clauses: a struct lent for writing would have each of these contracts say besides that the model and the lines are as they were.
 fn decide(said: &mut [Option<bool>], m: Model, l: Lines, n: u32, facts: &mut [u8]) -> bool
     requires { Ready m l said.old facts.old × (n < length said.old) }
     ensures { Decides (program_of m) (question_of m) (listed l) n result said.old said.new × (length facts.new ≡ length facts.old) }

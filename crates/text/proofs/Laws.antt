@@ -1,10 +1,9 @@
 -- WHAT THE RECORD OF AN ACCEPTED TEXT SAYS, and of a call over it.
 use mathlib.Core.Path.{◌≡◌, sym, ◌∙◌}
 use mathlib.Core.Logic.{⊎_elim}
-use mathlib.Core.Bool.{Bool, true, false}
+use mathlib.Core.Bool.{Bool, true, false, false≢true}
 use mathlib.Core.List.{List}
 use Prim.Native.Nat.{ℕ}
-use native.Mathlib.Omega.{arith}
 use lib.Dec.{eqb}
 use lib.ListN.{length}
 use borrow.Author.Tests.{eqb-true, eqb-false}
@@ -20,7 +19,7 @@ use Rattle.text.specs.Reading.{Accepts}
 
 -- an accepted text is not refused
 unlike : {o : Outcome} {n l : ℕ} {text : List ℕ} {m : Model} → Accepts o text m → o ≡ refused n l → ⊥
-unlike a e = let f = a.says in let z : ◌≡◌ {A = ℕ} 0 1 = cc in omega arith
+unlike a e = let f = a.says in false≢true cc
 
 module _ (text : List ℕ) (m : Model) where
   pub read-well-formed : Accepts (outcome text) text m → WellFormed m

@@ -55,12 +55,10 @@ fn read_lines(text: &[u8], m: &mut Model) -> Result<(), Refusal>
     let mut line: u32 = 1;
     // The loop stays a `while`: names keep their place in the whole text, and a bad line has no end, so that an iterator would give a place and a Result for each line, to be taken apart here.
     while at < text.len() {
-        let Some(e) = text_scan::line_end(text, at) else {
-            return Err(Refusal {
-                row: Row::Byte,
-                line,
-            });
-        };
+        let e = text_scan::line_end(text, at).ok_or(Refusal {
+            row: Row::Byte,
+            line,
+        })?;
         if text_scan::at_bytes(&text[..e], at, b"(ask ") {
             return read_question(text, at, e, d, m, line);
         }

@@ -16,12 +16,12 @@ fn meet(text: &[u8], t: &mut Scope<ASKED>, a: usize, e: usize) -> usize
     requires { scopes.Valid text.now t.old × (a ≤ e) × (e ≤ length text.now) × (t.old.count < limit.asked) }
     ensures { Met text.now t.old a e t.new result }
 {
-    if let Some(number) = text_scope::find(text, *t, a, e) {
-        *t = text_scope::mark(*t, number);
+    if let Some(number) = text_scope::find(text, t, &text[a..e]) {
+        t.mark(number);
         return number;
     }
     let number = t.count;
-    *t = text_scope::add(*t, a, e, false);
+    t.add(a, e, false);
     number
 }
 

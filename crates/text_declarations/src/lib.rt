@@ -3,8 +3,9 @@
 
 ghost use Rattle.std.specs.Prelude.{◌≡◌, ◌+◌, ◌≤◌, ◌<◌, length, drop, MatchOption};
 ghost use Rattle.std.proofs.Math.Option.{none};
-ghost use Rattle.std.proofs.Math.Seq.{slice};
 ghost use Rattle.limits.specs.Limits as limit;
+ghost use Rattle.grammar.specs.Declarations.{lookup};
+ghost use Rattle.grammar.specs.Rows.{row, again};
 ghost use Rattle.grammar.specs.Shapes.{arity, state_rest, rel_rest, whole};
 ghost use Rattle.text_faults.specs.Faults.{fault_in};
 ghost use Rattle.text_names.specs.Names as names;
@@ -14,25 +15,33 @@ use limits::{PAIRS, RELS, STATES};
 use rows::Row;
 use text_names::{Declared, Name};
 
-// Room for a state relation with the name from a to e, or row 4, then 5.
-// Names and the two ends of one stay three parameters: a struct of them would be made for a line, and taken apart again by `enter`.
-fn state_room(text: &[u8], d: Declared, a: usize, e: usize) -> Result<(), Row>
-    requires { names.Valid text.now d × (a ≤ e) × (e ≤ length text.now) }
-    ensures { fault_in result ≡ state_number (names.declared_of text.now d) (slice a e text.now) }
+// No relation with that name, or row 5.
+// Text and names stay two parameters, for the reason at `text_rows::Item::add`; the word is another one for each line.
+fn unused(text: &[u8], d: &Declared, word: &[u8]) -> Result<(), Row>
+    requires { names.Valid text.now d.now }
+    ensures { fault_in result ≡ row 5 (again (lookup word.now (names.declared_of text.now d.now))) }
 {
-    if STATES <= text_names::tally_of(d, 0) {
-        return Err(Row::Count);
-    }
-    if text_names::find(text, d, a, e).is_some() {
+    if text_names::find(text, d, word).is_some() {
         return Err(Row::Again);
     }
     Ok(())
 }
 
-// Room for a derived relation of arity n with the name from a to e, or row 4, then 5.
-fn rel_room(text: &[u8], d: Declared, a: usize, e: usize, n: u32) -> Result<(), Row>
-    requires { names.Valid text.now d × (a ≤ e) × (e ≤ length text.now) }
-    ensures { fault_in result ≡ rel_number (names.declared_of text.now d) (slice a e text.now) n }
+// Room for a state relation with that name, or row 4, then 5.
+fn state_room(text: &[u8], d: &Declared, word: &[u8]) -> Result<(), Row>
+    requires { names.Valid text.now d.now }
+    ensures { fault_in result ≡ state_number (names.declared_of text.now d.now) word.now }
+{
+    if STATES <= text_names::tally_of(d, 0) {
+        return Err(Row::Count);
+    }
+    unused(text, d, word)
+}
+
+// Room for a derived relation of arity n with that name, or row 4, then 5.
+fn rel_room(text: &[u8], d: &Declared, word: &[u8], n: u32) -> Result<(), Row>
+    requires { names.Valid text.now d.now }
+    ensures { fault_in result ≡ rel_number (names.declared_of text.now d.now) word.now n }
 {
     let nullary = text_names::tally_of(d, 1);
     let single = text_names::tally_of(d, 2);
@@ -43,10 +52,7 @@ fn rel_room(text: &[u8], d: Declared, a: usize, e: usize, n: u32) -> Result<(), 
     if n == 2 && PAIRS <= pairs {
         return Err(Row::Count);
     }
-    if text_names::find(text, d, a, e).is_some() {
-        return Err(Row::Again);
-    }
-    Ok(())
+    unused(text, d, word)
 }
 
 // The name from a to e is declared with the next code of its class.
@@ -55,7 +61,7 @@ fn enter(d: Declared, a: usize, e: usize, class: u32) -> Declared
     requires { (d.count < limit.declared) × (length d.names ≡ limit.declared) × (a ≤ e) × (e < 4294967296) × (class < 4) }
     ensures { Entered d a e class result }
 {
-    let index = text_names::tally_of(d, class);
+    let index = text_names::tally_of(&d, class);
     let name = Name {
         code: 32 * class + index as u32,
         start: a as u32,
@@ -93,7 +99,7 @@ pub fn read_state(text: &[u8], d: Declared, at: usize) -> Result<Declared, Row>
     ensures { DeclarationEnd text.now d (state_rest (drop at text.now)) result }
 {
     let e = state_end(text, at).ok_or(Row::Shape)?;
-    state_room(text, d, at, e)?;
+    state_room(text, &d, &text[at..e])?;
     Ok(enter(d, at, e, 0))
 }
 
@@ -120,6 +126,6 @@ pub fn read_rel(text: &[u8], d: Declared, at: usize) -> Result<Declared, Row>
     ensures { DeclarationEnd text.now d (rel_rest (drop at text.now)) result }
 {
     let (e, n) = rel_end(text, at).ok_or(Row::Shape)?;
-    rel_room(text, d, at, e, n)?;
+    rel_room(text, &d, &text[at..e], n)?;
     Ok(enter(d, at, e, n + 1))
 }

@@ -1,5 +1,5 @@
 -- Two answers in one, by cases; where an answer has no row.
-use mathlib.Core.Path.{◌≡◌, refl, sym, ap, subst, ◌∙◌}
+use mathlib.Core.Path.{◌≡◌, refl, sym, ◌∙◌}
 use mathlib.Core.List.{[], ◌∷◌}
 use mathlib.Core.Bool.{true, false}
 use mathlib.Core.Logic.{⊎_elim}
@@ -8,7 +8,7 @@ use borrow.Author.Tests.{ltb-true, ltb-false}
 use Prim.Native.Nat.{◌≤◌}
 use native.Mathlib.Omega.{arith}
 use Rattle.std.proofs.lemmas.Bool.{cases_Bool}
-use Rattle.std.specs.Prelude.{Option, Some, None, Result, Ok, Err, IfOk, IfErr, IsErrAnd, ok_or}
+use Rattle.std.specs.Prelude.{Ok, Err}
 use Rattle.grammar.proofs.Lower.{lower-first, lower-second, lower-both}
 use Rattle.rows.specs.Rows.{number_of}
 use Rattle.rows.specs.declared.Row.{Row}
@@ -37,27 +37,6 @@ module _ {A B : Type 0} where
 
   both-more : (x y : Row) → number_of y ≤ number_of x → Both {A = A} {B = B} (Err x) (Err y) (Err y)
   both-more x y h = record { number = let m = lower-both (number_of x) (number_of y) (some-number x) (some-number y) in omega arith; values = tt }
-
--- what `?` passes on
-pub passed : {A B : Type 0} {r : Result A Row} {x : Result B Row} {e : Row} → r ≡ Err e → IsErrAnd x (λ y. y ≡ e) → (y : Row) × (x ≡ Err y) × (r ≡ Err y)
-passed {x = Ok b} q h = absurd h
-passed {x = Err y} q h = (y, refl, rw h q)
-
--- what `ok_or` makes of none and of a value
-module _ {A : Type 0} {o : Option A} {r : Result A Row} (x : Row) where
-  pub none_of : {y : Row} → r ≡ ok_or o x → r ≡ Err y → (o ≡ None) × (x ≡ y)
-  none_of {y} e q = given o (sym e ∙ q)
-    where
-      given : (p : Option A) → ok_or p x ≡ Err y → (p ≡ None) × (x ≡ y)
-      given None z = (refl, subst (λ (s : Result A Row). IfErr s (λ w. x ≡ w)) z refl)
-      given (Some a) z = cc
-
-  pub some_of : {a : A} → r ≡ ok_or o x → r ≡ Ok a → o ≡ Some a
-  some_of {a} e q = given o (sym e ∙ q)
-    where
-      given : (p : Option A) → ok_or p x ≡ Ok a → p ≡ Some a
-      given None z = cc
-      given (Some b) z = ap Some (subst (λ (s : Result A Row). IfOk s (λ w. b ≡ w)) z refl)
 
 -- THE ORDER OF ROWS is that of their numbers
 key : Row → ℤ

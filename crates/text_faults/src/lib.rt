@@ -35,20 +35,14 @@ pub fn arity(code: u32) -> u32
 pub fn state_code(code: Option<u32>) -> Result<u32, Row>
     ensures { Coded (name_fault (found code)) code result }
 {
-    match code {
-        Some(c) if c < 32 => Ok(c),
-        _ => Err(Row::Kind),
-    }
+    code.filter(|c| *c < 32).ok_or(Row::Kind)
 }
 
 // The code of a rule's head with n variables.
 pub fn head_code(code: Option<u32>, n: usize) -> Result<u32, Row>
     ensures { Coded (head_fault (found code) n) code result }
 {
-    let c = code.ok_or(Row::Kind)?;
-    if c < 32 {
-        return Err(Row::Kind);
-    }
+    let c = code.filter(|c| 32 <= *c).ok_or(Row::Kind)?;
     if n != arity(c) as usize {
         return Err(Row::Arity);
     }

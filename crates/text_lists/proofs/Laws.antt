@@ -8,11 +8,11 @@ use mathlib.Core.Bool.{true, false, ◌||◌, or_assoc}
 use mathlib.Core.List as seq
 use mathlib.Core.List.{[], ◌∷◌, ◌++◌, map, append_assoc, append-nil}
 use mathlib.Core.Option.{none, some}
-use Prim.Native.Nat.{ℕ, ◌+◌, ◌-◌, ◌*◌, ◌%◌, ◌^◌, ◌≤◌, ◌<◌}
+use Prim.Native.Nat.{ℕ, ◌-◌, ◌*◌, ◌%◌, ◌^◌, ◌<◌}
 use native.Mathlib.Omega.{arith}
 use lib.Dec.{eqb}
 use lib.Bits.{bit_or, or_zero_r}
-use lib.ListN.{length, drop}
+use lib.ListN.{drop}
 use lib.Seq.{slice}
 use borrow.Author.Tests.{ltb-true}
 use Rattle.limits.specs.Limits as limit
@@ -26,7 +26,7 @@ use Rattle.grammar.specs.Rows.{lower, name_fault, list_fault}
 use Rattle.grammar.specs.Models.{code_of, codes}
 use Rattle.grammar.proofs.Lower.{lower-second, lower-assoc}
 use Rattle.rows.specs.declared.Row.{Row}
-use Rattle.text_scan.specs.Found.{NameEnd}
+use Rattle.text_scan.specs.Found.{BytesEnd, NameEnd}
 use Rattle.text_names.specs.Names.{found}
 use Rattle.text_faults.specs.Faults.{fault_in, Both, Coded}
 use Rattle.text_lists.specs.Lists.{Chosen, Holds, NameAdded, Keeps, ListEnd}
@@ -99,37 +99,37 @@ unfolding list_fault set_of
 empty-list D = record { number = refl; set = refl }
 
 module _ (text : seq.List ℕ) (at : ℕ) where
-  pub list-empty : {D : Declared} → at + 2 ≤ length text → after (bytes "()") (drop at text) ≡ some (drop (at + 2) text) → ListEnd text D at (record { kept = Ok 0; end = at + 2 })
+  pub list-empty : {D : Declared} {e : ℕ} → BytesEnd text at (bytes "()") e → ListEnd text D at (record { kept = Ok 0; end = e })
   unfolding list
-  list-empty {D} h p = record { ws = []; begins = omega arith; ends = h; read = rw p; holds = empty-list D }
+  list-empty {D} p = record { ws = []; begins = omega (arith, p.begins); ends = p.ends; read = rw p.read; holds = empty-list D }
 
   module _ (p : after (bytes "()") (drop at text) ≡ none) where
     pub list-unopened : after (bytes "(") (drop at text) ≡ none → list (drop at text) ≡ none
     unfolding list bracket
     list-unopened q = rw (p, q)
 
-    module _ (q : after (bytes "(") (drop at text) ≡ some (drop (at + 1) text)) where
-      pub list-nameless : name (drop (at + 1) text) ≡ none → list (drop at text) ≡ none
+    module _ {a : ℕ} (q : BytesEnd text at (bytes "(") a) where
+      pub list-nameless : name (drop a text) ≡ none → list (drop at text) ≡ none
       unfolding list bracket
-      list-nameless m = rw (p, q, m)
+      list-nameless m = rw (p, q.read, m)
 
-      module _ {e : ℕ} (m : NameEnd text (at + 1) e) where
+      module _ {e : ℕ} (m : NameEnd text a e) where
         list-unended : rest name (limit.list - 1) (drop e text) ≡ none → list (drop at text) ≡ none
         unfolding list bracket
-        list-unended v = rw (p, q, m.read, v)
+        list-unended v = rw (p, q.read, m.read, v)
 
         module _ {d : names.Declared} (valid : Valid text d) where
-          list-found : {t : Chosen} {r : Taken Chosen} → NameAdded text (declared_of text d) (Ok 0) (at + 1) e t → RowEnd name (Keeps text d) text e (limit.list - 1) t r → ListEnd text (declared_of text d) at r
+          list-found : {t : Chosen} {r : Taken Chosen} → NameAdded text (declared_of text d) (Ok 0) a e t → RowEnd name (Keeps text d) text e (limit.list - 1) t r → ListEnd text (declared_of text d) at r
           unfolding list bracket
           list-found ad v = record {
-            ws = slice (at + 1) e text ∷ v.more;
-            begins = let a = m.begins in omega (arith, v.begins);
+            ws = slice a e text ∷ v.more;
+            begins = omega (arith, q.begins, m.begins, v.begins);
             ends = v.ends;
-            read = rw (p, q, m.read, v.found);
-            holds = (v.holds tt (slice (at + 1) e text ∷ []) (valid, ad.added [] (empty-list (declared_of text d)))).1;
+            read = rw (p, q.read, m.read, v.found);
+            holds = (v.holds tt (slice a e text ∷ []) (valid, ad.added [] (empty-list (declared_of text d)))).1;
           }
 
-          pub list-read : {t : Chosen} (r : Option (Taken Chosen)) → NameAdded text (declared_of text d) (Ok 0) (at + 1) e t
+          pub list-read : {t : Chosen} (r : Option (Taken Chosen)) → NameAdded text (declared_of text d) (Ok 0) a e t
               → MatchOption r (rest name (limit.list - 1) (drop e text) ≡ none) (RowEnd name (Keeps text d) text e (limit.list - 1) t) → MatchOption r (list (drop at text) ≡ none) (ListEnd text (declared_of text d) at)
           list-read None ad v = list-unended v
           list-read (Some r) ad v = list-found ad v

@@ -21,12 +21,12 @@ const FURTHER: usize = LIST - 1;
 pub type List = Taken<Result<u32, Row>>;
 
 // The name from a to e is added.
-// A text and its names stay two parameters: the names are kept from line to line, and each line is read in a longer part of the text.
+// Text and names stay two parameters, as in `text_rows::Item::add`.
 fn add_name(text: &[u8], d: Declared, s: Result<u32, Row>, a: usize, e: usize) -> Result<u32, Row>
     requires { names.Valid text.now d × (a ≤ e) × (e ≤ length text.now) }
     ensures { NameAdded text.now (names.declared_of text.now d) s a e result }
 {
-    let code = text_faults::state_code(text_names::find(text, d, a, e));
+    let code = text_faults::state_code(text_names::find(text, &d, &text[a..e]));
     let (set, c) = text_faults::both(s, code)?;
     Ok(set | (1 << c))
 }
@@ -61,15 +61,10 @@ pub fn read_list(text: &[u8], d: Declared, at: usize) -> Option<List>
     requires { (at ≤ length text.now) × names.Valid text.now d }
     ensures { MatchOption result (list (drop at text.now) ≡ none) (ListEnd text.now (names.declared_of text.now d) at) }
 {
-    if text_scan::at_bytes(text, at, b"()") {
-        return Some(List {
-            kept: Ok(0),
-            end: at + 2,
-        });
+    if let Some(end) = text_scan::past_bytes(text, at, b"()") {
+        return Some(List { kept: Ok(0), end });
     }
-    if !text_scan::at_byte(text, at, b'(') {
-        return None;
-    }
-    let e = text_scan::name_end(text, at + 1)?;
-    read_row::<Listed>(text, d, e, add_name(text, d, Ok(0), at + 1, e), FURTHER)
+    let a = text_scan::past(text, at, b'(')?;
+    let e = text_scan::name_end(text, a)?;
+    read_row::<Listed>(text, d, e, add_name(text, d, Ok(0), a, e), FURTHER)
 }

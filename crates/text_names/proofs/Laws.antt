@@ -1,14 +1,14 @@
 -- Laws of the table of declared names.
 use mathlib.Core.Path.{◌≡◌, refl, sym, ◌∙◌, subst}
 use mathlib.Core.Logic.{⊎_elim}
-use mathlib.Core.Bool.{Bool, true, false, cond}
+use mathlib.Core.Bool.{Bool, true, false, false≢true, cond}
 use mathlib.Core.List.{List, [], ◌∷◌, ◌++◌}
-use mathlib.Core.Option.{none, some}
-use Prim.Native.Nat.{ℕ, zero, suc, ◌+◌, ◌/◌, ◌≤◌, ◌<◌}
+use mathlib.Core.Option.{Option, none, some}
+use Prim.Native.Nat.{ℕ, zero, suc, ◌+◌, ◌-◌, ◌/◌, ◌≤◌, ◌<◌}
 use native.Mathlib.Numerals.{add-one}
 use native.Mathlib.Omega.{arith}
 use lib.Dec.{eqb}
-use lib.ListN.{length, take, get_or, length-set, length-append, get_or-append}
+use lib.ListN.{length, take, drop, get_or, length-set, length-append, get_or-append}
 use lib.Seq.{slice, get_or_at, get_or-set_same, get_or-set_other, take-take}
 use borrow.Author.Tests.{eqb-true, eqb-false}
 use Rattle.std.proofs.lemmas.Bool.{cases_Bool}
@@ -18,6 +18,7 @@ use Rattle.limits.specs.Limits as limit
 use Rattle.grammar.specs.Bytes.{Word, same}
 use Rattle.grammar.specs.Declarations as grammar
 use Rattle.grammar.specs.Declarations.{lookup, count, class}
+use Rattle.text_scan.proofs.Laws.{slice-part}
 use Rattle.text_names.specs.Rows.{list_of}
 use Rattle.text_names.specs.Names.{blank, name_at, begin, end, entry, declared_of, Valid, tally, added}
 use Rattle.text_names.specs.declared.Name.{Name}
@@ -43,13 +44,13 @@ get_or-list_of (suc n) f j d h = ⊎_elim
 module _ (w : Word) where
   lookup-some : (D E : grammar.Declared) (c : ℕ) → lookup w D ≡ some c → lookup w (D ++ E) ≡ some c
   unfolding lookup
-  lookup-some [] E c e = absurd (let z : ◌≡◌ {A = ℕ} 0 1 = cc in omega arith)
+  lookup-some [] E c e = absurd (false≢true cc)
   lookup-some (d ∷ D) E c e = ⊎_elim (λ (q : same w d.0 ≡ true). rw q (rw q at e)) (λ (q : same w d.0 ≡ false). rw q (lookup-some D E c (rw q at e))) (cases_Bool (same w d.0))
 
   lookup-none : (D E : grammar.Declared) → lookup w D ≡ none → lookup w (D ++ E) ≡ lookup w E
   unfolding lookup
   lookup-none [] E e = refl
-  lookup-none (d ∷ D) E e = ⊎_elim (λ (q : same w d.0 ≡ true). absurd (let e' = rw q at e in let z : ◌≡◌ {A = ℕ} 0 1 = cc in omega arith)) (λ (q : same w d.0 ≡ false). rw q (lookup-none D E (rw q at e))) (cases_Bool (same w d.0))
+  lookup-none (d ∷ D) E e = ⊎_elim (λ (q : same w d.0 ≡ true). absurd (let e' = rw q at e in false≢true cc)) (λ (q : same w d.0 ≡ false). rw q (lookup-none D E (rw q at e))) (cases_Bool (same w d.0))
 
   module _ (f : ℕ → Word × ℕ) where
     pub lookup-misses : (m : ℕ) → ((k : ℕ) → k < m → same w (f k).0 ≡ false) → lookup w (list_of m f) ≡ none
@@ -122,6 +123,10 @@ module _ (text : List ℕ) (d : Declared) (w : Word) where
   pub find-hit : {i : ℕ} → Valid text d → (0 ≤ i) × (i < d.count) × Named true i × ((k : ℕ) → 0 ≤ k → k < i → Named false k) → ((name_at d i).code < 128) × (lookup w (declared_of text d) ≡ some (name_at d i).code)
   unfolding declared_of
   find-hit {i} v h = (v.coded i h.1, lookup-hit w (entry text d) d.count i h.1 (lookup-misses w (entry text d) i (λ k l. h.3 k (omega arith) l)) h.2)
+
+-- what a part of the text is found to be
+pub found-slice : (text : List ℕ) (D : grammar.Declared) {o : Option ℕ} (a e : ℕ) → a ≤ e → lookup (take (e - a) (drop a text)) D ≡ o → lookup (slice a e text) D ≡ o
+found-slice text D a e h q = rw (slice-part text a e h) q
 
 -- COUNTING by `filter` and `count`
 abbrev pub of_class : ℕ → Name → Bool

@@ -36,21 +36,21 @@ fn is_named(text: &[u8], n: Name, word: &[u8]) -> bool
     text_scan::same_words(word, &text[s..t])
 }
 
-// The code of the name from a to e, if it is declared.
-// The search stays beside that of `text_scope`: a name stands by its start and length, as the model keeps it, a variable by its start and end, so that one search for both would take a closure from a place to its bytes, and save the one line that each has.
+// The code of the name with those bytes, if it is declared.
+// The search stays beside that of `text_scope`: a name stands by its start and length, as the model keeps it, a variable by its start and end, so that one search for both would take a closure from one of them to its bytes, and save the one line that each has.
 // The search stays over places: the grammar's names are a list by place here, so that the place that `find` gives is what the lookup is shown by.
-pub fn find(text: &[u8], d: Declared, a: usize, e: usize) -> Option<u32>
-    requires { Valid text.now d × (a ≤ e) × (e ≤ length text.now) }
-    ensures { IfSome result (λ c. c < 128) × (lookup (slice a e text.now) (declared_of text.now d) ≡ found result) }
+pub fn find(text: &[u8], d: &Declared, word: &[u8]) -> Option<u32>
+    requires { Valid text.now d.now }
+    ensures { IfSome result (λ c. c < 128) × (lookup word.now (declared_of text.now d.now) ≡ found result) }
 {
-    let i = (0..d.count).find(|i| is_named(text, d.names[*i], &text[a..e]))?;
+    let i = (0..d.count).find(|i| is_named(text, d.names[*i], word))?;
     Some(d.names[i].code)
 }
 
 // How many relations of class k are declared.
-pub fn tally_of(d: Declared, k: u32) -> usize
-    requires { (d.count ≤ limit.declared) × (length d.names ≡ limit.declared) }
-    ensures { result ≡ tally k d.names d.count }
+pub fn tally_of(d: &Declared, k: u32) -> usize
+    requires { (d.now.count ≤ limit.declared) × (length d.now.names ≡ limit.declared) }
+    ensures { result ≡ tally k d.now.names d.now.count }
 {
     d.names[..d.count]
         .iter()
@@ -59,6 +59,7 @@ pub fn tally_of(d: Declared, k: u32) -> usize
 }
 
 // One name more.
+// It stays a function from a row of names to a row: its caller answers the names or a refusal, and over `&mut` each contract up to `text_declarations::read_state` would also say what the names are beside a refusal.
 pub fn add(mut d: Declared, name: Name) -> Declared
     requires { d.count < limit.declared }
     ensures { result ≡ added d name }

@@ -1,14 +1,15 @@
 -- What the blank record holds, and the record with the declared names.
-use mathlib.Core.Path.{◌≡◌, refl, sym, subst, ◌∙◌}
+use mathlib.Core.Path.{◌≡◌, refl, sym, ◌∙◌}
 use mathlib.Core.List.{List, [], ◌∷◌, map, map-append}
-use Prim.Native.Nat.{ℕ, zero, suc, ◌+◌, ◌≤◌, ◌<◌}
+use Prim.Native.Nat.{ℕ, zero, suc, ◌≤◌}
 use native.Mathlib.Omega.{arith}
 use denote.Param.Members.{Mut, Called}
 use lib.ListN.{length, take, get_or, get_or-map, length-map}
 use lib.Seq.{take-suc, ext_get_or}
-use Rattle.std.specs.Array.{IsFromFnResultFrom, IsFromFnResult}
+use Rattle.std.specs.Array.{IsFromFnResult}
 use Rattle.limits.specs.Limits as limit
 use Rattle.semantics.specs.Models.{Program}
+use Rattle.semantics.proofs.Made.{made-each}
 use Rattle.model.specs.Records.{program_of}
 use Rattle.model.specs.declared.Model.{Model}
 use Rattle.acceptance.specs.Represents.{codes_of}
@@ -53,22 +54,6 @@ declared-codes text d v = go d.count (let c = v.count in omega (arith, v.names))
     go : (n : ℕ) → n ≤ length d.names → codes_of (list_of n (entry text d)) ≡ take n (map (λ (x : Name). x.code) d.names)
     go zero h = refl
     go (suc n) h = map-append (λ e. e.1) (list_of n (entry text d)) (entry text d n ∷ []) ∙ rw (go n (omega arith), take-suc (map (λ (x : Name). x.code) d.names) n 0 (rw length-map (omega arith)), code-at n)
-
--- AN ARRAY MADE BY CALLS THAT LEAVE THE CLOSURE AS IT WAS.
-module _ {F B : Type 0} (g : Mut F (ℕ × Unit {0}) B) (P : ℕ → B → Type 0) (f : F) (h : (i : ℕ) (r : B) (q : F) → Called g f (i, tt) r q → P i r × (q ≡ f)) where
-  made-from : (n i k m : ℕ) (p : F) (ys : List B) (d : B) → p ≡ f → IsFromFnResultFrom g p ys i n → k < n → m ≡ i + k → P m (get_or ys m d)
-  made-from zero i k m p ys d e y l s = absurd (omega arith)
-  made-from (suc n) i zero m p ys d e y l s =
-      let c = h i y.1 y.0 (subst (λ (x : F). Called g x (i, tt) y.1 y.0) e y.3) in
-      let t : i ≡ m = omega arith in
-      subst (λ (v : ℕ). P v (get_or ys v d)) t (subst (P i) (sym (y.2.1 d)) c.0)
-  made-from (suc n) i (suc k) m p ys d e y l s =
-      let c = h i y.1 y.0 (subst (λ (x : F). Called g x (i, tt) y.1 y.0) e y.3) in
-      made-from n (i + 1) k m y.0 ys d c.1 y.4 (omega arith) (omega arith)
-
-  -- what each call gives holds of the element made by it
-  made-each : (ys : List B) (n : ℕ) → IsFromFnResult g f ys n → (i : ℕ) (d : B) → i < n → P i (get_or ys i d)
-  made-each ys n y i d l = made-from n 0 i i f ys d refl y.each l (omega arith)
 
 -- a row made of the declared names by a closure that answers f of each
 pub made-row : {X F : Type 0} (d : Declared) (f : Name → X) (g : Mut F (ℕ × Unit {0}) X) (c : F) → ((i : ℕ) (r : X) (q : F) → Called g c (i, tt) r q → (r ≡ f (name_at d i)) × (q ≡ c)) → (row : List X) → IsFromFnResult g c row limit.declared → length d.names ≡ limit.declared → row ≡ map f d.names

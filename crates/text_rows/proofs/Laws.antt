@@ -1,13 +1,14 @@
 -- Laws of reading a row of items.
 use mathlib.Core.Path.{◌≡◌, subst}
 use mathlib.Core.List.{List, [], ◌∷◌, ◌++◌, append-nil, append_assoc}
-use mathlib.Core.Option.{none, some}
+use mathlib.Core.Option.{none}
 use Prim.Native.Nat.{ℕ, ◌+◌, ◌-◌, ◌≤◌, ◌<◌}
 use native.Mathlib.Omega.{arith}
 use lib.ListN.{length, drop, length-append}
 use Rattle.grammar.specs.Bytes.{bytes}
 use Rattle.grammar.specs.Shapes.{Read, after}
 use Rattle.grammar.proofs.Reading.{Reading, reading-start, reading-more, reading-closed}
+use Rattle.text_scan.specs.Found.{BytesEnd}
 use Rattle.text_rows.specs.Rows.{Extends, Room, ItemEnd, RowEnd}
 use Rattle.text_rows.specs.declared.Taken.{Taken}
 
@@ -25,20 +26,20 @@ module _ {V C K : Type 0} {read : List ℕ → Read V} {held : C → List V → 
     pub row-room : {most : ℕ} → 0 < k → Room held most n s → Room held most 1 t
     row-room h (c, xs, l, o) = let z = so.reading.count in (c, xs ++ so.more, omega (arith, length-append xs so.more), so.holds c xs o)
 
-    pub row-more : {r : Taken K} {j : ℕ} → j + 1 ≡ k → after (bytes ")") (drop i text) ≡ none → after (bytes " ") (drop i text) ≡ some (drop (i + 1) text)
-        → ItemEnd read held text (i + 1) t r → RowSo read held text at n s r.kept r.end j
-    row-more {r} {j} h p q e = record {
+    pub row-more : {r : Taken K} {o j : ℕ} → j + 1 ≡ k → after (bytes ")") (drop i text) ≡ none → BytesEnd text i (bytes " ") o
+        → ItemEnd read held text o t r → RowSo read held text at n s r.kept r.end j
+    row-more {r} {o} {j} h p q e = record {
       more = so.more ++ (e.value ∷ []);
-      reading = let z : k - 1 ≡ j = omega arith in subst (Reading read text at n (so.more ++ (e.value ∷ [])) r.end) z (reading-more so.reading (omega arith) p q e.begins e.ends e.found);
+      reading = let z : k - 1 ≡ j = omega arith in subst (Reading read text at n (so.more ++ (e.value ∷ [])) r.end) z (reading-more so.reading (omega arith) p (rw q.begins at q.read) (omega (arith, q.begins, e.begins)) e.ends (rw q.begins at e.found));
       holds = λ c xs o. rw (← append_assoc) (e.holds c (xs ++ so.more) (so.holds c xs o));
     }
 
-    pub row-closed : i < length text → after (bytes ")") (drop i text) ≡ some (drop (i + 1) text) → RowEnd read held text at n s (record { kept = t; end = i + 1 })
-    row-closed h p = record {
+    pub row-closed : {e : ℕ} → BytesEnd text i (bytes ")") e → RowEnd read held text at n s (record { kept = t; end = e })
+    row-closed p = record {
       more = so.more;
       few = omega (arith, so.reading.count);
-      begins = omega (arith, so.reading.begins);
-      ends = omega arith;
-      found = reading-closed so.reading p;
+      begins = omega (arith, so.reading.begins, p.begins);
+      ends = p.ends;
+      found = rw p.begins (reading-closed so.reading (rw p.begins at p.read));
       holds = so.holds;
     }

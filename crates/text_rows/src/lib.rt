@@ -8,7 +8,7 @@ ghost use Rattle.text_names.specs.declared.Declared as names;
 ghost use Rattle.text_rows.specs.Rows.{Room, ItemEnd, RowEnd};
 
 use text_names::Declared;
-use text_scan::at_byte;
+use text_scan::past;
 
 // What can stand in a row: how one item is read, and what is kept of those so far.
 pub trait Item {
@@ -25,6 +25,7 @@ pub trait Item {
     ghost Held: { List ℕ → names.Declared → Case → List Value → Self.Kept → Type 0 };
 
     // The item that is next is added to what is kept.
+    // Text and names stay two parameters: the names are written from line to line and each line is read in a longer part of the text, and of a struct of both each contract would read the text, `names.Valid` and `declared_of` through it.
     fn add(text: &[u8], d: Declared, at: usize, kept: Self::Kept) -> Option<Taken<Self::Kept>>
         requires { (at ≤ length text.now) × Room (Held text.now d) most 1 kept }
         ensures { MatchOption result (read (drop at text.now) ≡ none) (ItemEnd read (Held text.now d) text.now at kept) };
@@ -51,24 +52,13 @@ pub fn read_row<T: Item>(
     let mut so_far = kept;
     let mut i = at;
     for _ in 0..n {
-        if at_byte(text, i, b')') {
-            return Some(Taken {
-                kept: so_far,
-                end: i + 1,
-            });
+        if let Some(end) = past(text, i, b')') {
+            return Some(Taken { kept: so_far, end });
         }
-        if !at_byte(text, i, b' ') {
-            return None;
-        }
-        let t = T::add(text, d, i + 1, so_far)?;
+        let t = T::add(text, d, past(text, i, b' ')?, so_far)?;
         so_far = t.kept;
         i = t.end;
     }
-    if !at_byte(text, i, b')') {
-        return None;
-    }
-    Some(Taken {
-        kept: so_far,
-        end: i + 1,
-    })
+    let end = past(text, i, b')')?;
+    Some(Taken { kept: so_far, end })
 }

@@ -16,6 +16,12 @@ pub record NextBytes (text : List ℕ) (at : ℕ) (w : List ℕ) (r : Bool) : Ty
   pub found : r ≡ true → (at + length w ≤ length text) × (after w (drop at text) ≡ some (drop (at + length w) text))
   pub missing : r ≡ false → after w (drop at text) ≡ none
 
+-- the bytes w, which are next, end at e
+pub record BytesEnd (text : List ℕ) (at : ℕ) (w : List ℕ) (e : ℕ) : Type 0 where
+  pub begins : e ≡ at + length w
+  pub ends : e ≤ length text
+  pub read : after w (drop at text) ≡ some (drop e text)
+
 -- the word that is next ends at e
 pub record WordEnd (text : List ℕ) (at e : ℕ) : Type 0 where
   pub begins : at ≤ e

@@ -1,15 +1,16 @@
 // The bytes, words and names of the bracket text. Each reader takes the text and a place in it; a line is read in the text up to its end.
 #![tactic(auto)]
 
-ghost use Rattle.std.specs.Prelude.{◌≡◌, ◌<◌, ◌≤◌, length, drop, true, MatchOption};
+ghost use Rattle.std.specs.Prelude.{◌≡◌, [], ◌∷◌, ◌<◌, ◌≤◌, length, drop, true, MatchOption};
 ghost use Rattle.std.proofs.Math.Option.{none};
 ghost use Rattle.grammar.specs.Bytes.{alphanumeric, allowed, every, same, is_name};
-ghost use Rattle.grammar.specs.Shapes.{word, name};
-ghost use Rattle.text_scan.specs.Found.{NextByte, NextBytes, WordEnd, NameEnd, BadLine, LineEnd};
+ghost use Rattle.grammar.specs.Shapes.{after, word, name};
+ghost use Rattle.text_scan.specs.Found.{NextByte, NextBytes, BytesEnd, WordEnd, NameEnd, BadLine, LineEnd};
 
 use limits::NAME;
 
 // A letter or a digit.
+// It stays a function beside `is_ascii_alphanumeric`: its one proof joins std's letters and digits with the grammar's.
 pub fn is_alphanumeric(b: u8) -> bool
     ensures { result ≡ alphanumeric b }
 {
@@ -31,13 +32,37 @@ pub fn at_byte(text: &[u8], at: usize, b: u8) -> bool
     at < text.len() && b == text[at]
 }
 
+// Where byte b ends, if it is next.
+pub fn past(text: &[u8], at: usize, b: u8) -> Option<usize>
+    ensures { MatchOption result (after (b ∷ []) (drop at text.now) ≡ none) (BytesEnd text.now at (b ∷ [])) }
+{
+    if at_byte(text, at, b) {
+        Some(at + 1)
+    } else {
+        None
+    }
+}
+
 // Whether the bytes of w are next.
-// A text and a place within it stay two parameters: each reader answers a place alone, so a struct of both would be made anew at each call.
+// A text and a place within it stay two parameters: names and variables are kept by their place in the whole text, which what is left of it, as the readers of a hand-in take it, would not show.
 pub fn at_bytes(text: &[u8], at: usize, w: &[u8]) -> bool
     requires { at ≤ length text.now }
     ensures { NextBytes text.now at w.now result }
 {
     text[at..].starts_with(w)
+}
+
+// Where the bytes of w end, if they are next.
+// The text and the place stay apart, as in `at_bytes`.
+pub fn past_bytes(text: &[u8], at: usize, w: &[u8]) -> Option<usize>
+    requires { at ≤ length text.now }
+    ensures { MatchOption result (after w.now (drop at text.now) ≡ none) (BytesEnd text.now at w.now) }
+{
+    if at_bytes(text, at, w) {
+        Some(at + w.len())
+    } else {
+        None
+    }
 }
 
 // Whether two words are the same.

@@ -3,23 +3,25 @@ use mathlib.Core.Path.{◌≡◌, refl, sym, ap, ◌∙◌, subst}
 use mathlib.Core.Logic.{⊎_elim}
 use mathlib.Core.Bool.{Bool, true, false, cond, ◌&&◌, or-false, or-true, and-true, and_assoc}
 use mathlib.Core.List.{List, [], ◌∷◌, ◌++◌}
-use Prim.Native.Nat.{ℕ, zero, suc, ◌≤◌, ◌<◌}
+use Prim.Native.Nat.{ℕ, zero, suc, ◌-◌, ◌≤◌, ◌<◌}
 use native.Mathlib.Nat.{add-zero}
 use native.Mathlib.Numerals.{add-one}
 use native.Mathlib.Omega.{arith}
 use lib.Dec.{eqb}
-use lib.ListN.{length, take, get_or, set, length-set}
-use lib.Seq.{slice, get_or-set_same, get_or-set_other, ext_get_or, take-suc}
+use lib.ListN.{length, take, drop, get_or, set, length-set}
+use lib.Seq.{slice, get_or-set_same, get_or-set_other, ext_get_or, take-suc, length-take-le}
 use borrow.Author.Tests.{eqb-true, eqb-false}
 use Rattle.std.proofs.lemmas.Bool.{cases_Bool}
 use Rattle.std.specs.Prelude.{Option, Some, None, MatchOption}
-use Rattle.std.specs.List.{list_all}
+use Rattle.std.specs.List.{list_all, AllWithin, HoldsAt}
+use Rattle.std.proofs.lemmas.List.{get_or-take, get_or_default}
 use Rattle.std.proofs.lemmas.List.Folds.{list_all-append}
 use Rattle.grammar.specs.Bytes.{Word, same}
 use Rattle.grammar.specs.Declarations.{member, extend, place}
 use Rattle.grammar.specs.Words.{Distinct, all_marked}
 use Rattle.grammar.proofs.Tests.{clash}
 use Rattle.grammar.proofs.Words.{same-eq, member-append, member-last, member-left, place-hit, place-miss, place_none, place-below, marks-new, marks-old, marks-append}
+use Rattle.text_scan.proofs.Laws.{slice-part}
 use Rattle.text_names.specs.Rows.{list_of}
 use Rattle.text_names.proofs.Laws.{list_of-same, length-list_of, get_or-list_of}
 use Rattle.text_scope.specs.Scopes.{blank, variable_at, variable, known_of, mark, marks_of, Valid, Known, marking, added, Holds}
@@ -48,19 +50,45 @@ module _ (w : Word) (f : ℕ → Word) where
       place-hit w (list_of n f) (f n ∷ []) (member-list_of n i k q) ∙ place-list_of n i k e q) (cases_Bool (eqb i n))
 
 -- FINDING A VARIABLE
-module _ {N : ℕ} (text : List ℕ) (s : Scope N) (w : Word) where
-  -- whether variable k is w
-  abbrev pub Named : Bool → ℕ → Type 0
-  Named b k = same w (variable text s k) ≡ b
+module _ {N : ℕ} {text : List ℕ} {s : Scope N} (valid : Valid text s) where
+  -- the variables so far
+  abbrev row : List Variable
+  row = take s.count s.variables
 
-  pub found_variable : (r : Option ℕ) → MatchOption r ((k : ℕ) → 0 ≤ k → k < s.count → Named false k) (λ i. (0 ≤ i) × (i < s.count) × Named true i × ((k : ℕ) → 0 ≤ k → k < i → Named false k))
-      → MatchOption r (member w (known_of text s) ≡ false) (Known (known_of text s) w)
-  unfolding known_of
-  found_variable None h = member-misses w (variable text s) s.count (λ k l. h k (omega arith) l)
-  found_variable (Some i) h = record {
-    known = member-list_of w (variable text s) s.count i h.1 h.2;
-    number = sym (place-list_of w (variable text s) s.count i h.1 (member-misses w (variable text s) i (λ k l. h.3 k (omega arith) l)) h.2);
-  }
+  row-length : length row ≡ s.count
+  row-length = let c = valid.count in length-take-le s.count s.variables (omega (arith, valid.variables))
+
+  pub within-row : (k : ℕ) (v : Variable) → k < length row → v ≡ get_or row k v → (v.start ≤ v.end) × (v.end ≤ length text)
+  within-row k v l e =
+      let l' : k < s.count = omega (arith, row-length) in
+      subst (λ (u : Variable). (u.start ≤ u.end) × (u.end ≤ length text)) (sym (e ∙ (get_or_default row k v blank l ∙ get_or-take s.count s.variables k blank l'))) (valid.within k l')
+
+  module _ (w : Word) where
+    -- whether it is w
+    abbrev pub Named : Bool → Variable → Type 0
+    Named b v = same w (take (v.end - v.start) (drop v.start text)) ≡ b
+
+    there : {b : Bool} (k : ℕ) → k < s.count → Named b (get_or row k blank) → same w (variable text s k) ≡ b
+    there {b} k l h = rw (slice-part text (variable_at s k).start (variable_at s k).end (valid.within k l).0) (subst (Named b) (get_or-take s.count s.variables k blank l) h)
+
+    pub found_variable : (r : Option ℕ) → MatchOption r (AllWithin (Named false) row 0 (length row)) (λ i. (i < length row) × HoldsAt (Named true) row i × AllWithin (Named false) row 0 i)
+        → MatchOption r (member w (known_of text s) ≡ false) (Known (known_of text s) w)
+    unfolding known_of
+    found_variable None h = member-misses w (variable text s) s.count (λ k l. there k l (h k blank (omega arith) (omega (arith, row-length))))
+    found_variable (Some i) h =
+        let l : i < s.count = omega (arith, row-length, h.0) in
+        record {
+          known = member-list_of w (variable text s) s.count i l (there i l (h.1 blank));
+          number = sym (place-list_of w (variable text s) s.count i l (member-misses w (variable text s) i (λ k q. there k (omega arith) (h.2 k blank (omega arith) q))) (there i l (h.1 blank)));
+        }
+
+-- a part of the text that is known, and one that is not
+module _ (text : List ℕ) (vs : List Word) (a e : ℕ) (h : a ≤ e) where
+  pub known-slice : {i : ℕ} → Known vs (take (e - a) (drop a text)) i → Known vs (slice a e text) i
+  known-slice k = rw (slice-part text a e h) k
+
+  pub unknown-slice : member (take (e - a) (drop a text)) vs ≡ false → member (slice a e text) vs ≡ false
+  unknown-slice q = rw (slice-part text a e h) q
 
 -- MARKS IN A ROW
 all_marked-append : (a : List Bool) (m : Bool) → all_marked (a ++ (m ∷ [])) ≡ (all_marked a && m)

@@ -2,11 +2,9 @@
 #![tactic(auto)]
 
 ghost use Rattle.std.specs.Prelude.{◌≡◌, false, ◌≤◌, ◌<◌, length, replicate, MatchOption};
-ghost use Rattle.std.proofs.Math.Seq.{slice};
-ghost use Rattle.grammar.specs.Bytes.{same};
 ghost use Rattle.grammar.specs.Declarations.{member};
 ghost use Rattle.grammar.specs.Words.{all_marked};
-ghost use Rattle.text_scope.specs.Scopes.{blank, variable, Valid, known_of, marks_of, Known, marking, added};
+ghost use Rattle.text_scope.specs.Scopes.{blank, Valid, known_of, marks_of, Known, marking, added};
 
 // A variable: where it stands first, and whether it is marked.
 // The flag stays beside the place: both count, whether it is set or not.
@@ -40,52 +38,39 @@ pub fn empty<const N: usize>() -> Scope<N>
     }
 }
 
-// Whether variable i has those bytes.
-fn is_named<const N: usize>(text: &[u8], s: &Scope<N>, i: usize, word: &[u8]) -> bool
-    requires { Valid text.now s.now × (i < s.now.count) }
-    ensures { result ≡ same word.now (variable text.now s.now i) }
+// The number of the variable with those bytes, if it is known.
+pub fn find<const N: usize>(text: &[u8], s: &Scope<N>, word: &[u8]) -> Option<usize>
+    requires { Valid text.now s.now }
+    ensures { MatchOption result (member word.now (known_of text.now s.now) ≡ false) (Known (known_of text.now s.now) word.now) }
 {
-    let v = s.variables[i];
-    text_scan::same_words(word, &text[v.start..v.end])
+    s.variables[..s.count]
+        .iter()
+        .position(|v| text_scan::same_words(word, &text[v.start..v.end]))
 }
 
-// The number of the variable from a to e, if it is known.
-pub fn find<const N: usize>(text: &[u8], s: Scope<N>, a: usize, e: usize) -> Option<usize>
-    requires { Valid text.now s × (a ≤ e) × (e ≤ length text.now) }
-    ensures { MatchOption result (member (slice a e text.now) (known_of text.now s.entry) ≡ false) (Known (known_of text.now s.entry) (slice a e text.now)) }
-{
-    let word = &text[a..e];
-    (0..s.count).find(
-        |i|
-            requires { Valid text.now s × (i.now < s.count) }
-            ensures { result ≡ same word.entry.now (variable text.entry.now s i.now) }
-        { is_named(text, &s, *i, word) },
-    )
-}
+impl<const N: usize> Scope<N> {
+    // Variable i is marked.
+    pub fn mark(&mut self, i: usize)
+        requires { i < N }
+        ensures { self.new ≡ marking self.old i }
+    {
+        self.variables[i].marked = true;
+    }
 
-// Variable i is marked.
-pub fn mark<const N: usize>(mut s: Scope<N>, i: usize) -> Scope<N>
-    requires { i < N }
-    ensures { result ≡ marking s.entry i }
-{
-    s.variables[i].marked = true;
-    s
-}
-
-// One variable more, which stands first from start to end.
-pub fn add<const N: usize>(mut s: Scope<N>, start: usize, end: usize, marked: bool) -> Scope<N>
-    requires { s.count < N }
-    ensures { result ≡ added s.entry start end marked }
-{
-    s.variables[s.count] = Variable { start, end, marked };
-    s.count += 1;
-    s
+    // One variable more, which stands first from start to end.
+    pub fn add(&mut self, start: usize, end: usize, marked: bool)
+        requires { self.old.count < N }
+        ensures { self.new ≡ added self.old start end marked }
+    {
+        self.variables[self.count] = Variable { start, end, marked };
+        self.count += 1;
+    }
 }
 
 // Whether each variable is marked.
-pub fn all_marked<const N: usize>(s: Scope<N>) -> bool
-    requires { (s.count ≤ N) × (length s.variables ≡ N) }
-    ensures { result ≡ all_marked (marks_of s.entry) }
+pub fn all_marked<const N: usize>(s: &Scope<N>) -> bool
+    requires { (s.now.count ≤ N) × (length s.now.variables ≡ N) }
+    ensures { result ≡ all_marked (marks_of s.now) }
 {
     s.variables[..s.count].iter().all(|v| v.marked)
 }

@@ -9,7 +9,7 @@ ghost use Rattle.witness.specs.Witness.{Shown};
 use model::Model;
 use search_levels::{LEVELS, Pair};
 use search_states::States;
-use search_ways::{MATRIX, TABLE};
+use search_ways::Moves;
 use witness_meetings::Cast;
 
 // The pair to which the carried objects walk: the first of level k, in the first row that has one.
@@ -27,11 +27,9 @@ pub fn witness(
     m: Model,
     s: States,
     rows: &[u8; LEVELS],
-    table: &[u8; TABLE],
-    steps: &[u8; MATRIX],
-    ways: &[u8; MATRIX],
+    moves: &Moves,
 ) -> usize
-    requires { Recorded m work.now s rows.now table.now steps.now ways.now × ((e f : ℕ) × Sits rows.now m.stagecount e f) × (limit.run ≤ length run.old) }
+    requires { Recorded m work.now s rows.now moves.now.table moves.now.steps moves.now.ways × ((e f : ℕ) × Sits rows.now m.stagecount e f) × (limit.run ≤ length run.old) }
     ensures { Shown m run.old run.new result }
 {
     let slots = facts_candidates::slots();
@@ -42,9 +40,7 @@ pub fn witness(
         first: n,
         second: n + 1,
     };
-    let from = witness_walk::walk(
-        run, work, &slots, m, s, rows, table, steps, ways, cast, 0, pair,
-    );
+    let from = witness_walk::walk(run, work, &slots, m, s, rows, moves, cast, 0, pair);
     let r = witness_lineage::build(run, m, s, 0, from.at);
     run[..r].reverse();
     r

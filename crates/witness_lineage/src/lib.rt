@@ -44,6 +44,7 @@ fn firsts(m: Model, s: States) -> [bool; ATOMIC]
 }
 
 // Writes the places by which the object is made with the state, the last first, from index k on. Returns the index behind them.
+// The index stays beside the table, as in `witness_meetings`.
 fn trace(run: &mut [u32], s: &States, born: &[bool], state: usize, object: u32, k: usize) -> usize
     requires { ((m : Model) × Ancestry m s.now born.now × Makes m s.now state k run.old) × (object < limit.objects) }
     ensures { (m : Model) → Ancestry m s.now born.now → Makes m s.now state k run.old → (result ≡ k + length (making m s.now object state)) × (run.new ≡ backwards run.old k (making m s.now object state)) }

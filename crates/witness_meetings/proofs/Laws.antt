@@ -4,7 +4,7 @@ use mathlib.Core.Logic.{⊎_elim, ◌≢◌}
 use mathlib.Core.Bool.{true, false}
 use mathlib.Core.List.{List, [], ◌∷◌, map, map-map}
 use mathlib.Core.Option.{Option, some}
-use Prim.Native.Nat.{ℕ, zero, suc, ◌+◌, ◌*◌, ◌≤◌, ◌<◌}
+use Prim.Native.Nat.{ℕ, zero, suc, ◌+◌, ◌≤◌, ◌<◌}
 use native.Mathlib.Omega.{arith}
 use borrow.Author.Tests.{eq-eqb, ne_eqb}
 use lib.ListN.{set, get_or, length, take, drop, length-map}
@@ -22,8 +22,7 @@ use Rattle.model.specs.declared.Model.{Model}
 use Rattle.model.specs.declared.Stage.{Stage}
 use Rattle.model.specs.Records.{up_from, stage_body, stage_of, number_in, program_of, question_of, stage_at, carried_at}
 use Rattle.model.specs.WellFormed.{WellFormed}
-use Rattle.model.specs.declared.Place.TheVariants.{Meeting}
-use Rattle.model.specs.Places.{number_of, numeral, Objects, Numerable}
+use Rattle.model.specs.Places.{number_of, Objects, Numerable}
 use Rattle.model.proofs.Numbering.{length-up_from}
 use Rattle.model.proofs.Renaming.{elem-of-map, elem-map, vars-renamed, supported-renamed, holds-renamed, named-renamed}
 use Rattle.model.proofs.Accepted.{stage-here, stage-vars, stage-different, stage-names, stage_body_lem}
@@ -43,7 +42,7 @@ use Rattle.facts_holds.specs.Shows.{Evaluable, Seeks}
 use Rattle.facts_holds.proofs.Laws.{part-evaluable}
 use Rattle.witness_table.proofs.Laws.{set-backwards}
 use Rattle.witness_meetings.specs.declared.Cast.{Cast}
-use Rattle.witness_meetings.specs.Meetings.{Known, Written, Numbers, Names, NamesBoth, meeting, Behind, pair, Seats, gathering, Takes, Chooses, Seating, first_variable, Opens}
+use Rattle.witness_meetings.specs.Meetings.{Known, Written, Names, NamesBoth, meeting, Behind, pair, Seats, gathering, Takes, Chooses, Seating, first_variable, Opens}
 
 map_same : (f g : ℕ → ℕ) (k n : ℕ) → ((x : ℕ) → k ≤ x → x < k + n → f x ≡ g x) → map f (up_from k n) ≡ map g (up_from k n)
 map_same f g k zero h = refl
@@ -56,14 +55,6 @@ objects-below h k (suc n) b = (b k (omega arith) (omega arith), objects-below h 
 -- the meeting has a number
 pub numerable-meeting : (k n : ℕ) (c : Choice) → k < limit.atomic → n ≤ 3 → ((x : ℕ) → x < n → chosen c x < 255) → Numerable (meeting k n c)
 numerable-meeting k n c h few b = (omega arith, omega (arith, length-map (up_from 0 n) (chosen c), length-up_from 0 n), objects-below (chosen c) 0 n (λ x p q. b x (omega arith)))
-
--- and this is its number
-pub meeting-number : (k n a b d : ℕ) (c : Choice) → k < limit.atomic → (a ≡ get_or (map (chosen c) (up_from 0 n)) 0 255) × (a < 256) → (b ≡ get_or (map (chosen c) (up_from 0 n)) 1 255) × (b < 256)
-    → (d ≡ get_or (map (chosen c) (up_from 0 n)) 2 255) × (d < 256) → numeral (Meeting (k + 1) a b d) ≡ number_of (meeting k n c)
-meeting-number k n a b d c h (ea, la) (eb, lb) (ed, ld) = rw (← ea, ← eb, ← ed) (parts k a b d h la lb ld)
-  where
-    parts : (k a b d : ℕ) → k < limit.atomic → a < 256 → b < 256 → d < 256 → numeral (Meeting (k + 1) a b d) ≡ 2147483648 + suc k * 16777216 + a * 65536 + b * 256 + d
-    parts k a b d h la lb ld = omega arith
 
 -- what is written is good in another way too
 pub written_as : (G H : List Place → Type 0) → ((ps : List Place) → G ps → H ps) → (most : ℕ) (run run' : List ℕ) (at at' : ℕ) → Written G most run at run' at' → Written H most run at run' at'
@@ -105,9 +96,6 @@ module _ (m : Model) (wf : WellFormed m) (k : ℕ) (here : k < m.stagecount) whe
   -- a stage's numbers
   pub few-variables : st.variables ≤ 3
   few-variables = (wf.stage k here).part.few
-
-  pub stage-numbers : Numbers st
-  stage-numbers = record { long = wf.numbers k here; few = few-variables; different = (wf.stage k here).different }
 
   -- the stage's body can be evaluated
   stage-safe : Supported (vars body) body
@@ -258,8 +246,12 @@ module _ (m : Model) (w : List ℕ) (s : States) (known : Known m w s) (k : ℕ)
     pub choose-found : (c : Choice) → Seeks (row s) w (stage_body m.literals (stage_at m k)) (stage_at m k).variables fixed (prelude.Some c) → (τ : ℕ → ℕ) × Seating m w s k e f τ × Chooses (stage_at m k) c τ
     choose-found c h = (over m known.model k here c, found-seating c h.0 h.1, over-at m known.model k here c)
 
-    pub choose-none : ((x : ℕ) → element_of others x ≡ prelude.None) → Seeks (row s) w (stage_body m.literals (stage_at m k)) (stage_at m k).variables fixed prelude.None → ⊥
+    choose-none : ((x : ℕ) → element_of others x ≡ prelude.None) → Seeks (row s) w (stage_body m.literals (stage_at m k)) (stage_at m k).variables fixed prelude.None → ⊥
     choose-none free h = h (λ x. σ (number_in (stage_at m k) x)) (shows-body σ seated.0) (both-fixed m known.model k here e f others fixed fixes σ seated.1 (λ x l i n. clash (ap prelude.is_some n) (ap prelude.is_some (free x))))
+
+    pub choose-some : ((x : ℕ) → element_of others x ≡ prelude.None) → (r : prelude.Option Choice) → Seeks (row s) w (stage_body m.literals (stage_at m k)) (stage_at m k).variables fixed r → prelude.IsSome r
+    choose-some free prelude.None h = absurd (choose-none free h)
+    choose-some free (prelude.Some c) h = refl
 
 -- STAGE 1 WITH ITS FIRST VARIABLE in a slot of row j
 module _ (m : Model) (w : List ℕ) (s : States) (known : Known m w s) (some-variable : 0 < (stage_at m 0).variables) (rows : List ℕ) (j e f : ℕ) where

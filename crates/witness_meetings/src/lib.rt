@@ -29,6 +29,7 @@ pub struct Cast {
 }
 
 // The choice with element e for the variable, where the stage has it.
+// It stays beside `seated` of search_levels: a function for both would be public, with a contract over an Option, and `name` and `seated` would stay around its one call, each with its own contract, over a stage here and a carried variable at a stage there.
 fn name(stage: Stage, variable: u32, e: usize, c: Choice) -> Choice
     requires { Numbers stage }
     ensures { Names stage variable e c result }
@@ -61,7 +62,7 @@ fn name_first(m: Model, e: usize, c: Choice) -> Choice
 }
 
 // A choice of found states, with the fixed ones, that meets stage k + 1, if there is one.
-// The work area, the slots, the model and the states stay apart, with what is known of them in clauses: other functions here read the model alone, and the evaluator takes the area and the slots by themselves.
+// The work area, the slots, the model and the states stay apart, with what is known of them in clauses: each contract names them one by one, so that with a struct only the parameters would be fewer, and each clause longer.
 fn seek_stage(
     work: &[u8],
     slots: &[u8],
@@ -85,7 +86,7 @@ fn seek_stage(
 }
 
 // A choice of found states that meets stage k + 1, with the carried objects in these slots where their variables stand in it.
-// The two slots stay two parameters: their struct, `Pair`, is one of `search_levels`, which stands on a floor above this crate.
+// The two slots stay two parameters: `name_both` is given two objects of the cast too, so that a `Pair` would be taken apart at both calls that give it slots.
 fn choose(
     work: &[u8],
     slots: &[u8],
@@ -100,11 +101,8 @@ fn choose(
 {
     let free = facts_candidates::free();
     let fixed = name_both(m, k, first, second, free);
-    let Some(c) = seek_stage(work, slots, m, s, k, fixed) else {
-        // A level's pair has a choice that meets the stage.
-        unreachable!()
-    };
-    c
+    // A level's pair has a choice that meets the stage.
+    seek_stage(work, slots, m, s, k, fixed).unwrap()
 }
 
 // The objects of the states chosen for n variables: they stand behind `base` others.
@@ -140,8 +138,8 @@ fn number(k: usize, n: usize, c: Choice) -> u32
 }
 
 // Writes the meeting of stage k + 1 at index `at` with these objects, but the cast's for the carried variables. Returns the index behind it.
-// The table, the model and the cast stay apart, with the room in clauses.
-// The index stays beside the table: `Written` says what stands from the index that a call is given to the one that it answers, and a struct of the two would say it of its own field.
+// The table, the model and the cast stay apart, with the room in clauses: the table is written, and the other two are only read.
+// The index stays beside the table, here and in the walk: a struct that holds the table lent would be lent on by every writer, and each `Written` would speak of two fields of it, old and new, where it speaks of two numbers.
 fn gather(run: &mut [u32], m: Model, cast: Cast, k: usize, objects: Choice, at: usize) -> usize
     requires { WellFormed m × (k < m.stagecount) × (cast.first < limit.objects) × (cast.second < limit.objects) × ((x : ℕ) → x < (stage_at m k).variables → chosen objects x < limit.objects) × (at < length run.old) }
     ensures { (w : ℕ → Option ℕ) (σ : ℕ → ℕ) → Takes m cast k w σ objects → Written (λ ps. ps ≡ gathering m cast w k σ ∷ []) 1 run.old at run.new result }

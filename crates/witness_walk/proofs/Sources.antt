@@ -19,9 +19,6 @@ listed_slot P prelude.None h = λ u l. h u (omega arith) l
 listed_slot P (prelude.Some u) h = (h.1, h.2)
 
 -- a pair that leads on: slot v of the second object is tried first, and then a slot of its row
-module _ (m : Model) (rows ways : List ℕ) (k e f : ℕ) (one two begun began : Bool) (first : one ≡ holder m 0 k) (second : two ≡ holder m 1 k) (before : begun ≡ chosen m 0 k) (before' : began ≡ chosen m 1 k) (u v : ℕ) where
-  pub found-pair : u < limit.listed → v < limit.listed → Source rows ways (limit.listed * k + v) one begun e u → Moved ways two began v f → LeadsTo m rows ways k e f u v
-  found-pair a b source moved = rw (← first, ← second, ← before, ← before') ((a, b, source.0), source.1, moved)
-
-  pub pair_found : LeadsTo m rows ways k e f u v → Source rows ways (limit.listed * k + v) one begun e u × Moved ways two began v f
+module _ (m : Model) (rows ways : List ℕ) (k e f : ℕ) (first-stands second-stands first-began second-began : Bool) (first : first-stands ≡ holder m 0 k) (second : second-stands ≡ holder m 1 k) (before : first-began ≡ chosen m 0 k) (before' : second-began ≡ chosen m 1 k) (u v : ℕ) where
+  pub pair_found : LeadsTo m rows ways k e f u v → Source rows ways (limit.listed * k + v) first-stands first-began e u × Moved ways second-stands second-began v f
   pair_found leads = rw (first, second, before, before') ((leads.0.2, leads.1), leads.2)

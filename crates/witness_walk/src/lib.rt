@@ -20,7 +20,7 @@ use limits::LISTED;
 use model::{Model, Place};
 use search_levels::{LEVELS, Pair};
 use search_states::States;
-use search_ways::{MATRIX, TABLE};
+use search_ways::{MATRIX, Moves};
 use witness_meetings::Cast;
 
 // The slots of the carried objects on a level, and the index at which the place before is written.
@@ -31,7 +31,7 @@ pub struct Stand {
 }
 
 // Does the carried variable of cell v stand in stage k, counted from 0?
-// That the model is well formed stays a clause: a record is blank before a text is read into it, which is not well formed. The model, the cell and the stage stay apart, with the ranges in clauses: the walk asks for both cells of each stage, so that a struct of the three would be made anew for each pair.
+// That the model is well formed stays a clause: a record is blank before a text is read into it, which is not well formed, and a second type around a well-formed record would be opened wherever a field of it is read. The model, the cell and the stage stay apart, with the ranges in clauses: the walk asks for both cells of each stage, so that a struct of the three would be made anew for each cell of each stage.
 fn holds(m: Model, v: usize, k: usize) -> bool
     requires { WellFormed m × (v < limit.carried) × (k < m.stagecount) }
     ensures { result ≡ holder m v k }
@@ -53,6 +53,7 @@ fn tell(run: &mut [u32], lines: &[u32], object: u32, k: usize) -> usize
     requires { AllNumerable (places (with object lines.now)) × (k + length lines.now ≤ length run.old) }
     ensures { (result ≡ k + length lines.now) × (run.new ≡ backwards run.old k (places (with object lines.now))) }
 {
+    // The cells stay written by their number, for the reason at `facts_bits::widen`.
     for (i, &line) in lines.iter().rev().enumerate() {
         run[k + i] = model::number_of(Place::Step { line, object });
     }
@@ -60,23 +61,22 @@ fn tell(run: &mut [u32], lines: &[u32], object: u32, k: usize) -> usize
 }
 
 // Writes a shortest way of the object from one slot to another, the last step first, from index `at` on. Returns the index behind it.
-// The run, the model, the states and the tables stay apart: the run is written, and each callee reads another part of the rest, a way the tables, a making the states alone, a meeting the work area.
+// The run, the model, the states and the moves stay apart: the run is written, and each callee reads another part of the rest, a making the model and the states alone, a way the moves too, a meeting the work area in place of the moves.
 pub fn lead(
     run: &mut [u32],
     m: Model,
     s: States,
-    table: &[u8; TABLE],
-    steps: &[u8; MATRIX],
+    moves: &Moves,
     from: usize,
     to: usize,
     object: u32,
     at: usize,
 ) -> usize
-    requires { WellFormed m × Proper s × Mapped m s table.now steps.now × Ready m s true true from to × (object < limit.objects) × (at + s.count ≤ length run.old) }
+    requires { WellFormed m × Proper s × Mapped m s moves.now.table moves.now.steps × Ready m s true true from to × (object < limit.objects) × (at + s.count ≤ length run.old) }
     ensures { Written (Errand m s object true true from to) (s.count - 1) run.old at run.new result }
 {
     let mut lines = [0u32; LISTED];
-    let n = search_ways::way(m, s, table, steps, from, to, &mut lines);
+    let n = search_ways::way(m, s, moves, from, to, &mut lines);
     tell(run, &lines[..n], object, at)
 }
 
@@ -85,8 +85,7 @@ pub fn errand(
     run: &mut [u32],
     m: Model,
     s: States,
-    table: &[u8; TABLE],
-    steps: &[u8; MATRIX],
+    moves: &Moves,
     v: usize,
     k: usize,
     from: usize,
@@ -94,7 +93,7 @@ pub fn errand(
     object: u32,
     at: usize,
 ) -> usize
-    requires { WellFormed m × Proper s × Discovered (program_of m) s × Mapped m s table.now steps.now × (v < limit.carried) × (k < m.stagecount) × Ready m s (holder m v k) (chosen m v k) from to × (object < limit.objects) × (at + s.count ≤ length run.old) }
+    requires { WellFormed m × Proper s × Discovered (program_of m) s × Mapped m s moves.now.table moves.now.steps × (v < limit.carried) × (k < m.stagecount) × Ready m s (holder m v k) (chosen m v k) from to × (object < limit.objects) × (at + s.count ≤ length run.old) }
     ensures { Written (Errand m s object (holder m v k) (chosen m v k) from to) (effort s.count (holder m v k) (chosen m v k)) run.old at run.new result }
 {
     if !holds(m, v, k) {
@@ -103,7 +102,7 @@ pub fn errand(
     if !carries(m, v, k) {
         return witness_lineage::make(run, m, s, to, object, at);
     }
-    lead(run, m, s, table, steps, from, to, object, at)
+    lead(run, m, s, moves, from, to, object, at)
 }
 
 // Can an object go from slot u to slot e before a stage is met?
@@ -149,13 +148,13 @@ fn previous(
     requires { WellFormed m × (k < m.stagecount) × (first < limit.listed) × (second < limit.listed) × ((u v : ℕ) × LeadsTo m rows.now ways.now k first second u v) }
     ensures { LeadsTo m rows.now ways.now k first second result.first result.second }
 {
-    let one = holds(m, 0, k);
-    let two = holds(m, 1, k);
-    let begun = carries(m, 0, k);
-    let began = carries(m, 1, k);
+    let first_stands = holds(m, 0, k);
+    let second_stands = holds(m, 1, k);
+    let first_began = carries(m, 0, k);
+    let second_began = carries(m, 1, k);
     for v in 0..LISTED {
-        if moves(ways, two, began, v, second) {
-            if let Some(u) = source(rows, ways, LISTED * k + v, one, begun, first) {
+        if moves(ways, second_stands, second_began, v, second) {
+            if let Some(u) = source(rows, ways, LISTED * k + v, first_stands, first_began, first) {
                 return Pair {
                     first: u,
                     second: v,
@@ -174,36 +173,20 @@ fn back(
     m: Model,
     s: States,
     rows: &[u8; LEVELS],
-    table: &[u8; TABLE],
-    steps: &[u8; MATRIX],
-    ways: &[u8; MATRIX],
+    moves: &Moves,
     cast: Cast,
     k: usize,
     p: Stand,
 ) -> Stand
-    requires { Recorded m work.now s rows.now table.now steps.now ways.now × Own width.slots slots.now × Numbered s cast × (limit.run ≤ length run.old) × ((until : ℕ) × (run₀ : List ℕ) × (until ≤ k) × Behind m s cast until rows.now run₀ run.old (suc k) p.pair.first p.pair.second p.at) }
+    requires { Recorded m work.now s rows.now moves.now.table moves.now.steps moves.now.ways × Own width.slots slots.now × Numbered s cast × (limit.run ≤ length run.old) × ((until : ℕ) × (run₀ : List ℕ) × (until ≤ k) × Behind m s cast until rows.now run₀ run.old (suc k) p.pair.first p.pair.second p.at) }
     ensures { (until : ℕ) (run₀ : List ℕ) → until ≤ k → Behind m s cast until rows.now run₀ run.old (suc k) p.pair.first p.pair.second p.at → Behind m s cast until rows.now run₀ run.new k result.pair.first result.pair.second result.at }
 {
     let first = p.pair.first;
     let second = p.pair.second;
-    let q = previous(rows, ways, m, k, first, second);
+    let q = previous(rows, &moves.ways, m, k, first, second);
     let met = witness_meetings::meet(run, work, slots, m, s, cast, k, first, second, p.at);
-    let then = errand(
-        run,
-        m,
-        s,
-        table,
-        steps,
-        1,
-        k,
-        q.second,
-        second,
-        cast.second,
-        met,
-    );
-    let at = errand(
-        run, m, s, table, steps, 0, k, q.first, first, cast.first, then,
-    );
+    let then = errand(run, m, s, moves, 1, k, q.second, second, cast.second, met);
+    let at = errand(run, m, s, moves, 0, k, q.first, first, cast.first, then);
     Stand { pair: q, at }
 }
 
@@ -215,19 +198,17 @@ pub fn walk(
     m: Model,
     s: States,
     rows: &[u8; LEVELS],
-    table: &[u8; TABLE],
-    steps: &[u8; MATRIX],
-    ways: &[u8; MATRIX],
+    moves: &Moves,
     cast: Cast,
     until: usize,
     goal: Pair,
 ) -> Stand
-    requires { Recorded m work.now s rows.now table.now steps.now ways.now × Own width.slots slots.now × Numbered s cast × (until ≤ m.stagecount) × Sits rows.now m.stagecount goal.first goal.second × (limit.run ≤ length run.old) }
+    requires { Recorded m work.now s rows.now moves.now.table moves.now.steps moves.now.ways × Own width.slots slots.now × Numbered s cast × (until ≤ m.stagecount) × Sits rows.now m.stagecount goal.first goal.second × (limit.run ≤ length run.old) }
     ensures { Behind m s cast until rows.now run.old run.new until result.pair.first result.pair.second result.at }
 {
     let mut p = Stand { pair: goal, at: 0 };
     for k in (until..m.stagecount).rev() {
-        p = back(run, work, slots, m, s, rows, table, steps, ways, cast, k, p);
+        p = back(run, work, slots, m, s, rows, moves, cast, k, p);
     }
     p
 }

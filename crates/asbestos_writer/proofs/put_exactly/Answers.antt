@@ -1,12 +1,7 @@
 -- `put_exactly` meets its contract.
-use borrow.Author.Tests.{eq-eqb, ne_eqb}
+use borrow.Author.Tests.{ne_eqb}
 use Rattle.listing_bytes.proofs.Writing.{after}
 use Rattle.asbestos_writer.proofs.put_exactly.Goals as goal
-
-pub returns-then-level-eq4 : goal.returns-then-level-eq4
-returns-then-level-eq4 c =
-    let a = c.args in
-    rw (eq-eqb a.level 4 c.if-level-eq4.true) c.put_bytes.ensures
 
 pub returns : goal.returns
 returns c =

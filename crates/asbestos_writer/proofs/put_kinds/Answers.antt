@@ -1,11 +1,7 @@
-use native.Mathlib.Nat.{le_antisymm}
 use native.Mathlib.Omega.{arith}
-use Rattle.listing_bytes.proofs.Writing.{writes-none, kept}
+use Rattle.listing_bytes.proofs.Writing.{kept}
 use Rattle.asbestos_writer.proofs.Checks.{kind-proper, kinds-room, written-kind}
 use Rattle.asbestos_writer.proofs.put_kinds.Goals as goal
-
-pub loop-i-init : goal.loop-i-init
-loop-i-init c = writes-none c.args.out.now c.args.at (omega arith)
 
 pub put_kind-next-requires : goal.put_kind-next-requires
 put_kind-next-requires c =
@@ -23,9 +19,3 @@ loop-i-preserved c =
     let l = c.loop-i in
     let k = c.kind_of.ensures in
     written-kind a.kinds.now a.count p.1 l.i (omega arith) l.invariant (rw (k.send, k.receive, k.mark) at c.put_kind-next.ensures)
-
-pub shape_of-out : goal.shape_of-out
-shape_of-out c = kept c.loop-i.invariant
-
-pub returns : goal.returns
-returns c = rw (le_antisymm c.loop-i.auto.i-end c.loop-i-test.false) at c.loop-i.invariant

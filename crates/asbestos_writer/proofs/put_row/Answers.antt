@@ -1,13 +1,9 @@
-use mathlib.Core.Path.{◌≡◌}
 use native.Mathlib.Omega.{arith}
-use Rattle.listing_bytes.proofs.Writing.{writes-none, kept}
-use Prim.Native.Nat.{ℕ, suc}
+use Rattle.listing_bytes.proofs.Writing.{kept}
+use Prim.Native.Nat.{ℕ}
 use Rattle.asbestos_forms.specs.Forms.{entry_forms}
 use Rattle.asbestos_writer.proofs.Bytes.{row-short, written-each}
 use Rattle.asbestos_writer.proofs.put_row.Goals as goal
-
-pub loop-b-init : goal.loop-b-init
-loop-b-init c = writes-none c.args.out.now c.args.at (omega arith)
 
 pub put_entry-next-requires : goal.put_entry-next-requires
 put_entry-next-requires c =
@@ -18,9 +14,3 @@ pub loop-b-preserved : goal.loop-b-preserved
 loop-b-preserved c =
     let l = c.loop-b in
     written-each l.b (λ (b : ℕ). entry_forms c.args.a b) l.invariant c.put_entry-next.ensures
-
-pub shape_of-out : goal.shape_of-out
-shape_of-out c = kept c.loop-b.invariant
-
-pub returns : goal.returns
-returns c = let e : c.loop-b.b ≡ suc c.args.port = omega arith in rw e at c.loop-b.invariant

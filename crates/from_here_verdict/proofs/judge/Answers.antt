@@ -1,14 +1,10 @@
 use mathlib.Core.Path.{refl}
-use mathlib.Core.Logic.{inl}
 use Prim.Native.Nat.{◌<◌}
 use native.Mathlib.Omega.{arith}
 use Rattle.model.specs.Records.{stage_at}
 use Rattle.from_here_verdict.proofs.Laws.{not-created, without-variable, too_many, told}
 use Rattle.from_here_verdict.proofs.judge.Goals as goal
 use Rattle.from_here_verdict.proofs.judge.Goals.{Else-first-eq0}
-
-pub returns-in_default : goal.returns-in_default
-returns-in_default c = inl ((λ t l k. c.in_default.ensures t l), (rw (c.refusal.ensures.0, c.refusal.ensures.1) at c.refuse.ensures, refl))
 
 pub returns-then-object-s : goal.returns-then-object-s
 returns-then-object-s c =
@@ -28,11 +24,6 @@ pub returns-then-s-gt-EARLIER : goal.returns-then-s-gt-EARLIER
 returns-then-s-gt-EARLIER c =
     let a = c.args in
     too_many a.m c.requires.0 a.places.now _ c.in-Some.ensures a.object _ _ _ c.if-object-s.false (some (goal.at.returns-then-s-gt-EARLIER c).Else-first-eq0) c.if-s-gt-EARLIER.true (rw (c.refusal-then-s-gt-EARLIER.ensures.0, c.refusal-then-s-gt-EARLIER.ensures.1) at c.refuse-then-s-gt-EARLIER.ensures, refl)
-
-pub ask-requires : goal.ask-requires
-ask-requires c =
-    let a = c.args in
-    (record { model = c.requires.0; places = a.places.now; stopped = c.in-Some.ensures; created = c.if-object-s.false; few = c.if-s-gt-EARLIER.false; variable = some (goal.at.ask-requires c).Else-first-eq0 }, c.requires.2)
 
 pub returns : goal.returns
 returns c =

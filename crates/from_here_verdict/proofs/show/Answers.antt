@@ -11,7 +11,7 @@ unwrap-slot-requires c =
     let a = c.args in
     let p = c.requires in
     let s = a.found.explored.states in
-    sought-known (state_in a.s a.object) (row s) c.seek.result c.seek.ensures
+    sought-known (state_in a.s a.object) (row s) c.seek.result (rw c.row.ensures at c.seek.ensures)
     (seat-in (state_in a.s a.object) (row s) s.count (length-row s p.1.explored.proper) (slot-there a.m a.s a.object p.0 a.facts.now a.found p.1 p.2))
 
 pub witness_from-requires : goal.witness_from-requires
@@ -19,7 +19,7 @@ witness_from-requires c =
     let a = c.args in
     let p = c.requires in
     let w = c.args.facts.now in
-    let e = (rw c.unwrap-slot.ensures at c.seek.ensures).1 in (
+    let e = (rw (c.row.ensures, c.unwrap-slot.ensures) at c.seek.ensures).1 in (
       recorded a.m a.s a.object p.0 w a.found p.1,
       sits a.m a.s a.object p.0 w a.found p.1 p.2,
       rw e (points a.m a.s a.object p.0 w a.found p.1),
@@ -35,4 +35,4 @@ returns c =
     let a = c.args in
     let p = c.requires in
     c.witness_from.ensures (there a.m a.s) (there-long a.m p.0.places a.s p.0.stopped)
-    (rw (rw c.unwrap-slot.ensures at c.seek.ensures).1 (slot-state a.m a.s a.object p.0 a.facts.now a.found p.1 p.2))
+    (rw (rw (c.row.ensures, c.unwrap-slot.ensures) at c.seek.ensures).1 (slot-state a.m a.s a.object p.0 a.facts.now a.found p.1 p.2))

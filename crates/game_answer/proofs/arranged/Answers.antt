@@ -1,4 +1,4 @@
-use mathlib.Core.Path.{◌≡◌, ap, ◌∙◌, subst}
+use mathlib.Core.Path.{◌≡◌, ap, ◌∙◌}
 use Prim.Native.Nat.{ℕ, ◌≤◌, ◌<◌}
 use native.Mathlib.Omega.{arith}
 use lib.ListN.{length, get_or, take}
@@ -11,8 +11,7 @@ use Rattle.search_states.proofs.Laws.{length-row}
 use Rattle.search_states.proofs.Seats.{sought-or_length}
 use Rattle.game_moves.proofs.Laws.{seat-most}
 use Rattle.game_rounds.specs.Board.{number_at}
-use Rattle.game_answer.specs.Arranging.{Arranged}
-use Rattle.game_answer.proofs.Ordering.{arranged-none, arranged-more}
+use Rattle.game_answer.proofs.Ordering.{arranged-more}
 use Rattle.game_answer.proofs.arranged.Goals as goal
 use Rattle.game_answer.proofs.arranged.Goals.{After-unwrap_or-slot}
 
@@ -22,16 +21,13 @@ many c = let h = c.requires.1 in length-take-le c.args.listing.count c.args.list
 
 -- the slot is that of the state, or of the empty one
 sought : (c : After-unwrap_or-slot) → let a = c.args in c.unwrap_or-slot.result ≡ seat (get_or (take a.listing.count a.listing.states) c.loop-i.i 0) (row a.s)
-sought c = let a = c.args in c.unwrap_or-slot.ensures ∙ sought-or_length _ (row a.s) a.s.count c.seek.result (length-row a.s c.requires.0) c.seek.ensures
+sought c = let a = c.args in c.unwrap_or-slot.ensures ∙ sought-or_length _ (row a.s) a.s.count c.seek.result (length-row a.s c.requires.0) (rw c.row.ensures at c.seek.ensures)
 
 -- one of the states' or the one behind
 slot : (c : After-unwrap_or-slot) → c.unwrap_or-slot.result ≤ limit.atomic
 slot c =
     let a = c.args in
     omega (arith, sought c, seat-most (get_or (take a.listing.count a.listing.states) c.loop-i.i 0) (row a.s), length-row a.s c.requires.0, c.requires.0.count)
-
-pub loop-i-init : goal.loop-i-init
-loop-i-init c = let a = c.args in arranged-none (row a.s) a.listing.states a.ranks
 
 pub offset_bounds-ranks-slot : goal.offset_bounds-ranks-slot
 offset_bounds-ranks-slot c = record { fits = omega (arith, slot c) }
@@ -47,11 +43,3 @@ loop-i-preserved c =
     let count = c.requires.1.count in
     arranged-more (row a.s) a.listing.states a.ranks l.i l.moves l.invariant (omega arith) _
     (c.unwrap_or.ensures ∙ ap (λ (k : ℕ). unwrap_or (number_at a.ranks k) limit.none) (sought (goal.at.loop-i-preserved c).After-unwrap_or-slot ∙ ap (λ (x : ℕ). seat x (row a.s)) (get_or-take a.listing.count a.listing.states l.i 0 h)))
-
-pub returns : goal.returns
-returns c =
-    let a = c.args in
-    let l = c.loop-i in
-    let h = c.requires.1 in
-    let n = length-take-le a.listing.count a.listing.states (omega arith) in
-    subst (λ (k : ℕ). Arranged (row a.s) a.listing.states k a.ranks l.moves) (omega (arith, n)) l.invariant

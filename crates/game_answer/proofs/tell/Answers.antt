@@ -12,24 +12,8 @@ board c =
     let t = c.own-theirs in
     fits a.m c.requires.0 c.requires.1 a.facts.now a.found c.requires.2 a.attacker.now a.guardian.now o.result t.result c.meeting-met.result o.ensures t.ensures c.meeting-met.ensures
 
-pub own-ours-requires : goal.own-ours-requires
-own-ours-requires c =
-    let h = c.requires.2 in (c.requires.0, h.proper, h.whole, h.moves.table)
-
-pub own-theirs-requires : goal.own-theirs-requires
-own-theirs-requires c =
-    let h = c.requires.2 in (c.requires.0, h.proper, h.whole, h.moves.table)
-
-pub meeting-met-requires : goal.meeting-met-requires
-meeting-met-requires c =
-    let h = c.requires.2 in (c.requires.0, h.proper, h.agree, h.exact, c.requires.1)
-
 pub solve-ranks-requires : goal.solve-ranks-requires
 solve-ranks-requires c = board (goal.at.solve-ranks-requires c).After-meeting-met
-
-pub arranged-moves-requires : goal.arranged-moves-requires
-arranged-moves-requires c =
-    let h = c.requires.2 in (h.proper, h.listing)
 
 pub returns : goal.returns
 returns c =

@@ -1,9 +1,6 @@
 use mathlib.Core.Path.{refl, sym}
-use Rattle.handin.proofs.Laws.{preface-start, preface-more, preface-other, preface-all}
+use Rattle.handin.proofs.Laws.{preface-more, preface-other, preface-all}
 use Rattle.handin.proofs.preface_end.Goals as goal
-
-pub loop-said-init : goal.loop-said-init
-loop-said-init c = (c.requires, refl, preface-start c.args.left.now)
 
 pub returns-then-not-says_nothing : goal.returns-then-not-says_nothing
 returns-then-not-says_nothing c =

@@ -5,7 +5,7 @@ use native.Mathlib.Omega.{arith}
 use Rattle.std.specs.Prelude.{Option, None, Some}
 use Rattle.std.specs.Option.{is_some}
 use Rattle.handin.specs.Answers.{told}
-use Rattle.handin.proofs.Laws.{run-start, run_end, run-full, run-bad, run_more}
+use Rattle.handin.proofs.Laws.{run_end, run-full, run-bad, run_more}
 use Rattle.handin.proofs.read_places.Goals as goal
 use Rattle.handin.proofs.read_places.Goals.{then-places-eq-RUN-via-then-places-eq-RUN, then-places-eq-RUN-via-else-places-eq-RUN+then-is_none}
 
@@ -16,9 +16,6 @@ none_said (Some n) e = cc
 some_said : (o : Option ℕ) → is_some o ≡ true → (n : ℕ) × (o ≡ Some n)
 some_said None e = cc
 some_said (Some n) e = (n, refl)
-
-pub loop-line-init : goal.loop-line-init
-loop-line-init c = (c.requires, rw c.into_iter-line-iterator.ensures.into_iter_gives (run-start c.args.left.now))
 
 pub returns-then-places-eq-RUN : goal.returns-then-places-eq-RUN
 returns-then-places-eq-RUN c =

@@ -1,12 +1,11 @@
-use mathlib.Core.Path.{◌∙◌}
-use Rattle.handin_lines.proofs.Shapes.{silent-same, line-states, line-atomic, line-loud}
+use Rattle.std.proofs.Common.{rules}
+use Rattle.handin_lines.proofs.Shapes.{silent-states, silent-atomic}
 use Rattle.handin_lines.proofs.says_nothing.Goals as goal
 
-pub returns-in-Some : goal.returns-in-Some
-returns-in-Some c = silent-same (line-states c.args.line.now c.in-Some.ensures ∙ c.is_number.ensures)
+pub returns-then-is_some_and : goal.returns-then-is_some_and
+returns-then-is_some_and c = silent-states c.args.line.now c.behind.result c.behind.ensures c.is_some_and.ensures (λ x k. search rules) c.if-is_some_and.true
 
-pub returns-in-Some-behind : goal.returns-in-Some-behind
-returns-in-Some-behind c = silent-same (line-atomic c.args.line.now c.in_default.ensures c.in-Some-behind.ensures ∙ c.is_words.ensures)
-
-pub returns : goal.returns
-returns c = line-loud c.args.line.now c.in_default.ensures c.in_default-behind.ensures
+pub returns-else-is_some_and : goal.returns-else-is_some_and
+returns-else-is_some_and c =
+    silent-atomic c.args.line.now c.behind.result c.behind-else-is_some_and.result c.behind.ensures c.is_some_and.ensures (λ x k. search rules) c.if-is_some_and.false
+    c.behind-else-is_some_and.ensures c.is_some_and-else-is_some_and.ensures (λ x k. search rules)

@@ -1,12 +1,8 @@
 -- `listing::atomic_line` meets its contract.
-use native.Mathlib.Omega.{arith}
 use Rattle.listing_lines.specs.Lines.{names_in, atomic_line}
 use Rattle.listing_bytes.specs.Forms.{items}
 use Rattle.listing_bytes.proofs.Writing.{after, whole-line}
 use Rattle.listing_lines.proofs.atomic_line.Goals as goal
-
-pub put_end-requires : goal.put_end-requires
-put_end-requires c = omega (arith, c.put_names-names.ensures.0.next, c.put_names-names.ensures.1)
 
 pub returns : goal.returns
 unfolding atomic_line

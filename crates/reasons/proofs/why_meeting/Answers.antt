@@ -13,7 +13,7 @@ use Rattle.replay_steps.specs.Tries.{Holding}
 use Rattle.replay_meetings.specs.Carried.{choice_of}
 use Rattle.reasons_bodies.specs.Blames.{Blames}
 use Rattle.reasons.specs.Reasons.{AnySwapped, Beyond}
-use Rattle.replay_meetings.proofs.Meetings.{part-within, codes-long, codes-say, codes-good, slots-seat, part-supported}
+use Rattle.replay_meetings.proofs.Meetings.{codes-long, codes-say, codes-good, slots-seat, part-supported}
 use Rattle.reasons.proofs.Meetings.{other-stage, other-count, swapped-cell, none-swapped, no-object, swapped, stage-literal}
 use Rattle.reasons.proofs.why_meeting.Goals as goal
 
@@ -34,9 +34,6 @@ returns-then-beyond c = let a = c.args in
     let d = subst (λ (k : Choice). Beyond k (stage_at a.m.now a.at.met).variables a.at.objects) c.choice-fixed.ensures (subst (Says _) c.if-beyond.true c.beyond.ensures) in
     λ v states l. no-object a.m.now (session_in states a.at) v a.work.now l.ready l.left a.first a.second a.third a.stage next (sym c.count.ensures ∙ c.if-count-g.false) d.0 d.1 d.2
 
-pub any_swapped-requires : goal.any_swapped-requires
-any_swapped-requires c = let l = c.requires.2 in (l.ready.accepted.stage c.args.at.met l.left).part.few
-
 pub returns-then-any_swapped : goal.returns-then-any_swapped
 returns-then-any_swapped c = let a = c.args in
     let e1 = c.if-stage-i.false in
@@ -44,9 +41,6 @@ returns-then-any_swapped c = let a = c.args in
     λ v states l.
     let d = swapped-cell a.m.now l.ready.accepted (stage_at a.m.now a.at.met) a.at.carried (choice_of a.first a.second a.third) (subst (λ (k : Choice). AnySwapped a.m.now.carried (stage_at a.m.now a.at.met) a.at.carried k) c.choice-fixed.ensures (subst (Says _) c.if-any_swapped.true c.any_swapped.ensures)) in
     swapped a.m.now (session_in states a.at) v a.work.now l.ready l.left a.first a.second a.third a.stage next (sym c.count.ensures ∙ c.if-count-g.false) d
-
-pub body-requires : goal.body-requires
-body-requires c = let a = c.args in let l = c.requires.2 in part-within a.m.now l.ready.accepted a.at.met l.left
 
 pub blame-index-requires : goal.blame-index-requires
 blame-index-requires c = let a = c.args in

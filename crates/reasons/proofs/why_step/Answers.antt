@@ -10,7 +10,7 @@ use Rattle.model.specs.Records.{up_from, clause_body, program_of}
 use Rattle.model.proofs.Lines.{line_other}
 use Rattle.replay_session.specs.Sessions.{session_in}
 use Rattle.replay_steps.specs.Tries.{Fixes}
-use Rattle.replay_steps.proofs.Steps.{on-action, part-within, codes-long, codes-say, codes-good, codes-supported, slots-seat, stepping}
+use Rattle.replay_steps.proofs.Steps.{on-action, codes-long, codes-say, codes-good, codes-supported, slots-seat, stepping}
 use Rattle.reasons.specs.declared.Reason.TheVariants.{NotNext, NoObject, Literal}
 use Rattle.reasons.specs.Reasons.{Explains}
 use Rattle.reasons.proofs.Steps.{no-clause, no_step, new-other, next-other, step-literal, part-short}
@@ -49,12 +49,6 @@ returns-in-Next c = let a = c.args in let f = c.in-Some in let plus = c.in-Next.
     subst (λ (ℓ : ℕ). Explains a.m.now z (step ℓ a.object) NoObject) f.ensures.3
     (next-other a.m.now z v a.work.now l.ready l.left f.c.line a.object plus minus (clause_body a.m.now.literals f.c) f.c.variables (on-action a.m.now v z a.slots.now a.work.now f.c t (Next plus minus) c.in-Next.is)
     (subst (λ (k : Action). Fixes k a.at.objects a.object None) c.in-Next.is c.in_default-fixed.ensures))
-
-pub body-requires : goal.body-requires
-body-requires c = let a = c.args in let f = c.in-Some in
-    let m = a.m.now in let v = c.requires.0.0 in let z = session_in c.requires.0.1 a.at in
-    let t = stepping m v z a.slots.now a.work.now a.line a.object c.requires.0.2 f.c f.ensures in
-    part-within m v z a.slots.now a.work.now f.c t
 
 pub blame-index-requires : goal.blame-index-requires
 blame-index-requires c = let a = c.args in let f = c.in-Some in

@@ -1,12 +1,9 @@
-use mathlib.Core.List.{[], ◌∷◌}
-use Prim.Native.Nat.{ℕ}
-use Rattle.std.specs.Prelude.{None}
+use borrow.Author.Rules.{rules}
 use lib.ListN.{get_or}
+use Rattle.std.specs.Prelude.{None}
+use Rattle.semantics.proofs.Made.{made-each}
 use Rattle.replay_meetings.specs.Carried.{Named}
-use Rattle.replay_meetings.proofs.Objects.{each-cell}
 use Rattle.replay_meetings.proofs.all_named.Goals as goal
 
 pub returns : goal.returns
-returns c =
-    let a = c.args in
-    each-cell (λ (v : ℕ). Named a.g (get_or a.numbers v 0) a.c (get_or (c.named-first.result ∷ c.named-second.result ∷ []) v None)) c.named-first.ensures c.named-second.ensures
+returns c = let a = c.args in λ v l. made-each _ (λ k r. Named a.g (get_or a.numbers k 0) a.c r) _ (λ k r q m. search rules) c.from_fn.result 2 c.from_fn.ensures.items v None l

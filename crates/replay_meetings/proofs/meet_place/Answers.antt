@@ -11,23 +11,13 @@ use Rattle.facts_find.specs.Bodies.{Decides}
 use Rattle.replay_session.specs.Sessions.{Says, session_in}
 use Rattle.replay_steps.specs.Tries.{Holding}
 use Rattle.replay_meetings.specs.Carried.{choice_of, AllNamed, AllAgree}
-use Rattle.replay_meetings.proofs.Meetings.{named-cells, part-within, codes-say, codes-good, slots-seat, part-supported, other-stage, other-count, not-held, disagrees, meeting-kept}
+use Rattle.replay_meetings.proofs.Meetings.{named-cells, codes-say, codes-good, slots-seat, part-supported, other-count, not-held, disagrees, meeting-kept}
 use Rattle.replay_meetings.proofs.meet_place.Goals as goal
-
-pub returns-then-stage-i-clause-tried_by : goal.returns-then-stage-i-clause-tried_by
-returns-then-stage-i-clause-tried_by c =
-    let a = c.args in let n = c.if-stage-i.true in
-    λ v states l. other-stage a.m.now (session_in states a.at) v a.work.now l.ready l.left a.first a.second a.third a.stage (λ e. n (omega arith))
 
 pub returns-then-count-g-clause-tried_by : goal.returns-then-count-g-clause-tried_by
 returns-then-count-g-clause-tried_by c =
     let a = c.args in
     λ v states l. other-count a.m.now (session_in states a.at) v a.work.now l.ready l.left a.first a.second a.third a.stage (λ e. c.if-count-g.true (c.count.ensures ∙ e))
-
-pub all_named-objects-requires : goal.all_named-objects-requires
-all_named-objects-requires c =
-    let a = c.args in let l = c.requires.2 in
-    (l.ready.accepted.stage a.at.met l.left).part.few
 
 pub returns-then-not-all_agree-clause-tried_by : goal.returns-then-not-all_agree-clause-tried_by
 returns-then-not-all_agree-clause-tried_by c =
@@ -37,9 +27,6 @@ returns-then-not-all_agree-clause-tried_by c =
     let found = named-cells a.m.now l.ready.accepted (stage_at a.m.now a.at.met) (choice_of a.first a.second a.third) f.result (subst (λ (k : Choice). AllNamed a.m.now.carried (stage_at a.m.now a.at.met) k f.result) c.choice-fixed.ensures f.ensures) in
     let n = subst (Says (AllAgree a.at.carried f.result)) c.if-not-all_agree.true c.all_agree.ensures in
     disagrees a.m.now (session_in states a.at) v a.work.now l.ready l.left a.first a.second a.third a.stage next count f.result found n
-
-pub body-requires : goal.body-requires
-body-requires c = let a = c.args in let l = c.requires.2 in part-within a.m.now l.ready.accepted a.at.met l.left
 
 pub decide-requires : goal.decide-requires
 decide-requires c =
@@ -58,9 +45,6 @@ returns-in_err-decide-clause-tried_by c =
     let g = stage_at a.m.now a.at.met in
     not-held a.m.now z v a.work.now l.ready l.left a.first a.second a.third a.stage next count
     (subst (λ (k : Choice). Decides g.variables (Holding a.m.now z (stage_body a.m.now.literals g) g.variables k) None) c.choice-fixed.ensures ((rw (c.body.ensures, codes-say a.m.now l.ready.accepted a.at.met l.left) at c.in_err-decide.ensures) a.m.now v z l.ready (l.rests a.at.met l.left next) (slots-seat a.m.now v z a.slots.now a.work.now (meet a.stage (objects (a.first ∷ a.second ∷ a.third ∷ []))) l))))
-
-pub overflow_add-result-2 : goal.overflow_add-result-2
-overflow_add-result-2 c = record { fits = omega (arith, c.requires.2.ready.room) }
 
 pub returns-clause-tried_by : goal.returns-clause-tried_by
 returns-clause-tried_by c =

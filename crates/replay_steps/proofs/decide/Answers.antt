@@ -10,9 +10,6 @@ use Rattle.replay_view.proofs.Meaning.{placed}
 use Rattle.replay_steps.proofs.Bodies.{decided}
 use Rattle.replay_steps.proofs.decide.Goals as goal
 
-pub find-requires : goal.find-requires
-find-requires c = (c.requires.0, c.requires.1, c.requires.2)
-
 pub returns : goal.returns
 returns c =
     let a = c.args in

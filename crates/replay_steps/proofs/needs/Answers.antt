@@ -7,16 +7,13 @@ use Rattle.model.specs.Records.{program_of}
 use Rattle.model.proofs.Lines.{line_other}
 use Rattle.facts_rests.specs.Rests.{Within}
 use Rattle.replay_steps.specs.Tries.{line_body}
-use Rattle.replay_steps.proofs.Steps.{own_body, own-within, own-good}
+use Rattle.replay_steps.proofs.Steps.{own_body, own-good}
 use Rattle.replay_steps.proofs.needs.Goals as goal
 
 pub returns-in_default : goal.returns-in_default
 returns-in_default c =
     let a = c.args in
     λ o. subst (Within _) (sym (ap line_body (line_other a.m.now a.line c.in_default.ensures))) tt
-
-pub body-requires : goal.body-requires
-body-requires c = let f = c.in-Some in let g = f.ensures in own-within c.args.m.now c.requires g.0 g.1 f.c g.2
 
 pub add-requires : goal.add-requires
 add-requires c =

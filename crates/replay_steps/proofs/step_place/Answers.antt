@@ -1,6 +1,5 @@
 use mathlib.Core.Path.{refl, subst}
 use Prim.Native.Nat.{ℕ}
-use native.Mathlib.Omega.{arith}
 use Rattle.std.specs.Prelude.{Some}
 use Rattle.semantics.specs.Runs.{step}
 use Rattle.model.specs.declared.Action.{Action}
@@ -11,7 +10,7 @@ use Rattle.facts_candidates.specs.declared.Choice.{Choice}
 use Rattle.facts_find.specs.Bodies.{Decides}
 use Rattle.replay_session.specs.Sessions.{session_in, created, relabeled}
 use Rattle.replay_steps.specs.Tries.{Holding, Fixes, Taken, Barred}
-use Rattle.replay_steps.proofs.Steps.{on-action, part-within, codes-say, codes-good, codes-supported, slots-seat, part-vars, line-variables, next-variable, stepping, objects-below, new-kept, next-kept, no-clause, unfit, unheld}
+use Rattle.replay_steps.proofs.Steps.{on-action, codes-say, codes-good, codes-supported, slots-seat, part-vars, line-variables, next-variable, stepping, objects-below, new-kept, next-kept, no-clause, unfit, unheld}
 use Rattle.replay_steps.proofs.step_place.Goals as goal
 
 pub returns-in_err-c-clause-tried_by : goal.returns-in_err-c-clause-tried_by
@@ -25,13 +24,6 @@ returns-in_err-objects-clause-tried_by c =
     let t = stepping a.m.now v z a.slots.now a.work.now a.line a.object c.requires.0.1 f.c f.ensures in
     rw c.from_residual-in_err-objects.ensures (subst (λ (ℓ : ℕ). Barred a.m.now z (step ℓ a.object)) f.ensures.3
     (unfit a.m.now v z a.slots.now a.work.now f.c t a.object f.c.action refl c.in_err-objects.ensures))
-
-pub body-requires : goal.body-requires
-body-requires c =
-    let a = c.args in let f = c.in_ok-c in
-    let m = a.m.now in let v = c.requires.0.0 in let z = session_in a.states.now a.at in
-    let t = stepping m v z a.slots.now a.work.now a.line a.object c.requires.0.1 f.c f.ensures in
-    part-within m v z a.slots.now a.work.now f.c t
 
 pub decide-requires : goal.decide-requires
 decide-requires c =
@@ -55,10 +47,6 @@ number-stood-requires c =
     let first = (rw (c.body.ensures, codes-say m v z a.slots.now a.work.now f.c t) at c.in_ok-choice.ensures) m v z t.ready t.rests (slots-seat m v z a.slots.now a.work.now f.c t) in
     objects-below m z v a.work.now t.ready t.left f.c.line a.object (clause_body m.literals f.c) f.c.variables c.in_ok-objects.objects _ (part-vars m v z a.slots.now a.work.now f.c t) first.good
 
-pub returns-in-Rule-clause-tried_by : goal.returns-in-Rule-clause-tried_by
-returns-in-Rule-clause-tried_by c =
-    absurd (subst (λ (k : Action). Fixes k c.args.at.objects c.args.object (Some c.in_ok-objects.objects)) c.in-Rule.is c.in_ok-objects.ensures)
-
 pub returns-in-New-clause-tried_by : goal.returns-in-New-clause-tried_by
 returns-in-New-clause-tried_by c =
     let a = c.args in let f = c.in_ok-c in
@@ -70,11 +58,6 @@ returns-in-New-clause-tried_by c =
     (new-kept m z v a.work.now t.ready t.left f.c.line a.object set (clause_body m.literals f.c) f.c.variables
     (on-action m v z a.slots.now a.work.now f.c t (New set) c.in-New.is) c.in_ok-objects.objects fits.1
     (line-variables m v z a.slots.now a.work.now f.c t (New set) c.in-New.is) fits.0 _ c.number-stood.result first c.number-stood.ensures))
-
-pub returns-in-New-clause-gives : goal.returns-in-New-clause-gives
-returns-in-New-clause-gives c =
-    let fits = subst (λ (k : Action). Fixes k c.args.at.objects c.args.object (Some c.in_ok-objects.objects)) c.in-New.is c.in_ok-objects.ensures in
-    rw c.onward.ensures ((record { here = omega arith; grows = omega arith; few = omega (arith, c.requires.1, fits.0); rest = λ p l n. omega arith }))
 
 pub returns-in-Next-clause-tried_by : goal.returns-in-Next-clause-tried_by
 returns-in-Next-clause-tried_by c =
@@ -88,8 +71,3 @@ returns-in-Next-clause-tried_by c =
     (next-kept m z v a.work.now t.ready t.left f.c.line a.object plus minus body f.c.variables
     (on-action m v z a.slots.now a.work.now f.c t (Next plus minus) c.in-Next.is)
     (line-variables m v z a.slots.now a.work.now f.c t (Next plus minus) c.in-Next.is) (next-variable m v z a.slots.now a.work.now f.c t plus minus c.in-Next.is) fits.0 _ c.number-stood.result first c.number-stood.ensures))
-
-pub returns-in-Next-clause-gives : goal.returns-in-Next-clause-gives
-returns-in-Next-clause-gives c =
-    let fits = subst (λ (k : Action). Fixes k c.args.at.objects c.args.object (Some c.in_ok-objects.objects)) c.in-Next.is c.in_ok-objects.ensures in
-    rw c.onward-in-Next.ensures ((record { here = fits.0; grows = omega arith; few = c.requires.0.1.ready.fits.objects; rest = λ p l n. l }))

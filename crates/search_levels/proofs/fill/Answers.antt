@@ -12,13 +12,11 @@ use Rattle.model.specs.declared.Stage.{Stage}
 use Rattle.model.specs.Records.{stage_at}
 use Rattle.facts_bits.proofs.Laws.{with-bit-length}
 use Rattle.facts_holds.proofs.Laws.{own-part}
-use Rattle.search_states.specs.States.{row}
-use Rattle.search_states.proofs.Laws.{length-row}
 use Rattle.std.specs.Prelude.{Option}
 use Rattle.search_levels.specs.declared.Meeting.{Meeting}
 use Rattle.search_levels.specs.Levels.{levels_bytes, chosen, pair_at, Passed}
 use Rattle.search_levels.specs.Passing.{stands, besides, Led, Met, Ready, meeting_of, Clear}
-use Rattle.search_levels.proofs.Stages.{codes, numbers-long, stage-ready, chosen-after, passed-stage}
+use Rattle.search_levels.proofs.Stages.{codes, stage-ready, chosen-after, passed-stage}
 use Rattle.search_levels.proofs.Filling.{begun, begun-clear, passed-more}
 use Rattle.search_levels.proofs.fill.Goals as goal
 use Rattle.search_levels.proofs.fill.Goals.{After-asked-t}
@@ -34,9 +32,6 @@ loop-k-init c =
       subst (λ (rows : List ℕ). (e f : ℕ) → e < limit.listed → f < limit.listed → (pair_at rows 0 e f ≡ true) ↔ ((e ≡ 0) × (f ≡ 0))) (sym e) (begun levels_bytes (omega arith)),
       λ S R n j l. absurd (omega (arith, l)),
     )
-
-pub asked-t-requires : goal.asked-t-requires
-asked-t-requires c = numbers-long c.args.m c.requires.0 c.loop-k.k c.loop-k-test.true
 
 -- the stage as it is asked
 same-meeting : (g : Stage) (cells : List ℕ) (a a' b b' : Bool) (p p' : Option (List ℕ)) → a ≡ a' → b ≡ b' → p ≡ p' → meeting_of g cells a b p ≡ meeting_of g cells a' b' p'
@@ -81,10 +76,3 @@ loop-k-preserved c =
           (passed-stage a.m c.requires.0 l.k here a.p c.requires.2 S a.work.now a.ways.now l.rows new
           (subst (λ (t : Meeting). (u v : ℕ) → u < limit.listed → v < limit.listed → (pair_at new (suc l.k) u v ≡ true) ↔ (Led a.ways.now t (pair_at l.rows l.k) u v × Met S a.work.now (codes a.m c.requires.0 l.k here) t u v)) (met-as (goal.at.loop-k-preserved c).After-asked-t) (rw c.body.ensures at (p.ensures.1 S R (n ∙ sym long)))))),
     )
-
-pub returns : goal.returns
-returns c =
-    let a = c.args in
-    let l = c.loop-k in
-    let e : l.k ≡ a.m.stagecount = omega arith in
-    record { long = l.invariant.0; begins = l.invariant.4; stages = λ k h. l.invariant.5 (row a.s) c.requires.1.shown (length-row a.s c.requires.1.proper) k (omega (arith, e, h)) }

@@ -9,14 +9,6 @@ use Rattle.facts_bits.specs.Bits.{bit_at}
 use Rattle.search_levels.proofs.first_pair.Goals as goal
 use Rattle.search_levels.proofs.first_pair.Goals.{in-Some+else-e-lt-LISTED, in_default}
 
-pub loop-f-init : goal.loop-f-init
-loop-f-init c = λ g l. omega arith
-
-pub returns-then-e-lt-LISTED : goal.returns-then-e-lt-LISTED
-returns-then-e-lt-LISTED c =
-    let r = c.row-row.ensures in
-    (c.if-e-lt-LISTED.true, c.loop-f-test.true, sym (r.bits c.in-Some.e (omega (arith, c.if-e-lt-LISTED.true))) ∙ c.in-Some.ensures.set)
-
 pub loop-f-preserved : goal.loop-f-preserved
 loop-f-preserved c =
     let none : (e : ℕ) → e < limit.listed → bit_at c.row-row.result e ≡ false = elim (c.match-first.branch) [

@@ -1,16 +1,5 @@
-use native.Mathlib.Omega.{arith}
-use Rattle.search_levels.proofs.Aiming.{seated-small}
 use Rattle.search_levels.proofs.Passing.{fixed-both}
 use Rattle.search_levels.proofs.holds.Goals as goal
-
-pub pointed-requires : goal.pointed-requires
-pointed-requires c =
-    let a = c.args in
-    let r = c.requires.0 in
-    let free = c.free-free in
-    let one = c.seated-one in
-    let both = c.seated-both in
-    (r.asked, r.some, seated-small one.result both.result a.t.second a.f (omega (arith, c.requires.2)) both.ensures (seated-small free.result one.result a.t.first a.e (omega (arith, c.requires.1)) one.ensures (rw (free.ensures 0) (omega arith))))
 
 pub returns : goal.returns
 returns c =

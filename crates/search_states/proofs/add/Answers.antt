@@ -9,7 +9,7 @@ use Rattle.search_states.proofs.add.Goals.{After-contains}
 
 -- the test of the row
 among : (c : After-contains) → elem c.args.state (row c.args.s) ≡ c.contains.result
-among c = sym (c.contains.ensures.value ∙ list_any-elem c.args.state (row c.args.s))
+among c = sym ((rw c.row.ensures at c.contains.ensures.value) ∙ list_any-elem c.args.state (row c.args.s))
 
 pub returns-then-state-eq0 : goal.returns-then-state-eq0
 returns-then-state-eq0 c = let a = c.args in added-empty a.s a.state a.line a.origin c.if-state-eq0.true

@@ -15,7 +15,7 @@ returns c =
     let f = c.from-first.result in
     let k = f + s.count - f in
     let ys = c.sort_unstable.new.self in
-    let same = c.copy_from_slice.ensures.after in
+    let same = rw c.row.ensures at c.copy_from_slice.ensures.after in
     rw same
     (lists-sorted s c.requires ys
     (subst (λ (xs : List ℕ). IsPermutation xs ys) (ap (λ (xs : List ℕ). take k (drop f (put_mid f k zeros xs))) same ∙ mid-row s c.requires f k c.from-first.ensures (omega arith)) c.sort_unstable.ensures.permutation)

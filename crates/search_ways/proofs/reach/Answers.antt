@@ -3,7 +3,7 @@ use native.Mathlib.Omega.{arith}
 use borrow.Author.Rules.{rules}
 use lib.ListN.{length}
 use Rattle.facts_bits.proofs.Laws.{with-bit-length}
-use Rattle.search_ways.proofs.Nearest.{layers-start, layers-more, not_yet, farther}
+use Rattle.search_ways.proofs.Nearest.{layers-start, layers-more, not_yet}
 use Rattle.search_ways.proofs.reach.Goals as goal
 
 pub loop-j-init : goal.loop-j-init
@@ -14,19 +14,9 @@ loop-j-init c =
       λ i l h. omega arith,
     )
 
-pub spread-requires : goal.spread-requires
-spread-requires c =
-    let a = c.args in
-    let l = c.loop-j in
-    let f = not_yet a.links.now a.n c.requires.0 a.from l.j a.to c.requires.2 l.layers l.invariant.1 (sym c.get.ensures ∙ c.if-get.false) l.invariant.2 in
-    (c.requires.0, omega (arith, c.requires.0, farther a.links.now a.n a.from a.to l.j c.requires.4 f))
-
 pub loop-j-preserved : goal.loop-j-preserved
 loop-j-preserved c =
     let a = c.args in
     let l = c.loop-j in
     let f = not_yet a.links.now a.n c.requires.0 a.from l.j a.to c.requires.2 l.layers l.invariant.1 (sym c.get.ensures ∙ c.if-get.false) l.invariant.2 in
     (search rules, layers-more a.links.now a.n c.requires.0 a.from l.j l.layers _ l.invariant.1 c.spread.ensures, f)
-
-pub unreachable-requires : goal.unreachable-requires
-unreachable-requires c = c.loop-j.invariant.2 c.requires.4.0 (omega (arith, c.requires.4.1)) c.requires.4.2

@@ -19,7 +19,7 @@ loop-i-preserved c =
     let a = c.args in
     let l = c.loop-i in (
       search rules,
-      led-more a.m (row a.s) a.s.count a.table.now l.i l.ways _ l.invariant.1 (rw (length-row a.s c.requires.1) at c.lead_clause.ensures),
+      led-more a.m (row a.s) a.s.count a.table.now l.i l.ways _ l.invariant.1 (rw (c.row-states.ensures, length-row a.s c.requires.1) at c.lead_clause.ensures),
     )
 
 pub returns : goal.returns

@@ -9,4 +9,4 @@ returns-then-state-eq0 c = rw c.if-state-eq0.true (known-empty c.args.s c.requir
 
 pub returns : goal.returns
 returns c =
-    rw (c.contains.ensures.value ∙ list_any-elem c.args.state (row c.args.s)) (known-row c.args.s c.args.state c.if-state-eq0.false)
+    rw ((rw c.row.ensures at c.contains.ensures.value) ∙ list_any-elem c.args.state (row c.args.s)) (known-row c.args.s c.args.state c.if-state-eq0.false)

@@ -28,29 +28,29 @@ returns-then-from-eq0 c =
     ((λ h. stuck a.m c.requires.0.model a.s a.to (λ z. c.requires.3 (q ∙ z)) (subst (λ (f : ℕ). Comes (program_of a.m) (row a.s) f a.to) q h)), refl)
 
 pub unwrap-e-requires : goal.unwrap-e-requires
-unwrap-e-requires c = sought-known c.args.from (row c.args.s) c.seek.result c.seek.ensures (listed c.args.s c.args.from c.if-from-eq0.false c.requires.1)
+unwrap-e-requires c = sought-known c.args.from (row c.args.s) c.seek.result (rw c.row.ensures at c.seek.ensures) (listed c.args.s c.args.from c.if-from-eq0.false c.requires.1)
 
 pub way-requires : goal.way-requires
 way-requires c =
-    (c.requires.0, (seated c.args.s c.requires.0.proper c.args.from c.unwrap-e.result c.if-from-eq0.false c.requires.1 (rw c.unwrap-e.ensures at c.seek.ensures).1).0, c.requires.4)
+    (c.requires.0, (seated c.args.s c.requires.0.proper c.args.from c.unwrap-e.result c.if-from-eq0.false c.requires.1 (rw (c.row.ensures, c.unwrap-e.ensures) at c.seek.ensures).1).0, c.requires.4)
 
 pub returns-then-to-eq0 : goal.returns-then-to-eq0
 returns-then-to-eq0 c =
     let a = c.args in
     let r = c.way in
-    rw c.if-to-eq0.true (subst (λ (x : ℕ). Ended (program_of a.m) (row a.s) x 0 a.run.now r.new.out r.result) (seated c.args.s c.requires.0.proper c.args.from c.unwrap-e.result c.if-from-eq0.false c.requires.1 (rw c.unwrap-e.ensures at c.seek.ensures).1).1 r.ensures)
+    rw c.if-to-eq0.true (subst (λ (x : ℕ). Ended (program_of a.m) (row a.s) x 0 a.run.now r.new.out r.result) (seated c.args.s c.requires.0.proper c.args.from c.unwrap-e.result c.if-from-eq0.false c.requires.1 (rw (c.row.ensures, c.unwrap-e.ensures) at c.seek.ensures).1).1 r.ensures)
 
 pub unwrap-u-requires : goal.unwrap-u-requires
-unwrap-u-requires c = sought-known c.args.to (row c.args.s) c.seek-2.result c.seek-2.ensures (listed c.args.s c.args.to c.if-to-eq0.false c.requires.2)
+unwrap-u-requires c = sought-known c.args.to (row c.args.s) c.seek-2.result (rw c.row-2.ensures at c.seek-2.ensures) (listed c.args.s c.args.to c.if-to-eq0.false c.requires.2)
 
 pub between-requires : goal.between-requires
 between-requires c =
-    (c.requires.0, (seated c.args.s c.requires.0.proper c.args.from c.unwrap-e.result c.if-from-eq0.false c.requires.1 (rw c.unwrap-e.ensures at c.seek.ensures).1).0, (seated c.args.s c.requires.0.proper c.args.to c.unwrap-u.result c.if-to-eq0.false c.requires.2 (rw c.unwrap-u.ensures at c.seek-2.ensures).1).0, c.requires.4)
+    (c.requires.0, (seated c.args.s c.requires.0.proper c.args.from c.unwrap-e.result c.if-from-eq0.false c.requires.1 (rw (c.row.ensures, c.unwrap-e.ensures) at c.seek.ensures).1).0, (seated c.args.s c.requires.0.proper c.args.to c.unwrap-u.result c.if-to-eq0.false c.requires.2 (rw (c.row-2.ensures, c.unwrap-u.ensures) at c.seek-2.ensures).1).0, c.requires.4)
 
 pub returns : goal.returns
 returns c =
     let a = c.args in
     let r = c.between in
-    subst (λ (y : ℕ). Ended (program_of a.m) (row a.s) a.from y a.run.now r.new.out r.result) (seated c.args.s c.requires.0.proper c.args.to c.unwrap-u.result c.if-to-eq0.false c.requires.2 (rw c.unwrap-u.ensures at c.seek-2.ensures).1).1
-    (subst (λ (x : ℕ). Ended (program_of a.m) (row a.s) x (state (row a.s) c.unwrap-u.result) a.run.now r.new.out r.result) (seated c.args.s c.requires.0.proper c.args.from c.unwrap-e.result c.if-from-eq0.false c.requires.1 (rw c.unwrap-e.ensures at c.seek.ensures).1).1
+    subst (λ (y : ℕ). Ended (program_of a.m) (row a.s) a.from y a.run.now r.new.out r.result) (seated c.args.s c.requires.0.proper c.args.to c.unwrap-u.result c.if-to-eq0.false c.requires.2 (rw (c.row-2.ensures, c.unwrap-u.ensures) at c.seek-2.ensures).1).1
+    (subst (λ (x : ℕ). Ended (program_of a.m) (row a.s) x (state (row a.s) c.unwrap-u.result) a.run.now r.new.out r.result) (seated c.args.s c.requires.0.proper c.args.from c.unwrap-e.result c.if-from-eq0.false c.requires.1 (rw (c.row.ensures, c.unwrap-e.ensures) at c.seek.ensures).1).1
     (between-ended a.m a.s c.unwrap-e.result c.unwrap-u.result a.run.now r.new.out r.result r.ensures))

@@ -13,7 +13,7 @@ returns-in_err-u c =
     let a = c.args in
     let m = c.requires.0 in
     let k = length-row a.s m.proper in
-    rw c.from_residual.ensures (no_way (program_of a.m) m.model.safe (row a.s) m.whole a.from (omega (arith, c.requires.1, k)) (slot-live a.m m.model a.s m.proper a.links.now m.single a.from c.requires.1) c.in_err-u.ensures, refl)
+    rw c.from_residual.ensures (no_way (program_of a.m) m.model.safe (row a.s) m.whole a.from (omega (arith, c.requires.1, k)) (slot-live a.m m.model a.s m.proper a.moves.now.steps m.single a.from c.requires.1) c.in_err-u.ensures, refl)
 
 pub returns : goal.returns
 returns c =
@@ -22,5 +22,5 @@ returns c =
     let k = length-row a.s m.proper in
     let w = c.way-k in
     rw add-one
-    (one_more (program_of a.m) m.model.safe (row a.s) m.whole a.from c.in_ok-u.u (omega (arith, c.requires.1, k)) (slot-live a.m m.model a.s m.proper a.links.now m.single a.from c.requires.1) c.in_ok-u.ensures a.out.now w.new.out w.result
+    (one_more (program_of a.m) m.model.safe (row a.s) m.whole a.from c.in_ok-u.u (omega (arith, c.requires.1, k)) (slot-live a.m m.model a.s m.proper a.moves.now.steps m.single a.from c.requires.1) c.in_ok-u.ensures a.out.now w.new.out w.result
     c.unwrap.result (omega (arith, w.ensures.few, k, c.requires.2, w.auto.out)) w.ensures (rw c.unwrap.ensures at c.emptier.ensures))

@@ -1,12 +1,11 @@
-use mathlib.Core.Path.{refl, ap, ◌∙◌, subst}
+use mathlib.Core.Path.{ap, ◌∙◌, subst}
 use mathlib.Core.List.{List}
 use Prim.Native.Nat.{ℕ, ◌≤◌}
-use native.Mathlib.Omega.{arith}
 use lib.ListN.{length}
+use Rattle.rows.proofs.Options.{some_of}
 use Rattle.model.specs.Records.{program_of, question_of}
 use Rattle.striking.specs.Striking.{most, rising}
 use Rattle.striking.proofs.Striking.{not-faulty}
-use Rattle.strike_list.specs.declared.Lines.{Lines}
 use Rattle.strike_list.specs.Lists.{listed}
 use Rattle.strike_list.proofs.Named.{rising-few}
 use Rattle.strike_list.proofs.Records.{listed-shown}
@@ -18,12 +17,6 @@ use Rattle.strike_calls.proofs.choose.Goals.{After-rising-lines}
 few : (c : After-rising-lines) → length (rising c.args.list.now) ≤ most
 few c = rising-few (program_of c.args.m) c.args.list.now c.requires.1
 
-pub fill-requires : goal.fill-requires
-fill-requires c = (c.requires.0, omega (arith, few c, ap (λ (k : Lines). k.count) c.rising-lines.ensures))
-
-pub returns-in_default : goal.returns-in_default
-returns-in_default c = (c.in_default.ensures, refl, refl)
-
 pub returns : goal.returns
 returns c =
     let L = c.args.list.now in
@@ -34,5 +27,5 @@ returns c =
       once = ((not-faulty P L).0 c.requires.1).2;
       few = few (goal.at.returns c).After-rising-lines;
       lines = c.rising-lines.ensures;
-      filled = subst (λ (xs : List ℕ). Filled P Q xs c.in-Some.table) lines c.in-Some.ensures;
+      filled = subst (λ (xs : List ℕ). Filled P Q xs c.in_ok-table.table) lines (rw (some_of _ c.ok_or.ensures.value c.in_ok-table.was) at c.fill.ensures);
     }

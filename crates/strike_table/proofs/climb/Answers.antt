@@ -1,20 +1,10 @@
-use mathlib.Core.Path.{refl, ◌∙◌}
+use mathlib.Core.Path.{◌∙◌}
 use native.Mathlib.Omega.{arith}
-use borrow.Author.Rules.{rules}
 use Rattle.model.specs.Records.{program_of, question_of}
 use Rattle.strike_list.specs.Lists.{listed}
-use Rattle.strike_table.proofs.Laws.{next-below, onward-same, onward_then, ready_on}
+use Rattle.strike_table.proofs.Laws.{next-below, onward_then, ready_on}
 use Rattle.strike_table.proofs.climb.Goals as goal
 use Rattle.strike_table.proofs.climb.Goals.{else-decide, then-decide}
-
-pub loop-i-init : goal.loop-i-init
-loop-i-init c = (search rules, onward-same _ _ _ _ c.requires.0.right, refl)
-
-pub overflow_cast-next : goal.overflow_cast-next
-overflow_cast-next c = omega (arith, c.requires.0.few)
-
-pub overflow_shl-next : goal.overflow_shl-next
-overflow_shl-next c = omega (arith, c.requires.0.few)
 
 pub decide-requires : goal.decide-requires
 decide-requires c =
@@ -26,6 +16,3 @@ loop-i-preserved c =
     let l = c.loop-i in
     let d = c.decide in
     (elim (c.if-decide.branch) [ then-decide w ↦ rw w.top-is (next-below c.args.l.count l.i l.top _ c.requires.0.all l.invariant.0 (omega arith)) | else-decide w ↦ rw w.top-is l.invariant.0 ], onward_then (program_of c.args.m) (question_of c.args.m) (listed c.args.l) _ _ _ l.invariant.1 d.ensures.0.onward, d.ensures.1 ∙ l.invariant.2)
-
-pub returns : goal.returns
-returns c = (c.loop-i.invariant.1, c.loop-i.invariant.2)

@@ -1,14 +1,10 @@
-use mathlib.Core.Path.{refl}
 use Rattle.model.specs.Records.{program_of, question_of}
 use Rattle.strike_list.specs.Lists.{listed}
-use Rattle.strike_table.proofs.Laws.{marked-decides, onward-same, total-most}
+use Rattle.strike_table.proofs.Laws.{marked-decides, total-most}
 use Rattle.strike_table.proofs.decide.Goals as goal
 
 pub mark-requires : goal.mark-requires
 mark-requires c = total-most c.args.l.count _ c.requires.0.few c.requires.0.all
-
-pub returns-in-Some : goal.returns-in-Some
-returns-in-Some c = (record { onward = onward-same (program_of c.args.m) (question_of c.args.m) (listed c.args.l) _ c.requires.0.right; told = c.in-Some.is }, refl)
 
 pub returns : goal.returns
 returns c =

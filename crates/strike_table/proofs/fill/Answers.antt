@@ -21,12 +21,6 @@ long count total l e = length-take-le total blank (omega (arith, total-most coun
 all : (c : After-ways-total) → c.ways-total.result ≡ 2 ^ length (listed c.args.l)
 all c = let e : length c.args.l.lines ≡ most = search rules in c.ways-total.ensures ∙ ap (λ (n : ℕ). 2 ^ n) (sym (listed-count c.args.l e c.requires.1))
 
-pub search-requires : goal.search-requires
-search-requires c = (c.requires.0, omega (arith, length-replicate {A = ℕ} room 0))
-
-pub returns-in_err-whole : goal.returns-in_err-whole
-returns-in_err-whole c = rw c.from_residual.ensures c.in_err-whole.ensures.0
-
 pub slice_bounds-said-end : goal.slice_bounds-said-end
 slice_bounds-said-end c = total-most c.args.l.count _ c.requires.1 c.ways-total.ensures
 

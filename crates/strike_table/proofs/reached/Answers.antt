@@ -1,15 +1,13 @@
-use mathlib.Core.Path.{ap, ◌∙◌}
-use Rattle.striking.specs.Numbers.{numbered}
-use Rattle.strike_list.specs.Lists.{listed}
-use Rattle.strike_list.proofs.Records.{listed-shown}
-use Rattle.strike_table.proofs.Laws.{struck-sparse, struck-verdict}
+use mathlib.Core.Path.{refl}
+use Rattle.std.specs.Prelude.{Option, Some, None, MatchOption, IsSome}
+use Rattle.search.specs.declared.Found.{Found}
+use Rattle.strike_table.proofs.Laws.{struck-sparse}
 use Rattle.strike_table.proofs.reached.Goals as goal
 
-pub unreachable-requires : goal.unreachable-requires
-unreachable-requires c = struck-sparse c.args.m _ _ c.strike-struck.ensures c.requires.1 c.in_default.ensures.0
+-- a search finds something, where there are not too many states
+there : (P : Type 0) (Q : Found → Type 0) (r : Option Found) → MatchOption r P Q → (P → ⊥) → IsSome r
+there P Q None h never = absurd (never h)
+there P Q (Some f) h never = refl
 
-pub returns : goal.returns
-returns c =
-    let C = numbered (listed c.args.l) c.args.n in
-    let h = c.choose-chosen in
-    (struck-verdict c.args.m _ _ c.strike-struck.ensures C (ap listed h.ensures ∙ listed-shown C) _ c.in-Some.ensures.0.verdict, c.in-Some.ensures.1)
+pub unwrap-requires : goal.unwrap-requires
+unwrap-requires c = there _ _ c.search.result c.search.ensures.0 (struck-sparse c.args.m _ _ c.strike-struck.ensures c.requires.1)

@@ -3,7 +3,7 @@ use mathlib.Core.List.{List}
 use Prim.Native.Nat.{ℕ}
 use Rattle.std.specs.Prelude.{Option, Some, None, ok_or}
 use Rattle.rows.specs.declared.Row.TheVariants.{Carried}
-use Rattle.text_faults.proofs.Laws.{passed}
+use Rattle.rows.proofs.Options.{passed}
 use Rattle.text_ask.specs.Asks.{cells_of, finished}
 use Rattle.text_ask.proofs.finish.Goals as goal
 

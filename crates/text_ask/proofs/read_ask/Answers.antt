@@ -2,7 +2,7 @@ use mathlib.Core.Path.{refl, sym, ap, ◌∙◌}
 use mathlib.Core.List.{[], ◌∷◌}
 use native.Mathlib.Omega.{arith}
 use Rattle.std.specs.Prelude.{Err}
-use Rattle.text_faults.proofs.Laws.{passed, none_of, some_of}
+use Rattle.rows.proofs.Options.{passed, none_of, some_of}
 use Rattle.text_faults.specs.Faults.{unshaped}
 use Rattle.text_stages.proofs.Adding.{none-aside}
 use Rattle.text_ask.proofs.Laws.{aside-more, aside-carrying}

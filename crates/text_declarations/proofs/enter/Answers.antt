@@ -1,4 +1,3 @@
-use mathlib.Core.Path.{◌∙◌}
 use native.Mathlib.Omega.{arith}
 use Rattle.text_declarations.proofs.Laws.{tally-le}
 use Rattle.text_declarations.proofs.enter.Goals as goal
@@ -8,6 +7,3 @@ overflow_cast-name c = let d = c.args.d in omega (arith, c.requires, c.tally_of-
 
 pub overflow_add-name : goal.overflow_add-name
 overflow_add-name c = let d = c.args.d in omega (arith, c.requires, c.tally_of-index.ensures, tally-le c.args.class d.names d.count)
-
-pub returns : goal.returns
-returns c = c.add.ensures ∙ rw c.tally_of-index.ensures

@@ -2,7 +2,7 @@ use Prim.Native.Nat.{◌+◌}
 use lib.ListN.{drop}
 use Rattle.grammar.specs.Shapes.{state_rest, rel_rest}
 use Rattle.text_names.specs.Names.{declared_of}
-use Rattle.text_faults.proofs.Laws.{passed}
+use Rattle.rows.proofs.Options.{passed}
 use Rattle.text_lines.proofs.Laws.{state-none, rel-none, line-state, line-rel, line-undeclared, line-declared, line-refused, line-stored, line-storable}
 use Rattle.text_lines.proofs.read_line.Goals as goal
 

@@ -7,26 +7,25 @@ use Rattle.text_rows.proofs.read_row.Goals as goal
 pub loop-init : goal.loop-init
 loop-init g c = rw (sub-zero c.args.n) (row-start c.requires.0, c.requires.1)
 
-pub returns-then-at_byte : goal.returns-then-at_byte
-returns-then-at_byte g c = let f = c.at_byte.ensures.found c.if-at_byte.true in row-closed c.loop.invariant.0 f.0 f.1
+pub returns-in-Some : goal.returns-in-Some
+returns-in-Some g c = row-closed c.loop.invariant.0 c.in-Some.ensures
 
-pub returns-then-not-at_byte : goal.returns-then-not-at_byte
-returns-then-not-at_byte g c = reading-ends c.loop.invariant.0.reading (c.at_byte.ensures.missing c.if-at_byte.false) (c.at_byte-in-loop.ensures.missing c.if-not-at_byte.true)
+pub returns-in_err-past : goal.returns-in_err-past
+returns-in_err-past g c = rw c.from_residual.ensures (reading-ends c.loop.invariant.0.reading c.in_default.ensures c.in_err-past.ensures)
 
 pub add-requires : goal.add-requires
-add-requires g c = (omega (arith, (c.at_byte-in-loop.ensures.found c.if-not-at_byte.false).0), row-room c.loop.invariant.0 (omega arith) c.loop.invariant.1)
+add-requires g c = (c.in_ok-past.ensures.ends, row-room c.loop.invariant.0 (omega arith) c.loop.invariant.1)
 
 pub returns-in_err-t : goal.returns-in_err-t
-returns-in_err-t g c = rw c.from_residual.ensures (reading-fails c.loop.invariant.0.reading (c.at_byte.ensures.missing c.if-at_byte.false) (c.at_byte-in-loop.ensures.found c.if-not-at_byte.false).1 c.in_err-t.ensures)
+returns-in_err-t g c =
+    let p = c.in_ok-past.ensures in
+    rw c.from_residual-in_err-t.ensures (reading-fails c.loop.invariant.0.reading c.in_default.ensures (rw p.begins at p.read) (rw p.begins at c.in_err-t.ensures))
 
 pub loop-preserved : goal.loop-preserved
-loop-preserved g c = (
-  row-more c.loop.invariant.0 (omega arith) (c.at_byte.ensures.missing c.if-at_byte.false) (c.at_byte-in-loop.ensures.found c.if-not-at_byte.false).1 c.in_ok-t.ensures,
-  c.loop.invariant.1,
-)
+loop-preserved g c = (row-more c.loop.invariant.0 (omega arith) c.in_default.ensures c.in_ok-past.ensures c.in_ok-t.ensures, c.loop.invariant.1)
 
-pub returns-then-not-at_byte-2 : goal.returns-then-not-at_byte-2
-returns-then-not-at_byte-2 g c = reading-full c.loop.invariant.0.reading (omega arith) (c.at_byte-2.ensures.missing c.if-not-at_byte-2.true)
+pub returns-in_err-end : goal.returns-in_err-end
+returns-in_err-end g c = rw c.from_residual-in_err-end.ensures (reading-full c.loop.invariant.0.reading (omega arith) c.in_err-end.ensures)
 
 pub returns : goal.returns
-returns g c = let f = c.at_byte-2.ensures.found c.if-not-at_byte-2.false in row-closed c.loop.invariant.0 f.0 f.1
+returns g c = row-closed c.loop.invariant.0 c.in_ok-end.ensures

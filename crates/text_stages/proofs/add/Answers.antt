@@ -1,4 +1,4 @@
-use Rattle.text_faults.proofs.Laws.{passed}
+use Rattle.rows.proofs.Options.{passed}
 use Rattle.text_stages.proofs.Adding.{frame-known, added-fault, number-ready, stage-ready, added-stage}
 use Rattle.text_stages.proofs.add.Goals as goal
 

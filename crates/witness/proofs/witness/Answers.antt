@@ -21,7 +21,7 @@ build-r-requires c =
       p.0.known.proper,
       p.0.known.found,
       omega arith,
-      omega (arith, p.2, building-few a.m a.work.now a.s p.0.known 0, behind-index a.m a.work.now a.s a.rows.now a.table.now a.steps.now a.ways.now p.0 _ 0 a.run.now _ _ _ _ _ h, written-length _ _ _ _ _ _ h.played),
+      omega (arith, p.2, building-few a.m a.work.now a.s p.0.known 0, behind-index a.m a.work.now a.s a.rows.now a.moves.now.table a.moves.now.steps a.moves.now.ways p.0 _ 0 a.run.now _ _ _ _ _ h, written-length _ _ _ _ _ _ h.played),
     )
 
 pub slice_bounds-reverse-end : goal.slice_bounds-reverse-end
@@ -30,7 +30,7 @@ slice_bounds-reverse-end c =
     let a = c.args in
     let h = c.walk-from.ensures in
     let e = c.build-r.ensures in
-    turn-fits _ _ a.run.now _ _ (whole a.m a.work.now a.s a.rows.now a.table.now a.steps.now a.ways.now p.0 a.run.now _ _ _ _ _ _ h e.0 e.1) (omega (arith, p.2))
+    turn-fits _ _ a.run.now _ _ (whole a.m a.work.now a.s a.rows.now a.moves.now.table a.moves.now.steps a.moves.now.ways p.0 a.run.now _ _ _ _ _ _ h e.0 e.1) (omega (arith, p.2))
 
 pub slice_bounds-reverse-end-2 : goal.slice_bounds-reverse-end-2
 slice_bounds-reverse-end-2 c =
@@ -38,7 +38,7 @@ slice_bounds-reverse-end-2 c =
     let a = c.args in
     let h = c.walk-from.ensures in
     let e = c.build-r.ensures in
-    sym (length-take-le _ _ (turn-fits _ _ a.run.now _ _ (whole a.m a.work.now a.s a.rows.now a.table.now a.steps.now a.ways.now p.0 a.run.now _ _ _ _ _ _ h e.0 e.1) (omega (arith, p.2))))
+    sym (length-take-le _ _ (turn-fits _ _ a.run.now _ _ (whole a.m a.work.now a.s a.rows.now a.moves.now.table a.moves.now.steps a.moves.now.ways p.0 a.run.now _ _ _ _ _ _ h e.0 e.1) (omega (arith, p.2))))
 
 pub returns : goal.returns
 returns c =
@@ -46,4 +46,4 @@ returns c =
     let a = c.args in
     let h = c.walk-from.ensures in
     let e = c.build-r.ensures in
-    shown a.m a.work.now a.s a.rows.now a.table.now a.steps.now a.ways.now p.0 a.run.now _ _ (whole a.m a.work.now a.s a.rows.now a.table.now a.steps.now a.ways.now p.0 a.run.now _ _ _ _ _ _ h e.0 e.1) (omega (arith, p.2)) _ (rw c.reverse.ensures.after refl)
+    shown a.m a.work.now a.s a.rows.now a.moves.now.table a.moves.now.steps a.moves.now.ways p.0 a.run.now _ _ (whole a.m a.work.now a.s a.rows.now a.moves.now.table a.moves.now.steps a.moves.now.ways p.0 a.run.now _ _ _ _ _ _ h e.0 e.1) (omega (arith, p.2)) _ (rw c.reverse.ensures.after refl)

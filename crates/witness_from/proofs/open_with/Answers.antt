@@ -82,7 +82,7 @@ lead-requires c =
       p.0.model,
       p.0.proper,
       p.1,
-      (p.2.bits a.slot c.unwrap-to.result (omega (arith, below, most))).0 (subst (λ (v : ℕ). in_row a.ways.now a.slot v ≡ true) (rw c.unwrap-to.ensures at (e.2 0 p.7)) e.1.1),
+      (p.2.bits a.slot c.unwrap-to.result (omega (arith, below, most))).0 (subst (λ (v : ℕ). in_row a.moves.now.ways a.slot v ≡ true) (rw c.unwrap-to.ensures at (e.2 0 p.7)) e.1.1),
       p.5,
       omega (arith, p.9, t.index, t.few, d.index, d.few, f.index, f.few),
     )

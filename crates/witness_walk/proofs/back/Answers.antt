@@ -13,14 +13,14 @@ behind c = c.requires.4.3
 
 -- there is room for the places
 room : (c : Start) → c.args.p.at ≤ limit.carried * limit.walked + limit.stages
-room c = let p = c.requires in let a = c.args in behind-index a.m a.work.now a.s a.rows.now a.table.now a.steps.now a.ways.now p.0 a.cast p.4.0 p.4.1 a.run.now (suc a.k) a.p.pair.first a.p.pair.second a.p.at p.4.3
+room c = let p = c.requires in let a = c.args in behind-index a.m a.work.now a.s a.rows.now a.moves.now.table a.moves.now.steps a.moves.now.ways p.0 a.cast p.4.0 p.4.1 a.run.now (suc a.k) a.p.pair.first a.p.pair.second a.p.at p.4.3
 
 pub previous-q-requires : goal.previous-q-requires
 previous-q-requires c =
     let p = c.requires in
     let a = c.args in
     let h = behind (goal.at.previous-q-requires c).Start in
-    (p.0.known.model, h.level, h.sits.0, h.sits.1, came_from a.m a.work.now a.s a.rows.now a.table.now a.steps.now a.ways.now p.0 a.k a.p.pair.first a.p.pair.second h.level h.sits)
+    (p.0.known.model, h.level, h.sits.0, h.sits.1, came_from a.m a.work.now a.s a.rows.now a.moves.now.table a.moves.now.steps a.moves.now.ways p.0 a.k a.p.pair.first a.p.pair.second h.level h.sits)
 
 pub meet-met-requires : goal.meet-met-requires
 meet-met-requires c =
@@ -31,7 +31,7 @@ meet-met-requires c =
       p.1,
       p.2,
       h.level,
-      came-met a.m a.work.now a.s a.rows.now a.table.now a.steps.now a.ways.now p.0 a.k a.p.pair.first a.p.pair.second h.level h.sits,
+      came-met a.m a.work.now a.s a.rows.now a.moves.now.table a.moves.now.steps a.moves.now.ways p.0 a.k a.p.pair.first a.p.pair.second h.level h.sits,
       omega (arith, room (goal.at.meet-met-requires c).Start, p.3),
     )
 
@@ -52,7 +52,7 @@ errand-at-requires c =
       p.0.mapped,
       omega arith,
       h.level,
-      ready-first a.m a.work.now a.s a.rows.now a.table.now a.steps.now a.ways.now p.0 a.k a.p.pair.first a.p.pair.second h.level h.sits q.result.first q.result.second q.ensures,
+      ready-first a.m a.work.now a.s a.rows.now a.moves.now.table a.moves.now.steps a.moves.now.ways p.0 a.k a.p.pair.first a.p.pair.second h.level h.sits q.result.first q.result.second q.ensures,
       p.2.first,
       omega (arith, room (goal.at.errand-at-requires c).Start, p.3, t.index, t.few, d.index, d.few, effort-most a.s.count (holder a.m 1 a.k) (chosen a.m 1 a.k)),
     )
@@ -62,5 +62,5 @@ returns c =
     let p = c.requires in
     let a = c.args in
     let q = c.previous-q in
-    λ until run₀ above h. behind-back a.m a.work.now a.s a.rows.now a.table.now a.steps.now a.ways.now p.0 a.cast until run₀ a.run.now _ _ _ a.k a.p.pair.first a.p.pair.second q.result.first q.result.second a.p.at _ _ _ above h q.ensures
+    λ until run₀ above h. behind-back a.m a.work.now a.s a.rows.now a.moves.now.table a.moves.now.steps a.moves.now.ways p.0 a.cast until run₀ a.run.now _ _ _ a.k a.p.pair.first a.p.pair.second q.result.first q.result.second a.p.at _ _ _ above h q.ensures
     c.meet-met.ensures c.errand-then.ensures c.errand-at.ensures

@@ -1,12 +1,10 @@
-use mathlib.Core.Path.{◌≡◌, refl, sym, ap, ◌∙◌}
+use mathlib.Core.Path.{◌≡◌, refl, sym, ◌∙◌}
 use mathlib.Core.Bool.{true, false}
 use native.Mathlib.Omega.{arith}
-use lib.ListN.{length}
 use Rattle.search_levels.specs.Levels.{holder, chosen}
-use Rattle.witness_table.proofs.Laws.{length-backwards}
 use Rattle.witness_walk.proofs.Errands.{stay-written, making-few, making-written, ready-as, errand-as}
 use Rattle.witness_walk.proofs.errand.Goals as goal
-use Rattle.witness_walk.proofs.errand.Goals.{Else-not-carries, Else-not-holds, Then-not-carries, Then-not-holds}
+use Rattle.witness_walk.proofs.errand.Goals.{Else-not-holds, Then-not-carries, Then-not-holds}
 
 -- whether the variable stands in the stage, and whether it stood in one before
 without : (c : Then-not-holds) → let a = c.args in holder a.m a.v a.k ≡ false
@@ -17,9 +15,6 @@ has c = sym c.holds.ensures ∙ c.if-not-holds.false
 
 nothing : (c : Then-not-carries) → let a = c.args in chosen a.m a.v a.k ≡ false
 nothing c = sym c.carries.ensures ∙ c.if-not-carries.true
-
-something : (c : Else-not-carries) → let a = c.args in chosen a.m a.v a.k ≡ true
-something c = sym c.carries.ensures ∙ c.if-not-carries.false
 
 pub returns-then-not-holds : goal.returns-then-not-holds
 returns-then-not-holds c =
@@ -34,9 +29,6 @@ make-requires c =
     let inside = ready-as a.m a.s a.from a.to _ _ true false (has (goal.at.make-requires c).Else-not-holds) (nothing (goal.at.make-requires c).Then-not-carries) p.6 in
     (p.0, p.1, p.2, inside, p.7, omega (arith, p.8, making-few a.m a.s p.1 p.2 a.to inside))
 
-pub shape_of-run-then-not-carries : goal.shape_of-run-then-not-carries
-shape_of-run-then-not-carries c = ap length c.make.ensures.1 ∙ length-backwards _ _ _
-
 pub returns-then-not-carries : goal.returns-then-not-carries
 returns-then-not-carries c =
     let p = c.requires in
@@ -45,17 +37,3 @@ returns-then-not-carries c =
     let inside = ready-as a.m a.s a.from a.to _ _ true false (has (goal.at.returns-then-not-carries c).Else-not-holds) (nothing (goal.at.returns-then-not-carries c).Then-not-carries) p.6 in
     errand-as a.m a.s a.from a.to _ _ true false (has (goal.at.returns-then-not-carries c).Else-not-holds) (nothing (goal.at.returns-then-not-carries c).Then-not-carries) a.object a.run.now _ a.at t.result
     (making-written a.m a.s a.object a.from a.to p.0 p.1 p.2 inside p.7 a.run.now _ a.at t.result t.ensures.0 t.ensures.1)
-
-pub lead-requires : goal.lead-requires
-lead-requires c =
-    let p = c.requires in
-    let a = c.args in
-    (p.0, p.1, p.3, ready-as a.m a.s a.from a.to _ _ true true (has (goal.at.lead-requires c).Else-not-holds) (something (goal.at.lead-requires c).Else-not-carries) p.6, p.7, p.8)
-
-pub shape_of-run : goal.shape_of-run
-shape_of-run c = ap length c.lead.ensures.written ∙ length-backwards _ _ _
-
-pub returns : goal.returns
-returns c =
-    let a = c.args in
-    errand-as a.m a.s a.from a.to _ _ true true (has (goal.at.returns c).Else-not-holds) (something (goal.at.returns c).Else-not-carries) a.object a.run.now _ a.at c.lead.result c.lead.ensures

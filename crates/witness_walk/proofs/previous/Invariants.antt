@@ -5,4 +5,4 @@ use Rattle.witness_walk.specs.Walk.{Source}
 use Rattle.witness_walk.proofs.previous.Given as goal
 
 abbrev pub invariant-loop-v : goal.invariant-loop-v
-invariant-loop-v l = (w : ℕ) → w < l.v → (u : ℕ) × (u < limit.listed) × Source l.rows l.ways (limit.listed * l.k + w) l.one l.begun l.first u × Moved l.ways l.two l.began w l.second → ⊥
+invariant-loop-v l = (w : ℕ) → w < l.v → (u : ℕ) × (u < limit.listed) × Source l.rows l.ways (limit.listed * l.k + w) l.first_stands l.first_began l.first u × Moved l.ways l.second_stands l.second_began w l.second → ⊥

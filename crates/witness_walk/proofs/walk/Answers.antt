@@ -17,21 +17,10 @@ pub loop-k-init : goal.loop-k-init
 loop-k-init c =
     let p = c.requires in
     let a = c.args in
-    (p.3, behind-start a.m a.work.now a.s a.rows.now a.table.now a.steps.now a.ways.now p.0 a.cast a.until a.run.now p.3 a.goal.first a.goal.second p.4)
+    (p.3, behind-start a.m a.work.now a.s a.rows.now a.moves.now.table a.moves.now.steps a.moves.now.ways p.0 a.cast a.until a.run.now p.3 a.goal.first a.goal.second p.4)
 
 pub back-p-requires : goal.back-p-requires
 back-p-requires c =
     let p = c.requires in
     let a = c.args in
     (p.0, p.1, p.2, omega (arith, p.5), (a.until, a.run.now, omega arith, behind (goal.at.back-p-requires c).In-loop-k))
-
-pub loop-k-preserved : goal.loop-k-preserved
-loop-k-preserved c =
-    let a = c.args in
-    (omega arith, c.back-p.ensures a.until a.run.now (omega arith) (behind (goal.at.loop-k-preserved c).In-loop-k))
-
-pub returns : goal.returns
-returns c =
-    let a = c.args in
-    let l = c.loop-k in
-    subst (λ (n : ℕ). Behind a.m a.s a.cast a.until a.rows.now a.run.now l.run n l.p.pair.first l.p.pair.second l.p.at) (omega (arith, l.invariant.0)) l.invariant.1

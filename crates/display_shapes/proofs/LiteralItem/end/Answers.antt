@@ -1,18 +1,11 @@
-use native.Mathlib.Omega.{arith}
 use Rattle.display_shapes.proofs.Laws.{not-missing, not-closed, plain-found}
 use Rattle.display_shapes.proofs.LiteralItem.end.Goals as goal
 
-pub atom_end-requires : goal.atom_end-requires
-atom_end-requires c = omega (arith, (c.at_bytes.ensures.found c.if-at_bytes.true).0)
+pub returns-in_default : goal.returns-in_default
+returns-in_default c = plain-found c.args.text.now c.args.at c.in_default.ensures c.atom_end.result c.atom_end.ensures
 
-pub returns-in_err-e : goal.returns-in_err-e
-returns-in_err-e c = rw c.from_residual.ensures (not-missing c.args.text.now c.args.at (c.at_bytes.ensures.found c.if-at_bytes.true).1 c.in_err-e.ensures)
+pub returns-in_err-atom_end : goal.returns-in_err-atom_end
+returns-in_err-atom_end c = rw c.from_residual.ensures (not-missing c.args.text.now c.args.at c.in-Some.ensures c.in_err-atom_end.ensures)
 
-pub close-requires : goal.close-requires
-close-requires c = c.in_ok-e.ensures.ends
-
-pub returns-in_ok-e : goal.returns-in_ok-e
-returns-in_ok-e c = not-closed c.args.text.now c.args.at (c.at_bytes.ensures.found c.if-at_bytes.true).1 c.in_ok-e.ensures c.close.result c.close.ensures
-
-pub returns-else-at_bytes : goal.returns-else-at_bytes
-returns-else-at_bytes c = plain-found c.args.text.now c.args.at (c.at_bytes.ensures.missing c.if-at_bytes.false) c.atom_end-else-at_bytes.result c.atom_end-else-at_bytes.ensures
+pub returns : goal.returns
+returns c = not-closed c.args.text.now c.args.at c.in-Some.ensures c.in_ok-atom_end.ensures c.past.result c.past.ensures
