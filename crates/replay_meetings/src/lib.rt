@@ -57,7 +57,7 @@ fn named(g: Stage, number: u32, c: Choice) -> Option<usize>
     ensures { Named g number c result }
 {
     let x = g.seat(number)?;
-    facts_candidates::element(c, x)
+    c.element(x)
 }
 
 // Whether an object may be met where another, or none, is carried.

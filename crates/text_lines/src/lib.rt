@@ -1,7 +1,7 @@
 // One line of the bracket text that is no `ask` line.
 #![tactic(auto)]
 
-ghost use Rattle.std.specs.Prelude.{◌≡◌, ◌+◌, ◌≤◌, ◌<◌, length, drop};
+ghost use Rattle.std.specs.Prelude.{◌+◌, ◌≤◌, ◌<◌, length};
 ghost use Rattle.semantics.specs.Models.{Program};
 ghost use Rattle.text_names.specs.Names as names;
 ghost use Rattle.text_declarations.specs.Declares.{Limited};

@@ -1,15 +1,14 @@
 // The meetings of a shown run: the objects that meet a stage, and the places that are written for them.
 #![tactic(auto)]
 
-ghost use Rattle.std.specs.Prelude.{◌≡◌, List, [], ◌∷◌, ℕ, ◌+◌, ◌*◌, ◌≤◌, ◌<◌, length};
+ghost use Rattle.std.specs.Prelude.{◌≡◌, [], ◌∷◌, ℕ, ◌+◌, ◌*◌, ◌≤◌, ◌<◌, length};
 ghost use Rattle.std.proofs.Math.Option.{Option};
 ghost use Rattle.limits.specs.Limits as limit;
 ghost use Rattle.semantics.specs.Building.{follows};
 ghost use Rattle.model.specs.Places.{number_of};
-ghost use Rattle.model.specs.Records.{body_at, stage_body, stage_at};
+ghost use Rattle.model.specs.Records.{stage_body, stage_at};
 ghost use Rattle.model.specs.WellFormed.{WellFormed};
 ghost use Rattle.facts_bits.specs.Width as width;
-ghost use Rattle.facts_table.specs.Table.{Consistent, Rows};
 ghost use Rattle.facts_candidates.specs.Choices.{chosen, Own};
 ghost use Rattle.search_states.specs.States.{row};
 ghost use Rattle.facts_holds.specs.Shows.{Seeks};
@@ -35,7 +34,7 @@ fn name(stage: Stage, variable: u32, e: usize, c: Choice) -> Choice
     ensures { Names stage variable e c result }
 {
     match stage.seat(variable) {
-        Some(x) => facts_candidates::choose(c, x, e),
+        Some(x) => c.choose(x, e),
         None => c,
     }
 }
@@ -99,7 +98,7 @@ fn choose(
     requires { Known m work.now s × Own width.slots slots.now × (k < m.stagecount) × ((σ : ℕ → ℕ) × Seating m work.now s k first second σ) }
     ensures { (σ : ℕ → ℕ) × Seating m work.now s k first second σ × Chooses (stage_at m k) result σ }
 {
-    let free = facts_candidates::free();
+    let free = Choice::free();
     let fixed = name_both(m, k, first, second, free);
     // A level's pair has a choice that meets the stage.
     seek_stage(work, slots, m, s, k, fixed).unwrap()
@@ -112,8 +111,8 @@ fn behind(n: usize, base: u32, c: Choice) -> Choice
 {
     let mut r = c;
     for x in 0..n {
-        if let Some(e) = facts_candidates::element(c, x) {
-            r = facts_candidates::choose(r, x, base as usize + e);
+        if let Some(e) = c.element(x) {
+            r = r.choose(x, base as usize + e);
         }
     }
     r
@@ -125,9 +124,9 @@ fn number(k: usize, n: usize, c: Choice) -> u32
     requires { (k < 127) × (n ≤ limit.variables) × ((x : ℕ) → x < n → chosen c x < limit.objects) }
     ensures { result ≡ number_of (meeting k n c) }
 {
-    let first = facts_candidates::object(n, 0, c);
-    let second = facts_candidates::object(n, 1, c);
-    let third = facts_candidates::object(n, 2, c);
+    let first = c.object(n, 0);
+    let second = c.object(n, 1);
+    let third = c.object(n, 2);
     let stage = k as u32 + 1;
     model::number_of(Place::Meeting {
         stage,
@@ -185,7 +184,7 @@ fn attempt(
     requires { Known m work.now s × Own width.slots slots.now }
     ensures { Attempts m work.now s u first second result }
 {
-    let free = facts_candidates::free();
+    let free = Choice::free();
     let one = name_first(m, u, free);
     let fixed = name_both(m, 0, first, second, one);
     seek_stage(work, slots, m, s, 0, fixed)

@@ -1,4 +1,3 @@
-use Rattle.limits.specs.Limits as limit
 use Rattle.game_rounds.proofs.Turning.{beginning-none}
 use Rattle.game_rounds.proofs.outset.Goals as goal
 

@@ -1,4 +1,3 @@
-use Rattle.limits.specs.Limits as limit
 use Rattle.search_ways.proofs.Laws.{closed-law}
 use borrow.Author.Rules.{rules}
 use Rattle.search.proofs.tables.Goals as goal
