@@ -103,33 +103,23 @@ module _ (text : seq.List ℕ) (at : ℕ) where
   unfolding list
   list-empty {D} p = record { ws = []; begins = omega (arith, p.begins); ends = p.ends; read = rw p.read; holds = empty-list D }
 
-  module _ (p : after (bytes "()") (drop at text) ≡ none) where
-    pub list-unopened : after (bytes "(") (drop at text) ≡ none → list (drop at text) ≡ none
+  module _ (p : after (bytes "()") (drop at text) ≡ none) {a : ℕ} (q : BytesEnd text at (bytes "(") a) {e : ℕ} (m : NameEnd text a e) where
+    list-unended : rest name (limit.list - 1) (drop e text) ≡ none → list (drop at text) ≡ none
     unfolding list bracket
-    list-unopened q = rw (p, q)
+    list-unended v = rw (p, q.read, m.read, v)
 
-    module _ {a : ℕ} (q : BytesEnd text at (bytes "(") a) where
-      pub list-nameless : name (drop a text) ≡ none → list (drop at text) ≡ none
+    module _ {d : names.Declared} (valid : Valid text d) where
+      list-found : {t : Chosen} {r : Taken Chosen} → NameAdded text (declared_of text d) (Ok 0) a e t → RowEnd name (Keeps text d) text e (limit.list - 1) t r → ListEnd text (declared_of text d) at r
       unfolding list bracket
-      list-nameless m = rw (p, q.read, m)
+      list-found ad v = record {
+        ws = slice a e text ∷ v.more;
+        begins = omega (arith, q.begins, m.begins, v.begins);
+        ends = v.ends;
+        read = rw (p, q.read, m.read, v.found);
+        holds = (v.holds tt (slice a e text ∷ []) (valid, ad.added [] (empty-list (declared_of text d)))).1;
+      }
 
-      module _ {e : ℕ} (m : NameEnd text a e) where
-        list-unended : rest name (limit.list - 1) (drop e text) ≡ none → list (drop at text) ≡ none
-        unfolding list bracket
-        list-unended v = rw (p, q.read, m.read, v)
-
-        module _ {d : names.Declared} (valid : Valid text d) where
-          list-found : {t : Chosen} {r : Taken Chosen} → NameAdded text (declared_of text d) (Ok 0) a e t → RowEnd name (Keeps text d) text e (limit.list - 1) t r → ListEnd text (declared_of text d) at r
-          unfolding list bracket
-          list-found ad v = record {
-            ws = slice a e text ∷ v.more;
-            begins = omega (arith, q.begins, m.begins, v.begins);
-            ends = v.ends;
-            read = rw (p, q.read, m.read, v.found);
-            holds = (v.holds tt (slice a e text ∷ []) (valid, ad.added [] (empty-list (declared_of text d)))).1;
-          }
-
-          pub list-read : {t : Chosen} (r : Option (Taken Chosen)) → NameAdded text (declared_of text d) (Ok 0) a e t
-              → MatchOption r (rest name (limit.list - 1) (drop e text) ≡ none) (RowEnd name (Keeps text d) text e (limit.list - 1) t) → MatchOption r (list (drop at text) ≡ none) (ListEnd text (declared_of text d) at)
-          list-read None ad v = list-unended v
-          list-read (Some r) ad v = list-found ad v
+      pub list-read : {t : Chosen} (r : Option (Taken Chosen)) → NameAdded text (declared_of text d) (Ok 0) a e t
+          → MatchOption r (rest name (limit.list - 1) (drop e text) ≡ none) (RowEnd name (Keeps text d) text e (limit.list - 1) t) → MatchOption r (list (drop at text) ≡ none) (ListEnd text (declared_of text d) at)
+      list-read None ad v = list-unended v
+      list-read (Some r) ad v = list-found ad v

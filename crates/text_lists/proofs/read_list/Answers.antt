@@ -2,7 +2,8 @@ use mathlib.Core.List.{[], ◌∷◌}
 use native.Mathlib.Omega.{arith}
 use lib.Seq.{slice}
 use Rattle.text_names.specs.Names.{declared_of}
-use Rattle.text_lists.proofs.Laws.{empty-list, list-empty, list-unopened, list-nameless, list-read}
+use Rattle.text_scan.proofs.Openings.{list-unopened, list-nameless}
+use Rattle.text_lists.proofs.Laws.{empty-list, list-empty, list-read}
 use Rattle.text_lists.proofs.read_list.Goals as goal
 
 pub returns-in-Some : goal.returns-in-Some
