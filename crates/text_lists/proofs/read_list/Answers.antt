@@ -15,9 +15,6 @@ returns-in_err-a c = rw c.from_residual.ensures (list-unopened c.args.text.now c
 pub returns-in_err-e : goal.returns-in_err-e
 returns-in_err-e c = rw c.from_residual-in_err-e.ensures (list-nameless c.args.text.now c.args.at c.in_default.ensures c.in_ok-a.ensures c.in_err-e.ensures)
 
-pub add_name-requires : goal.add_name-requires
-add_name-requires c = let x = c.in_ok-e.ensures in (c.requires.1, omega (arith, x.begins), x.ends)
-
 pub read_row-requires : goal.read_row-requires
 read_row-requires c = (c.in_ok-e.ensures.ends, (tt, slice c.in_ok-a.a c.in_ok-e.e c.args.text.now ∷ [], omega arith, (c.requires.1, c.add_name.ensures.added [] (empty-list (declared_of c.args.text.now c.args.d)))))
 
