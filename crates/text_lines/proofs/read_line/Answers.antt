@@ -6,9 +6,6 @@ use Rattle.rows.proofs.Options.{passed}
 use Rattle.text_lines.proofs.Laws.{state-none, rel-none, line-state, line-rel, line-undeclared, line-declared, line-refused, line-stored, line-storable}
 use Rattle.text_lines.proofs.read_line.Goals as goal
 
-pub read_state-requires : goal.read_state-requires
-read_state-requires c = let f = (c.at_bytes.ensures.found c.if-at_bytes.true).0 in (f, c.requires.1, c.requires.2, c.requires.3)
-
 pub returns-in_err-d : goal.returns-in_err-d
 returns-in_err-d c =
     let s = drop (c.args.at + 7) c.args.text.now in
@@ -20,9 +17,6 @@ returns-then-at_bytes c =
     let s = drop (c.args.at + 7) c.args.text.now in
     line-declared (state_rest s) (state-none (declared_of c.args.text.now c.args.d.now) c.args.number s) (line-state (drop c.args.at c.args.text.now) (c.at_bytes.ensures.found c.if-at_bytes.true).1) c.in_ok-d.ensures
 
-pub read_rel-requires : goal.read_rel-requires
-read_rel-requires c = let f = (c.at_bytes-2.ensures.found c.if-at_bytes-2.true).0 in (f, c.requires.1, c.requires.2, c.requires.3)
-
 pub returns-in_err-d-2 : goal.returns-in_err-d-2
 returns-in_err-d-2 c =
     let s = drop (c.args.at + 5) c.args.text.now in
@@ -33,9 +27,6 @@ pub returns-then-at_bytes-2 : goal.returns-then-at_bytes-2
 returns-then-at_bytes-2 c =
     let s = drop (c.args.at + 5) c.args.text.now in
     line-declared (rel_rest s) (rel-none (declared_of c.args.text.now c.args.d.now) c.args.number s) (line-rel (drop c.args.at c.args.text.now) (c.at_bytes.ensures.missing c.if-at_bytes.false) (c.at_bytes-2.ensures.found c.if-at_bytes-2.true).1) c.in_ok-d-2.ensures
-
-pub read_clause-requires : goal.read_clause-requires
-read_clause-requires c = (c.requires.0, c.requires.1, c.requires.2, record { states = c.at_bytes.ensures.missing c.if-at_bytes.false; relations = c.at_bytes-2.ensures.missing c.if-at_bytes-2.false })
 
 pub returns-in_err-r : goal.returns-in_err-r
 returns-in_err-r c = let p = passed c.in_err-r.was c.from_residual-in_err-r.ensures.1 in rw p.1 (line-refused c.args.at c.args.number c.requires.2 c.requires.3 p.0 (rw p.2 at c.read_clause.ensures))
