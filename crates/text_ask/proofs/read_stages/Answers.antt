@@ -1,12 +1,7 @@
-use native.Mathlib.Nat.{sub-zero}
 use native.Mathlib.Omega.{arith}
 use Rattle.grammar.proofs.Reading.{reading-full, reading-ends, reading-fails}
-use Rattle.text_stages.proofs.Adding.{none-aside}
-use Rattle.text_ask.proofs.Laws.{aside-more, stages-start, stages-addable, stages-more, stages-closed}
+use Rattle.text_ask.proofs.Laws.{aside-more, stages-more, stages-closed}
 use Rattle.text_ask.proofs.read_stages.Goals as goal
-
-pub loop-init : goal.loop-init
-loop-init c = rw (sub-zero c.args.n) (stages-start c.requires.0, c.requires.1, c.requires.2, c.requires.3, none-aside)
 
 pub returns-then-at_byte : goal.returns-then-at_byte
 returns-then-at_byte c = (stages-closed c.loop.invariant.0 (c.at_byte.ensures.found c.if-at_byte.true).0 (c.at_byte.ensures.found c.if-at_byte.true).1, c.loop.invariant.4)
@@ -14,14 +9,8 @@ returns-then-at_byte c = (stages-closed c.loop.invariant.0 (c.at_byte.ensures.fo
 pub returns-then-not-at_byte : goal.returns-then-not-at_byte
 returns-then-not-at_byte c = (reading-ends c.loop.invariant.0.reading (c.at_byte.ensures.missing c.if-at_byte.false) (c.at_byte-in-loop.ensures.missing c.if-not-at_byte.true), c.loop.invariant.4)
 
-pub read_stage-requires : goal.read_stage-requires
-read_stage-requires c = (omega (arith, (c.at_byte-in-loop.ensures.found c.if-not-at_byte.false).0), c.loop.invariant.1, c.loop.invariant.2)
-
 pub returns-in_err-b : goal.returns-in_err-b
 returns-in_err-b c = (rw c.from_residual.ensures (reading-fails c.loop.invariant.0.reading (c.at_byte.ensures.missing c.if-at_byte.false) (c.at_byte-in-loop.ensures.found c.if-not-at_byte.false).1 c.in_err-b.ensures), c.loop.invariant.4)
-
-pub add-table-requires : goal.add-table-requires
-add-table-requires c = stages-addable c.loop.invariant.0 (omega arith) c.loop.invariant.3 c.in_ok-b.ensures
 
 pub loop-preserved : goal.loop-preserved
 loop-preserved c = (
