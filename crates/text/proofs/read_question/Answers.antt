@@ -1,22 +1,8 @@
-use mathlib.Core.Path.{sym}
 use native.Mathlib.Omega.{arith}
-use lib.Seq.{length-take-le}
 use Rattle.std.proofs.lemmas.Result.{err_from_is_err_and}
-use Rattle.text_opening.proofs.Laws.{fitted-empty}
-use Rattle.text.proofs.Lines.{valid-there, line-failed, line-passed}
+use Rattle.text.proofs.Lines.{line-failed, line-passed}
 use Rattle.text.proofs.Asking.{ask-refused, ask-followed, ask-last}
 use Rattle.text.proofs.read_question.Goals as goal
-
-pub slice_bounds-read_ask-end : goal.slice_bounds-read_ask-end
-slice_bounds-read_ask-end c = let h = c.requires.2.line.ends in sym (length-take-le c.args.e c.args.text.now (omega arith))
-
-pub read_ask-requires : goal.read_ask-requires
-read_ask-requires c =
-    let a = c.args in
-    let so = c.requires.1 in
-    let h = c.requires.2.line.ends in
-    let k = length-take-le a.e a.text.now (omega arith) in
-    (omega (arith, k, c.requires.2.room), omega arith, omega (arith, k, c.requires.0), valid-there so c.requires.2.line, rw c.fit.ensures (fitted-empty a.d a.line so.holds so.stagecount so.stages))
 
 pub returns-in_err-on_line : goal.returns-in_err-on_line
 returns-in_err-on_line c =
