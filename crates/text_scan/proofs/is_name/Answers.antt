@@ -4,8 +4,8 @@ use native.Mathlib.Omega.{arith}
 use lib.ListN.{length}
 use Rattle.text_scan.proofs.Laws.{named, nameless}
 use borrow.Author.Tests.{eqb-true, eqb-false}
-use Rattle.text_scan.proofs.is_named.Goals as goal
-use Rattle.text_scan.proofs.is_named.Goals.{then-is_empty-via-then-is_empty, then-is_empty-via-else-is_empty+then-word-gt-NAME, then-is_empty-via-else-is_empty+else-word-gt-NAME+then-same_words}
+use Rattle.text_scan.proofs.is_name.Goals as goal
+use Rattle.text_scan.proofs.is_name.Goals.{then-is_empty-via-then-is_empty, then-is_empty-via-else-is_empty+then-word-gt-NAME, then-is_empty-via-else-is_empty+else-word-gt-NAME+then-same_words}
 
 pub returns-then-is_empty : goal.returns-then-is_empty
 returns-then-is_empty c = sym (nameless c.args.word.now (elim c.then-is_empty.branch [
