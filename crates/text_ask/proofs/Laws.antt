@@ -1,7 +1,7 @@
 -- Laws of the reader of the `ask` line.
 use mathlib.Core.Path.{◌≡◌, subst, ◌∙◌}
 use mathlib.Core.List.{List, [], ◌∷◌, ◌++◌, append-nil, append_assoc}
-use mathlib.Core.Option.{none, some}
+use mathlib.Core.Option.{none}
 use Prim.Native.Nat.{ℕ, ◌+◌, ◌-◌, ◌≤◌, ◌<◌}
 use native.Mathlib.Omega.{arith}
 use lib.ListN.{length, drop, length-append}
@@ -11,6 +11,7 @@ use Rattle.grammar.specs.Forms as forms
 use Rattle.grammar.specs.Shapes.{after, stage}
 use Rattle.grammar.specs.Declarations.{Declared}
 use Rattle.grammar.proofs.Reading.{Reading, reading-start, reading-more, reading-closed}
+use Rattle.text_scan.specs.Found.{BytesEnd}
 use Rattle.text_rows.specs.declared.Taken.{Taken}
 use Rattle.text_literals.specs.Frames.{Framed}
 use Rattle.text_stages.specs.Questions as questions
@@ -54,19 +55,19 @@ module _ {text : List ℕ} {D : Declared} {at n : ℕ} {s g : Asked} {m u : Mode
         frame = e.holds;
       }
 
-  pub stages-more : {b : Taken Framed} {r : Asked} {v : Model} {j : ℕ} → j + 1 ≡ k → after (bytes ")") (drop i text) ≡ none → after (bytes " ") (drop i text) ≡ some (drop (i + 1) text)
-      → StageEnd text D (i + 1) b → Added text g u b r v → StagesSo text D at n s m r v b.end j
-  stages-more {b} {j = j} h p q e ad = record {
+  pub stages-more : {b : Taken Framed} {r : Asked} {v : Model} {o j : ℕ} → j + 1 ≡ k → after (bytes ")") (drop i text) ≡ none → BytesEnd text i (bytes " ") o
+      → StageEnd text D o b → Added text g u b r v → StagesSo text D at n s m r v b.end j
+  stages-more {b} {o = o} {j} h p q e ad = record {
     more = so.more ++ (e.q ∷ []);
-    reading = let z : k - 1 ≡ j = omega arith in subst (Reading stage text at n (so.more ++ (e.q ∷ [])) b.end) z (reading-more so.reading (omega arith) p q e.begins e.ends e.read);
-    holds = λ m₀ qs l o. let c = length-append so.more (e.q ∷ []) in rw (← append_assoc) (ad.added D m₀ (qs ++ so.more) e.q (omega (arith, length-append qs so.more)) (so.holds m₀ qs (omega arith) o) e.holds);
+    reading = let z : k - 1 ≡ j = omega arith in subst (Reading stage text at n (so.more ++ (e.q ∷ [])) b.end) z (reading-more so.reading (omega arith) p (rw q.begins at q.read) (omega (arith, q.begins, e.begins)) e.ends (rw q.begins at e.read));
+    holds = λ m₀ qs l so₀. let c = length-append so.more (e.q ∷ []) in rw (← append_assoc) (ad.added D m₀ (qs ++ so.more) e.q (omega (arith, length-append qs so.more)) (so.holds m₀ qs (omega arith) so₀) e.holds);
   }
 
-  pub stages-closed : i < length text → after (bytes ")") (drop i text) ≡ some (drop (i + 1) text) → StagesEnd text D at n s m (record { kept = g; end = i + 1 }) u
-  stages-closed h p = record {
+  pub stages-closed : {e : ℕ} → BytesEnd text i (bytes ")") e → StagesEnd text D at n s m (record { kept = g; end = e }) u
+  stages-closed p = record {
     more = so.more;
-    ends = omega arith;
+    ends = p.ends;
     few = omega (arith, so.reading.count);
-    read = reading-closed so.reading p;
+    read = rw p.begins (reading-closed so.reading (rw p.begins at p.read));
     holds = so.holds;
   }
