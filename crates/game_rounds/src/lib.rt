@@ -93,6 +93,7 @@ fn turn(
     ensures { Turned (side_of side) moves.now n ranks.old others.now round ranks.new result }
 {
     let mut changed = false;
+    // The cells stay written by their number, for the reason at `facts_bits::widen`.
     for e in 0..=n {
         if ranks[e].is_none() && ready(side, moves, e, n, others, round) {
             ranks[e] = Some(round);
@@ -108,6 +109,7 @@ fn outset(met: [u8; BYTES], n: usize) -> [Option<u32>; LISTED]
     ensures { Begun met n result }
 {
     let mut ranks = [None; LISTED];
+    // The cells stay written by their number, for the reason at `facts_bits::widen`.
     for e in 0..=n {
         if facts_bits::get(&met, e) {
             ranks[e] = Some(0);

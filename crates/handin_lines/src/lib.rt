@@ -115,7 +115,7 @@ fn read_object(line: &[u8]) -> Option<Number<'_>>
     read_below(rest, OBJECTS as u32)
 }
 
-// What is left of a `states` line after its first word.
+// Whether a number is next, and the bracket that ends the line.
 fn is_number(line: &[u8]) -> bool
     ensures { whole (states_rest line.now) ≡ (if result then some nothing else none) }
 {

@@ -49,7 +49,7 @@ fn why_step(m: &Model, slots: &[u8], work: &[u8], at: Position, line: u32, objec
             Action::Next { .. } => Reason::NoObject,
         };
     };
-    let index = reasons_bodies::blame(c.body(&m.literals), &slots[..n], work, c.variables, fixed);
+    let index = reasons_bodies::blame(c.body(&m.literals), &slots[..n], work, fixed);
     Reason::Literal { index }
 }
 
@@ -128,7 +128,7 @@ fn why_meeting(
     if any_swapped(m.carried, g, carried, fixed) {
         return Reason::Carried;
     }
-    let index = reasons_bodies::blame(g.body(&m.literals), &slots[..n], work, g.variables, fixed);
+    let index = reasons_bodies::blame(g.body(&m.literals), &slots[..n], work, fixed);
     Reason::Literal { index }
 }
 

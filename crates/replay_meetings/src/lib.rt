@@ -20,7 +20,7 @@ use replay_steps::Outcome;
 use std::array;
 
 // How many objects a meeting names.
-// The three numbers stay apart, here and below, as the three fields of `model::Place` that they are: `place_of`, `number_of` and `choice` name each of them, and as an array they would name its places 0 to 2.
+// The three numbers stay apart, here and below, as the three fields of `model::Place` that they are.
 pub fn count(first: u32, second: u32, third: u32) -> u32
     ensures { result ≡ length (objects (first ∷ second ∷ third ∷ [])) }
 {

@@ -266,7 +266,7 @@ fn led(ways: &[u8; MATRIX], t: Meeting, rows: &[u8; LEVELS], k: usize, f: usize)
 }
 
 // The slots to which the first object goes from level k and with which the stage holds, whatever the second one does: one evaluation for each.
-// The matrices stay beside what the evaluator takes: the body is asked over the work area, and the moves are read in the matrices.
+// The matrices stay beside what the evaluator takes: `led` and `onward` take none of what the evaluator takes and `met` none of the matrices, so that a struct of both would be taken apart for each call.
 fn hopeful(
     work: &[u8],
     slots: &[u8],

@@ -137,7 +137,7 @@ fn number(k: usize, n: usize, c: Choice) -> u32
 }
 
 // Writes the meeting of stage k + 1 at index `at` with these objects, but the cast's for the carried variables. Returns the index behind it.
-// The table, the model and the cast stay apart, with the room in clauses: the table is written, and the other two are only read.
+// The table, the model and the cast stay apart, with the room in clauses: a struct of the three, lent for writing, would have each contract say besides that the model and the cast are as they were.
 // The index stays beside the table, here and in the walk: a struct that holds the table lent would be lent on by every writer, and each `Written` would speak of two fields of it, old and new, where it speaks of two numbers.
 fn gather(run: &mut [u32], m: Model, cast: Cast, k: usize, objects: Choice, at: usize) -> usize
     requires { WellFormed m × (k < m.stagecount) × (cast.first < limit.objects) × (cast.second < limit.objects) × ((x : ℕ) → x < (stage_at m k).variables → chosen objects x < limit.objects) × (at < length run.old) }
@@ -191,7 +191,7 @@ fn attempt(
 }
 
 // A choice of found states that meets stage 1, with the carried objects in these slots, and for its first variable a slot of row j.
-// The loop stays beside `filter` and `find_map`: two closures would hold all that is lent here, and the `unreachable!()` would stand behind them all the same.
+// The loop stays beside `filter` and `find_map`: two closures would hold all that is lent here, each with its own contract over it, and an `unwrap()` would stand for the `unreachable!()`.
 pub fn opening(
     work: &[u8],
     slots: &[u8],
@@ -219,13 +219,12 @@ pub fn opening(
 pub fn meet_first(
     run: &mut [u32],
     m: Model,
-    s: States,
     cast: Cast,
     object: u32,
     c: Choice,
     at: usize,
 ) -> usize
-    requires { WellFormed m × Numbered s cast × (object < limit.objects) × ((x : ℕ) → x < (stage_at m 0).variables → chosen c x < s.count) × (at < length run.old) }
+    requires { WellFormed m × (object < limit.objects) × ((s : States) × Numbered s cast × ((x : ℕ) → x < (stage_at m 0).variables → chosen c x < s.count)) × (at < length run.old) }
     ensures { (σ : ℕ → ℕ) → Chooses (stage_at m 0) c σ → Written (λ ps. ps ≡ gathering m cast (follows (first_variable m) object) 0 σ ∷ []) 1 run.old at run.new result }
 {
     let stage = m.stages[0];

@@ -1,5 +1,5 @@
 use Rattle.search_ways.proofs.Nearest.{says_eq, says-bit}
-use Rattle.witness_walk.proofs.moves.Goals as goal
+use Rattle.witness_walk.proofs.goes.Goals as goal
 
 pub returns-then-not-stands : goal.returns-then-not-stands
 returns-then-not-stands c = let a = c.args in rw (c.if-not-stands.true) (says_eq a.u a.e)

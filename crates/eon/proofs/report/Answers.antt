@@ -1,4 +1,4 @@
--- `eon::mark` meets its contract.
+-- `eon::report` meets its contract.
 use borrow.Author.Rules.{rules}
 use mathlib.Core.Path.{sym, ap, ◌∙◌}
 use native.Mathlib.Omega.{arith}
@@ -9,8 +9,8 @@ use Rattle.analyzer.specs.Analyzing.{Leaves}
 use Rattle.grammar.specs.Texts.{outcome}
 use Rattle.listing_lines.specs.Lines.{refused_line}
 use Rattle.eon.proofs.Laws.{answered, text-ready, text-output, text-room}
-use Rattle.eon.proofs.mark.Goals as goal
-use Rattle.eon.proofs.mark.Goals.{After-analyze-analysis}
+use Rattle.eon.proofs.report.Goals as goal
+use Rattle.eon.proofs.report.Goals.{After-analyze-analysis}
 
 -- what the analysis leaves, with buffers that have their sizes
 leaves : (c : After-analyze-analysis) → let a = c.args in Leaves (outcome a.text.now) a.work.now a.run.now c.analyze-analysis.result c.analyze-analysis.new.work c.analyze-analysis.new.run
