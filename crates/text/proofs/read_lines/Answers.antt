@@ -22,7 +22,7 @@ returns-in_err-e c =
 pub returns-in_err-on_line : goal.returns-in_err-on_line
 returns-in_err-on_line c =
     let i = c.loop-at.invariant in
-    let a = c.at_bytes.ensures.missing c.if-at_bytes.false in
+    let a = c.in_default.ensures in
     let p = err_from_is_err_and c.from_residual-in_err-on_line.result c.from_residual-in_err-on_line.ensures.1 in
     let f = line-failed _ _ c.on_line.ensures c.in_err-on_line.was in
     let r = rw f.1 at c.read_line.ensures in
@@ -32,7 +32,7 @@ pub loop-at-preserved : goal.loop-at-preserved
 loop-at-preserved c =
     let i = c.loop-at.invariant in
     let l = rw (some_of _ c.ok_or.ensures.value c.in_ok-e.was) at c.line_end.ensures in
-    let a = c.at_bytes.ensures.missing c.if-at_bytes.false in
+    let a = c.in_default.ensures in
     let r = rw (line-passed _ _ c.on_line.ensures c.in_ok-on_line.was) at c.read_line.ensures in
     let s = r.steps (λ _. a) (program_of c.loop-at.m) i.1.holds in
     (i.0, reached-on i.1 l s r.aside, i.2 ∙ onwards-on i.1 l s a)
