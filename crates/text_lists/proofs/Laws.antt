@@ -12,7 +12,7 @@ use Prim.Native.Nat.{ℕ, ◌-◌, ◌*◌, ◌%◌, ◌^◌, ◌<◌}
 use native.Mathlib.Omega.{arith}
 use lib.Dec.{eqb}
 use lib.Bits.{bit_or, or_zero_r}
-use lib.ListN.{drop}
+use lib.ListN.{take, drop}
 use lib.Seq.{slice}
 use borrow.Author.Tests.{ltb-true}
 use Rattle.limits.specs.Limits as limit
@@ -27,6 +27,7 @@ use Rattle.grammar.specs.Models.{code_of, codes}
 use Rattle.grammar.proofs.Lower.{lower-second, lower-assoc}
 use Rattle.rows.specs.declared.Row.{Row}
 use Rattle.text_scan.specs.Found.{BytesEnd, NameEnd}
+use Rattle.text_scan.proofs.Laws.{slice-part}
 use Rattle.text_names.specs.Names.{found}
 use Rattle.text_faults.specs.Faults.{fault_in, Both, Coded}
 use Rattle.text_lists.specs.Lists.{Chosen, Holds, NameAdded, Keeps, ListEnd}
@@ -57,13 +58,13 @@ map_more : {A B : Type 0} (f : A → B) (a : seq.List A) (x : A) → map f (a ++
 map_more f [] x = refl
 map_more f (y ∷ a) x = ap (λ (l : seq.List _). f y ∷ l) (map_more f a x)
 
-module _ (text : seq.List ℕ) (D : Declared) (a e : ℕ) {s : Chosen} {o : Option ℕ} {code : Chosen} {r : Result (ℕ × ℕ) Row}
-    (f : lookup (slice a e text) D ≡ found o) (k : Coded (name_fault (found o)) o code) (t : Both s code r) where
+module _ (D : Declared) (w : Word) {s : Chosen} {o : Option ℕ} {code : Chosen} {r : Result (ℕ × ℕ) Row}
+    (f : lookup w D ≡ found o) (k : Coded (name_fault (found o)) o code) (t : Both s code r) where
   -- the row of the names with the one more
-  number-more : {ws : seq.List Word} → Holds D ws s → fault_in r ≡ list_fault D (ws ++ (slice a e text ∷ []))
-  number-more {ws} so = t.number ∙ rw (so.number, k.row, ← f) (sym (fault-more D ws (slice a e text)))
+  number-more : {ws : seq.List Word} → Holds D ws s → fault_in r ≡ list_fault D (ws ++ (w ∷ []))
+  number-more {ws} so = t.number ∙ rw (so.number, k.row, ← f) (sym (fault-more D ws w))
 
-  pub name-faulty : (x : Row) → r ≡ Err x → NameAdded text D s a e (Err x)
+  pub name-faulty : (x : Row) → r ≡ Err x → NameAdded D s w (Err x)
   name-faulty x q = record { added = λ ws so. record { number = ap fault_in (sym q) ∙ number-more so; set = tt } }
 
   module _ (set c : ℕ) (q : r ≡ Ok (set, c)) where
@@ -76,22 +77,28 @@ module _ (text : seq.List ℕ) (D : Declared) (a e : ℕ) {s : Chosen} {o : Opti
     small : c < 32
     small = ⊎_elim (λ (y : is_state c ≡ true). ltb-true c 32 y) (λ (y : is_state c ≡ false). absurd (let z = rw (parts.1, coded, y) at k.row in omega arith)) (cases_Bool (is_state c))
 
-    pub name-added : NameAdded text D s a e (Ok (bit_or set ((1 * 2 ^ c) % 4294967296)))
+    pub name-added : NameAdded D s w (Ok (bit_or set ((1 * 2 ^ c) % 4294967296)))
     unfolding union
     name-added =
-        let g : lookup (slice a e text) D ≡ some c = (rw coded at f) in
+        let g : lookup w D ≡ some c = (rw coded at f) in
         record {
           added = λ ws so.
               let z : set ≡ set_of (codes D ws) = (rw (parts.0) at so.set) in
               record {
                 number = ap fault_in (sym q) ∙ number-more so;
-                set = ap (bit_or set) (one_shl c 32 small) ∙ rw (z, map_more (code_of D) ws (slice a e text), set_more (codes D ws) (code_of D (slice a e text)), g);
+                set = ap (bit_or set) (one_shl c 32 small) ∙ rw (z, map_more (code_of D) ws w, set_more (codes D ws) (code_of D w), g);
               };
         }
 
 -- A NAME OF A LIST
-pub listed : {text : seq.List ℕ} {d : names.Declared} {at e : ℕ} {s r : Chosen} → NameEnd text at e → NameAdded text (declared_of text d) s at e r → ItemEnd name (Keeps text d) text at s (record { kept = r; end = e })
-listed {text} {at = at} {e} n ad = record { value = slice at e text; begins = n.begins; ends = n.ends; found = n.read; holds = λ c ws so. (so.0, ad.added ws so.1) }
+pub listed : {text : seq.List ℕ} {d : names.Declared} {at e : ℕ} {s r : Chosen} → NameEnd text at e → NameAdded (declared_of text d) s (take (e - at) (drop at text)) r → ItemEnd name (Keeps text d) text at s (record { kept = r; end = e })
+listed {text} {at = at} {e} n ad = record {
+  value = slice at e text;
+  begins = n.begins;
+  ends = n.ends;
+  found = n.read;
+  holds = λ c ws so. (so.0, rw (slice-part text at e (omega (arith, n.begins))) (ad.added ws so.1));
+}
 
 -- LISTS
 pub empty-list : (D : Declared) → Holds D [] (Ok 0)
@@ -109,7 +116,7 @@ module _ (text : seq.List ℕ) (at : ℕ) where
     list-unended v = rw (p, q.read, m.read, v)
 
     module _ {d : names.Declared} (valid : Valid text d) where
-      list-found : {t : Chosen} {r : Taken Chosen} → NameAdded text (declared_of text d) (Ok 0) a e t → RowEnd name (Keeps text d) text e (limit.list - 1) t r → ListEnd text (declared_of text d) at r
+      list-found : {t : Chosen} {r : Taken Chosen} → NameAdded (declared_of text d) (Ok 0) (slice a e text) t → RowEnd name (Keeps text d) text e (limit.list - 1) t r → ListEnd text (declared_of text d) at r
       unfolding list bracket
       list-found ad v = record {
         ws = slice a e text ∷ v.more;
@@ -119,7 +126,7 @@ module _ (text : seq.List ℕ) (at : ℕ) where
         holds = (v.holds tt (slice a e text ∷ []) (valid, ad.added [] (empty-list (declared_of text d)))).1;
       }
 
-      pub list-read : {t : Chosen} (r : Option (Taken Chosen)) → NameAdded text (declared_of text d) (Ok 0) a e t
+      pub list-read : {t : Chosen} (r : Option (Taken Chosen)) → NameAdded (declared_of text d) (Ok 0) (slice a e text) t
           → MatchOption r (rest name (limit.list - 1) (drop e text) ≡ none) (RowEnd name (Keeps text d) text e (limit.list - 1) t) → MatchOption r (list (drop at text) ≡ none) (ListEnd text (declared_of text d) at)
       list-read None ad v = list-unended v
       list-read (Some r) ad v = list-found ad v
