@@ -20,7 +20,7 @@ use Rattle.semantics.specs.Labels.{union, set_of}
 use Rattle.semantics.specs.Models.{elem}
 use Rattle.semantics.proofs.Sets.{has-union, has-ext, has-set_of}
 use Rattle.grammar.specs.Bytes.{bytes, Word}
-use Rattle.grammar.specs.Shapes.{after, name, rest, bracket, list}
+use Rattle.grammar.specs.Shapes.{after, name, bracket, list}
 use Rattle.grammar.specs.Declarations.{is_state, Declared, lookup}
 use Rattle.grammar.specs.Rows.{lower, name_fault, list_fault}
 use Rattle.grammar.specs.Models.{code_of, codes}
@@ -34,7 +34,7 @@ use Rattle.text_lists.specs.Lists.{Chosen, Holds, NameAdded, Keeps, ListEnd}
 use Rattle.text_names.specs.declared.Declared as names
 use Rattle.text_names.specs.Names.{declared_of, Valid}
 use Rattle.text_rows.specs.declared.Taken.{Taken}
-use Rattle.text_rows.specs.Rows.{ItemEnd, RowEnd}
+use Rattle.text_rows.specs.Rows.{ItemEnd, BracketEnd}
 
 -- ONE NAME MORE
 fault-more : (D : Declared) (ws : seq.List Word) (w : Word) → list_fault D (ws ++ (w ∷ [])) ≡ lower (list_fault D ws) (name_fault (lookup w D))
@@ -110,23 +110,14 @@ module _ (text : seq.List ℕ) (at : ℕ) where
   unfolding list
   list-empty {D} p = record { ws = []; begins = omega (arith, p.begins); ends = p.ends; read = rw p.read; holds = empty-list D }
 
-  module _ (p : after (bytes "()") (drop at text) ≡ none) {a : ℕ} (q : BytesEnd text at (bytes "(") a) {e : ℕ} (m : NameEnd text a e) where
-    list-unended : rest name (limit.list - 1) (drop e text) ≡ none → list (drop at text) ≡ none
-    unfolding list bracket
-    list-unended v = rw (p, q.read, m.read, v)
-
-    module _ {d : names.Declared} (valid : Valid text d) where
-      list-found : {t : Chosen} {r : Taken Chosen} → NameAdded (declared_of text d) (Ok 0) (slice a e text) t → RowEnd name (Keeps text d) text e (limit.list - 1) t r → ListEnd text (declared_of text d) at r
-      unfolding list bracket
-      list-found ad v = record {
-        ws = slice a e text ∷ v.more;
-        begins = omega (arith, q.begins, m.begins, v.begins);
-        ends = v.ends;
-        read = rw (p, q.read, m.read, v.found);
-        holds = (v.holds tt (slice a e text ∷ []) (valid, ad.added [] (empty-list (declared_of text d)))).1;
-      }
-
-      pub list-read : {t : Chosen} (r : Option (Taken Chosen)) → NameAdded (declared_of text d) (Ok 0) (slice a e text) t
-          → MatchOption r (rest name (limit.list - 1) (drop e text) ≡ none) (RowEnd name (Keeps text d) text e (limit.list - 1) t) → MatchOption r (list (drop at text) ≡ none) (ListEnd text (declared_of text d) at)
-      list-read None ad v = list-unended v
-      list-read (Some r) ad v = list-found ad v
+  pub list-read : {d : names.Declared} (r : Option (Taken Chosen)) → after (bytes "()") (drop at text) ≡ none → Valid text d
+      → MatchOption r (bracket name (limit.list - 1) (drop at text) ≡ none) (BracketEnd name (Keeps text d) text at (limit.list - 1) (Ok 0)) → MatchOption r (list (drop at text) ≡ none) (ListEnd text (declared_of text d) at)
+  unfolding list
+  list-read None p valid v = rw (p, v)
+  list-read {d} (Some r) p valid v = record {
+    ws = v.items;
+    begins = v.begins;
+    ends = v.ends;
+    read = rw (p, v.found);
+    holds = (v.holds tt [] (valid, empty-list (declared_of text d))).1;
+  }

@@ -12,7 +12,7 @@ ghost use Rattle.text_lists.specs.Lists.{Keeps, NameAdded, ListEnd};
 use limits::LIST;
 use rows::Row;
 use text_names::Declared;
-use text_rows::{Item, Taken, read_row};
+use text_rows::{Item, Taken, read_bracket};
 
 // The names of a list behind its first.
 const FURTHER: usize = LIST - 1;
@@ -64,7 +64,5 @@ pub fn read_list(text: &[u8], d: Declared, at: usize) -> Option<List>
     if let Some(end) = text_scan::past_bytes(text, at, b"()") {
         return Some(List { kept: Ok(0), end });
     }
-    let a = text_scan::past(text, at, b'(')?;
-    let e = text_scan::name_end(text, a)?;
-    read_row::<Listed>(text, d, e, add_name(text, d, Ok(0), &text[a..e]), FURTHER)
+    read_bracket::<Listed>(text, d, at, Ok(0), FURTHER)
 }
