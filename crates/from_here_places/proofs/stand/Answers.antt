@@ -1,4 +1,3 @@
-use Rattle.limits.specs.Limits as limit
 use Rattle.from_here_places.proofs.Laws.{stands}
 use Rattle.from_here_places.proofs.stand.Goals as goal
 
