@@ -216,14 +216,7 @@ pub fn opening(
 }
 
 // Writes the meeting of stage 1 for a choice of found states at index `at`, with the object for its first variable. Returns the index behind it.
-pub fn meet_first(
-    run: &mut [u32],
-    m: Model,
-    cast: Cast,
-    object: u32,
-    c: Choice,
-    at: usize,
-) -> usize
+pub fn meet_first(run: &mut [u32], m: Model, cast: Cast, object: u32, c: Choice, at: usize) -> usize
     requires { WellFormed m × (object < limit.objects) × ((s : States) × Numbered s cast × ((x : ℕ) → x < (stage_at m 0).variables → chosen c x < s.count)) × (at < length run.old) }
     ensures { (σ : ℕ → ℕ) → Chooses (stage_at m 0) c σ → Written (λ ps. ps ≡ gathering m cast (follows (first_variable m) object) 0 σ ∷ []) 1 run.old at run.new result }
 {
