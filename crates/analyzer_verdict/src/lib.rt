@@ -18,11 +18,12 @@ use search::Found;
 use search_states::Listing;
 
 // Reached with the number of places of the shown run and its last place, unreached, or a refusal with its number and line.
-// The three cases stay an enum with the refusal's number and line: document 01 writes it so.
+// The three cases stay an enum: document 01 writes it so.
 #[derive(Clone, Copy)]
 pub enum Answer {
     Reached { places: usize, last: Place },
     Unreached,
+    // The number stays, for the same reason.
     Refused { number: u32, line: u32 },
 }
 
