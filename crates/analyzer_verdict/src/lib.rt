@@ -23,7 +23,7 @@ use search_states::Listing;
 pub enum Answer {
     Reached { places: usize, last: Place },
     Unreached,
-    // The number stays, for the same reason.
+    // The number stays in place of the row, for the same reason.
     Refused { number: u32, line: u32 },
 }
 

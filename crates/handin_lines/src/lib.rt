@@ -1,7 +1,7 @@
 // One line of a hand-in, without its byte 10. Each reader takes what is left of the line.
 #![tactic(auto)]
 
-ghost use Rattle.std.specs.Prelude.{◌≡◌, MatchOption, if◌then◌else◌, ◌+◌, ◌-◌, ◌*◌, ◌≤◌, ◌<◌};
+ghost use Rattle.std.specs.Prelude.{◌≡◌, MatchOption, if◌then◌else◌, ◌+◌, ◌-◌, ◌*◌, ◌≤◌};
 ghost use Rattle.std.proofs.Math.Option.{none, some};
 ghost use Rattle.limits.specs.Limits as limit;
 ghost use Rattle.model.specs.declared.Place.TheVariants.{Meeting};

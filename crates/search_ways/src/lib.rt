@@ -118,7 +118,7 @@ fn lead_clause(states: &[u32], c: Clause, table: &[u8; TABLE], i: usize, ways: &
 }
 
 // The matrix of single steps: row e has slot e and the slots to which some line takes an object of its state.
-// The model, the states and the table stay apart, with what they must be in clauses, as at `way`; the moves, which hold the table, are made of what this writes.
+// The model, the states and the table stay apart, with what they must be in clauses, as at `way`; the moves, which hold the table, are made of what this answers.
 pub fn steps(m: Model, s: States, table: &[u8; TABLE]) -> [u8; MATRIX]
     requires { WellFormed m × Proper s × Marks table.now (CanTake m s) }
     ensures { Marks result (Between s.count (OneStep (program_of m) (row s))) }
