@@ -105,7 +105,7 @@ fn turn(
     changed
 }
 
-// The number of a slot before the first round: 0 if it meets the question.
+// The number of a slot before the first round, which those have that meet the question.
 fn number(met: &[u8; BYTES], n: usize, e: usize) -> Option<u32>
     requires { n ≤ limit.atomic }
     ensures { e ≤ n → result ≡ (if bit_at met.now e then Some 0 else None) }
