@@ -1,13 +1,12 @@
 -- `eon::report` meets its contract.
 use borrow.Author.Rules.{rules}
-use mathlib.Core.Path.{sym, ap, ◌∙◌}
+use mathlib.Core.Path.{sym}
 use native.Mathlib.Omega.{arith}
-use Prim.Native.Nat.{ℕ, ◌≤◌}
+use Prim.Native.Nat.{◌≤◌}
 use lib.ListN.{length}
 use lib.Seq.{length-take-le}
 use Rattle.analyzer.specs.Analyzing.{Leaves}
 use Rattle.grammar.specs.Texts.{outcome}
-use Rattle.listing_lines.specs.Lines.{refused_line}
 use Rattle.eon.proofs.Laws.{answered, text-ready, text-output, text-room}
 use Rattle.eon.proofs.report.Goals as goal
 use Rattle.eon.proofs.report.Goals.{After-analyze-analysis}
@@ -22,9 +21,6 @@ list-requires c =
     let k = c.analyze-analysis in
     (text-ready a.text.now a.work.now a.run.now _ c.in-Ok.ensures k.result k.new.work k.new.run (search rules) (leaves (goal.at.list-requires c).After-analyze-analysis) (search rules), c.requires.2)
 
-pub put_refusal-requires : goal.put_refusal-requires
-put_refusal-requires c = c.requires.2
-
 pub returns-in-Ok : goal.returns-in-Ok
 returns-in-Ok c =
     let a = c.args in
@@ -35,11 +31,3 @@ returns-in-Ok c =
     let fits = text-room a.text.now a.work.now a.run.now _ c.in-Ok.ensures k.result k.new.work k.new.run (search rules) l a.out.now w.result w.new.out w.ensures in
     let room : w.result ≤ length w.new.out = omega (arith, fits) in
     ((k.result, k.ensures, said), (room, sym (length-take-le w.result w.new.out room)))
-
-pub returns-in-Err : goal.returns-in-Err
-returns-in-Err c =
-    let k = c.analyze-analysis in
-    let w = c.put_refusal in
-    let fits = w.ensures.room in
-    let room : w.result ≤ length w.new.out = omega (arith, fits) in
-    ((k.result, k.ensures, rw c.in-Err.ensures (w.ensures.front ∙ ap (λ (n : ℕ). refused_line n c.in-Err.refusal.line) c.number.ensures)), (room, sym (length-take-le w.result w.new.out room)))
