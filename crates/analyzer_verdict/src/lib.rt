@@ -18,12 +18,12 @@ use search::Found;
 use search_states::Listing;
 
 // Reached with the number of places of the shown run and its last place, unreached, or a refusal with its number and line.
-// The three cases stay an enum with the refusal's number: document 01 writes it so.
+// The three cases stay an enum: document 01 writes it so.
 #[derive(Clone, Copy)]
 pub enum Answer {
     Reached { places: usize, last: Place },
     Unreached,
-    // The number stays beside the line: document 01 writes this answer so.
+    // The number stays in place of the row, for the same reason.
     Refused { number: u32, line: u32 },
 }
 

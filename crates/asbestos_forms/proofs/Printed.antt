@@ -1,6 +1,6 @@
 -- WHAT IS PRINTED OF FORMS IS READ LINE BY LINE: each line is the form again, in allowed bytes.
 use mathlib.Core.Path.{◌≡◌, refl, ap, sym, ◌∙◌, subst}
-use mathlib.Core.Bool.{Bool, true, false, ◌&&◌, ◌||◌, or-true}
+use mathlib.Core.Bool.{Bool, true, false, ◌&&◌, or-true}
 use mathlib.Core.List.{List, [], ◌∷◌, ◌++◌, append_assoc, append-nil}
 use Prim.Native.Nat.{ℕ, zero, suc, ◌+◌, ◌≤◌, ◌<◌}
 use native.Mathlib.Nat.{add-zero}

@@ -104,13 +104,12 @@ fn put_entry(out: &mut [u8], at: usize, a: u32, b: u32) -> usize
 
 // Writes the lines of a row of the table, its columns up to the port level.
 // The port level stays a number: a type of levels would be taken apart here at once, since it ends a loop over numbers.
-// `0..port + 1` stays: over `0..=port` the proof was tried, and wants an answer under a name of the checker's own, `returns-2`, which may change.
 fn put_row(out: &mut [u8], at: usize, port: u32, a: u32) -> usize
     requires { (port < levels) × (a < levels) × (at + 500 ≤ length out.old) }
     ensures { Writes out.old at (printed (row_forms port a)) result out.new }
 {
     let mut next = at;
-    for b in 0..port + 1 {
+    for b in 0..=port {
         next = put_entry(out, next, a, b);
     }
     next
@@ -129,13 +128,12 @@ fn put_table(out: &mut [u8], at: usize, port: u32) -> usize
 }
 
 // Writes the labels of a receive level.
-// `0..receive + 1` stays, for the reason at `put_row`.
 fn put_receiving(out: &mut [u8], at: usize, receive: u32) -> usize
     requires { (receive < levels) × (at + 15 ≤ length out.old) }
     ensures { Writes out.old at (receiving (suc receive)) result out.new }
 {
     let mut next = at;
-    for k in 0..receive + 1 {
+    for k in 0..=receive {
         next = put_level(out, next, b" R", k);
     }
     next

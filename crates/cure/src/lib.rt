@@ -16,7 +16,7 @@ use strike_table::Table;
 
 // The number of the smallest unreached choice, the highest of equally small ones.
 // The loop stays beside `filter` and `min_by_key`: neither that each choice left can be asked for its size nor which of equal sizes is taken could be proved, and no lemma of the library says it of a reversed range.
-fn soonest(l: Lines, t: Table) -> Option<usize>
+fn smallest(l: Lines, t: Table) -> Option<usize>
     requires { (l.count ≤ most) × (t.total ≤ 1024) }
     ensures { Soonest (size_at (listed l) t.said) t.total result }
 {
@@ -39,7 +39,7 @@ fn conclude(c: Choices) -> Option<Lines>
     requires { (c.lines.count ≤ most) × (c.table.total ≤ 1024) }
     ensures { (P : Program) (Q : Question) (L : List ℕ) → Decided P Q L c → Advises P Q L result }
 {
-    let n = soonest(c.lines, c.table)?;
+    let n = smallest(c.lines, c.table)?;
     Some(strike_list::choose(c.lines, n as u32))
 }
 

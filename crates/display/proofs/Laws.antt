@@ -65,20 +65,8 @@ literal-shown line none (Some r) h = h
 literal-shown line (some l) None h = h
 literal-shown line (some l) (Some r) (a, b, c) = (a, b, slice_of line r.from r.to (print_literal l) (omega arith) b (literal-printed (drop r.from line) c))
 
--- no part is given
-pub no_part : (line : List ℕ) (o : Option parts.Part) → Gives line o None → (f : parts.Part → Option (List ℕ)) → Shown line (o >>= f) None
-no_part line none g f = tt
-no_part line (some q) g f = absurd g
-
 -- the part that is given
 module _ (line : List ℕ) (o : Option parts.Part) (p : Part) (g : Gives line o (Some p)) where
-  pub body-within : p.body ≤ length line
-  body-within = go o g
-    where
-      go : (q : Option parts.Part) → Gives line q (Some p) → p.body ≤ length line
-      go none h = absurd h
-      go (some q) h = h.body
-
   pub literal-found : (k : ℕ) (r : std.Option Span) → Picked literal line p.body k r → Shown line (o >>= λ q. pick q.1 k >>= λ l. some (print_literal l)) r
   literal-found k r h = go o g
     where

@@ -113,6 +113,7 @@ fn stage_part(line: &[u8], n: usize) -> Option<Part>
 }
 
 // Part n of a line: its clause for 0, stage n of an `ask` line else.
+// 0 stays for the clause: `eon_literal` and `eon_variable` are given the number so.
 pub fn locate(line: &[u8], n: usize) -> Option<Part>
     ensures { Gives line.now (part_of line.now n) result }
 {

@@ -74,43 +74,18 @@ module _ (text : List ℕ) (at : ℕ) where
   unfolding list
   list-empty h = ends_some {x = []} (omega (arith, h.begins)) h.ends (rw h.read)
 
-  module _ (no : after (bytes "()") (drop at text) ≡ none) where
-    pub list-unopened : after (bytes "(") (drop at text) ≡ none → list (drop at text) ≡ none
+  module _ (no : after (bytes "()") (drop at text) ≡ none) {i : ℕ} (h : BytesEnd text at (bytes "(") i) where
+    pub list-found : {e : ℕ} → NameEnd text i e → (r : std.Option ℕ) → Ends (rest name (limit.list - 1)) text e r → Ends list text at r
     unfolding list bracket
-    list-unopened h = rw (no, h)
-
-    module _ {i : ℕ} (h : BytesEnd text at (bytes "(") i) where
-      pub list-nameless : name (drop i text) ≡ none → list (drop at text) ≡ none
-      unfolding list bracket
-      list-nameless k = rw (no, h.read, k)
-
-      pub list-found : {e : ℕ} → NameEnd text i e → (r : std.Option ℕ) → Ends (rest name (limit.list - 1)) text e r → Ends list text at r
-      unfolding list bracket
-      list-found v None w = rw (no, h.read, v.read, w)
-      list-found {e} v (Some r) w = ends_some {x = slice i e text ∷ w.value} (omega (arith, h.begins, v.begins, w.begins)) w.ends (rw (no, h.read, v.read, w.found))
-
-  pub atom-unopened : after (bytes "(") (drop at text) ≡ none → atom (drop at text) ≡ none
-  unfolding atom
-  atom-unopened h = rw h
-
-  pub stage-unopened : after (bytes "(") (drop at text) ≡ none → stage (drop at text) ≡ none
-  unfolding stage bracket
-  stage-unopened h = rw h
+    list-found v None w = rw (no, h.read, v.read, w)
+    list-found {e} v (Some r) w = ends_some {x = slice i e text ∷ w.value} (omega (arith, h.begins, v.begins, w.begins)) w.ends (rw (no, h.read, v.read, w.found))
 
   module _ {i : ℕ} (h : BytesEnd text at (bytes "(") i) where
-    pub atom-nameless : name (drop i text) ≡ none → atom (drop at text) ≡ none
-    unfolding atom
-    atom-nameless k = rw (h.read, k)
-
     pub atom-found : {e : ℕ} → NameEnd text i e → (r : std.Option ℕ) → Ends (rest name (length text - at)) text e r → Ends atom text at r
     unfolding atom
     atom-found v None w = rw (h.read, v.read, length-drop, w)
     atom-found {e} v (Some r) w =
         ends_some {x = record { name = slice i e text; variables = w.value }} (omega (arith, h.begins, v.begins, w.begins)) w.ends (rw (h.read, v.read, length-drop, w.found))
-
-    pub stage-empty : literal (drop i text) ≡ none → stage (drop at text) ≡ none
-    unfolding stage bracket
-    stage-empty k = rw (h.read, k)
 
     pub stage-found : {e : ℕ} → EndsAt literal text i e → (r : std.Option ℕ) → Ends (rest literal (limit.body - 1)) text e r → Ends stage text at r
     unfolding stage bracket
@@ -118,16 +93,11 @@ module _ (text : List ℕ) (at : ℕ) where
     stage-found v (Some r) w = ends_some {x = v.value ∷ w.value} (omega (arith, h.begins, v.begins, w.begins)) w.ends (rw (h.read, v.found, w.found))
 
   -- LITERALS
-  module _ {i : ℕ} (h : BytesEnd text at (bytes "(not ") i) where
-    pub not-missing : atom (drop i text) ≡ none → literal (drop at text) ≡ none
+  module _ {i : ℕ} (h : BytesEnd text at (bytes "(not ") i) {e : ℕ} (v : EndsAt atom text i e) where
+    pub not-closed : (r : std.Option ℕ) → Past text e (bytes ")") r → Ends literal text at r
     unfolding literal
-    not-missing z = rw (h.read, z)
-
-    module _ {e : ℕ} (v : EndsAt atom text i e) where
-      pub not-closed : (r : std.Option ℕ) → Past text e (bytes ")") r → Ends literal text at r
-      unfolding literal
-      not-closed None k = rw (h.read, v.found, k)
-      not-closed (Some r) k = ends_some {x = negated v.value} (omega (arith, h.begins, v.begins, k.begins)) k.ends (rw (h.read, v.found, k.read))
+    not-closed None k = rw (h.read, v.found, k)
+    not-closed (Some r) k = ends_some {x = negated v.value} (omega (arith, h.begins, v.begins, k.begins)) k.ends (rw (h.read, v.found, k.read))
 
   pub plain-found : after (bytes "(not ") (drop at text) ≡ none → (e : std.Option ℕ) → Ends atom text at e → Ends literal text at e
   unfolding literal

@@ -54,7 +54,7 @@ fn list(out: &mut [u8], text: &[u8], m: &Model, a: &Analysis, run: &[u32]) -> us
 }
 
 // Analyzes the text and writes what the program is to write into the slice; says how many bytes that is.
-fn mark(text: &[u8], work: &mut [u8], run: &mut [u32], out: &mut [u8]) -> usize
+fn report(text: &[u8], work: &mut [u8], run: &mut [u32], out: &mut [u8]) -> usize
     requires { (limit.work ≤ length work.old) × (limit.run ≤ length run.old) × (size ≤ length out.old) }
     ensures { Output text.now work.old run.old work.new run.new (take result out.new) × IsPrefixLen result out.new }
 {
@@ -70,7 +70,7 @@ fn answer(rt: &impl Print, text: &[u8]) -> io::Result<()> {
     let mut work = [0u8; WORK];
     let mut run = [0u32; RUN];
     let mut out = [0u8; listing::SIZE];
-    let n = mark(text, &mut work, &mut run, &mut out);
+    let n = report(text, &mut work, &mut run, &mut out);
     io::writer(rt).write_all(&out[..n])
 }
 

@@ -1,5 +1,5 @@
 -- The reason of a broken run, and from the record to the text.
-use mathlib.Core.Path.{◌≡◌, refl, sym, ◌∙◌, subst}
+use mathlib.Core.Path.{◌≡◌, sym, ◌∙◌, subst}
 use mathlib.Core.Logic.{inl, inr}
 use mathlib.Core.List.{List, [], ◌∷◌}
 use mathlib.Core.Option.{some, some-injective}
@@ -18,7 +18,6 @@ use Rattle.replay_session.specs.Records.{session_of}
 use Rattle.replay_session.specs.Replays.{Replays}
 use Rattle.replay_runs.specs.Endings.{Leads, Stopped}
 use Rattle.reasons.specs.declared.Reason.{Reason}
-use Rattle.reasons.specs.declared.Reason.TheVariants.{Ends}
 use Rattle.reasons.specs.Reasons.{Explains}
 use Rattle.explain.specs.Explains.{Reasoned}
 
@@ -40,10 +39,6 @@ module _ (P : Program) (Q : Question) where
   broken-not s (n ∷ ns) i j (suc k) t h e l (inr (never, g)) p f a = never (h.0, h.1, h.2)
 
 module _ (m : Model) (run : List ℕ) (k : ℕ) (s : Session) (replays : Replays (program_of m) (question_of m) (start []) run 0 (Broken k)) (stopped : Stopped m run k s) where
-  -- the run ended
-  pub reason-ends : length run ≤ k → Reasoned (program_of m) (question_of m) run k Ends
-  reason-ends l = inl (let w = stopped.within in omega arith, refl)
-
   -- its place is not allowed
   pub reason-place : k < length run → (r : Reason) → ((p : runs.Place) → place_of (get_or run k 0) ≡ some p → Explains m s p r) → Reasoned (program_of m) (question_of m) run k r
   reason-place l r h =

@@ -2,7 +2,7 @@
 use mathlib.Core.Path.{◌≡◌, refl, sym, ap, ap₂, ◌∙◌}
 use mathlib.Core.Logic.{⊎_elim, ◌≢◌}
 use borrow.Author.Tests.{eq-eqb, ne_eqb}
-use Rattle.std.specs.Prelude.{Option, Some, None, IfSome, map}
+use Rattle.std.specs.Prelude.{IfSome}
 use Rattle.semantics.proofs.Tools.{same?}
 use Rattle.replay_meetings.specs.Carried.{object_of}
 use mathlib.Core.List.{List, [], ◌∷◌, ◌++◌}
@@ -12,7 +12,6 @@ use lib.ListN.{length, take, drop, get_or, replicate, take-append-drop}
 use lib.Seq.{drop-cons, drop-length}
 use Rattle.limits.specs.Limits as limit
 use Rattle.analyzer_verdict.specs.Judging.{refusal}
-use Rattle.replay_session.specs.declared.Session.{Session}
 use Rattle.exports.specs.Cells.{table, state_of, cell_of, cells_of}
 
 -- beside a refusal they are zero

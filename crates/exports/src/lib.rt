@@ -68,7 +68,7 @@ fn replied(answer: Result<replay_session::Answer, Refusal>) -> u64
 }
 
 // The number of the answer to one place.
-fn put(answer: Result<PlaceAnswer, Refusal>) -> u64
+fn placed(answer: Result<PlaceAnswer, Refusal>) -> u64
     requires { LowNumber answer }
     ensures { result ≡ place_code answer }
 {
@@ -204,7 +204,7 @@ pub extern "C" fn eon_place(
     let answer = lent::put(text, &mut state, place, work);
     let left = pack(state);
     *session = left;
-    put(answer)
+    placed(answer)
 }
 
 // The line of clause i of an accepted text, and what stands on it.

@@ -91,14 +91,6 @@ module _ (table : List ℕ) (i : ℕ) (S : Database) (plus minus : ℕ) where
         ))
         m
 
-  pub goes-all : (n : ℕ) → length S ≤ n → (w₀ w : List ℕ) → Marks w (With w₀ (GoesBelow n)) → Marks w (With w₀ (Goes table i S (Next plus minus)))
-  goes-all n l w₀ w m = marks-so w (With w₀ (GoesBelow n)) (With w₀ (Goes table i S (Next plus minus)))
-      (λ e u g. (
-        λ x. ⊎_elim (λ y. inl y) (λ y. inr y.1) x,
-        λ x. ⊎_elim (λ y. inl y) (λ y. inr (omega (arith, l, y.0), y)) x,
-      ))
-      m
-
 -- CLAUSE BY CLAUSE
 module _ (m : Model) (table : List ℕ) (S : Database) (ls : List ℕ) where
   pub own-none : Marks (replicate matrix_bytes 0) (OwnBelow m table S ls 0)

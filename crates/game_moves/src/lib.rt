@@ -1,7 +1,7 @@
 // The moves of a side between the found states and the empty one, by the lines that it has.
 #![tactic(auto)]
 
-ghost use Rattle.std.specs.Prelude.{◌≡◌, ◌≤◌, ◌<◌, length};
+ghost use Rattle.std.specs.Prelude.{◌≤◌, ◌<◌, length};
 ghost use Rattle.limits.specs.Limits as limit;
 ghost use Rattle.semantics.specs.Walkers.{Whole};
 ghost use Rattle.model.specs.declared.Action.TheVariants as action;

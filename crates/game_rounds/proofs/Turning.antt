@@ -1,16 +1,14 @@
 -- A side's part of a round, and the numbers before the first round, slot by slot.
 use mathlib.Core.Path.{◌≡◌, refl, sym, ◌∙◌}
-use mathlib.Core.Bool.{Bool, true, false, not, cond, false≢true, true≢false}
+use mathlib.Core.Bool.{Bool, true, false, not, false≢true, true≢false}
 use mathlib.Core.List.{List}
 use Prim.Native.Nat.{ℕ, suc, ◌+◌, ◌≤◌, ◌<◌}
 use native.Mathlib.Omega.{arith}
 use borrow.Author.Count.{below_more}
-use lib.ListN.{length, set, replicate, length-set, length-replicate, get_or-replicate}
+use lib.ListN.{length, set, length-set}
 use lib.Seq.{get_or-set_same, get_or-set_other}
 use Rattle.std.specs.Prelude as prelude
 use Rattle.std.specs.Prelude.{is_some}
-use Rattle.limits.specs.Limits as limit
-use Rattle.facts_bits.specs.Bits.{bit_at}
 use Rattle.games.specs.Game.{Side}
 use Rattle.game_rounds.specs.Board.{Number, number_at, ready_by, given, Turned}
 
@@ -85,14 +83,3 @@ module _ (a : Side) (w : List ℕ) (n : ℕ) (ranks₀ others : List Number) (ro
         changed = λ q. let r = p.some q in (r.0, omega (arith, r.1, z), r.2, r.3);
         same = λ q k l. p.same q k (omega (arith, l, z));
       }
-
--- BEFORE THE FIRST ROUND
-module _ (M : List ℕ) where
-  pub record Beginning (e : ℕ) (ranks : List Number) : Type 0 where
-    pub long : length ranks ≡ limit.listed
-    pub done : (k : ℕ) → k < e → number_at ranks k ≡ cond (bit_at M k) (prelude.Some 0) prelude.None
-    pub rest : (k : ℕ) → e ≤ k → k < limit.listed → number_at ranks k ≡ prelude.None
-
-  pub beginning-none : Beginning 0 (replicate limit.listed prelude.None)
-  beginning-none =
-      record { long = length-replicate {A = Number} limit.listed prelude.None; done = λ k l. absurd (omega (arith, l)); rest = λ k l h. get_or-replicate limit.listed k prelude.None prelude.None h }

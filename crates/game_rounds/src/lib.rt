@@ -1,13 +1,15 @@
 // The game by rounds: the numbers of a board's positions, round by round, until a round gives none.
 #![tactic(auto)]
 
-ghost use Rattle.std.specs.Prelude.{◌≡◌, suc, ◌≤◌};
+ghost use Rattle.std.specs.Prelude.{Some, None, ◌≡◌, if◌then◌else◌, suc, ◌≤◌};
 ghost use Rattle.limits.specs.Limits as limit;
+ghost use Rattle.facts_bits.specs.Bits.{bit_at};
 ghost use Rattle.games.specs.Rounds.{any, every, before};
 ghost use Rattle.game_rounds.specs.Board.{slots, Inside, Fits, rank_of, sooner, ready_by, side_of, Turned, Begun, Solves};
 
 use facts_bits::{BYTES, WIDTH};
 use limits::LISTED;
+use std::array;
 
 // The bytes of a matrix of moves, with a row for each slot of a search.
 // The size stays here beside that of search_ways: a board is played without a search, whose crates are not named here.
@@ -93,6 +95,7 @@ fn turn(
     ensures { Turned (side_of side) moves.now n ranks.old others.now round ranks.new result }
 {
     let mut changed = false;
+    // The cells stay written by their number, for the reason at `facts_bits::widen`.
     for e in 0..=n {
         if ranks[e].is_none() && ready(side, moves, e, n, others, round) {
             ranks[e] = Some(round);
@@ -102,18 +105,20 @@ fn turn(
     changed
 }
 
-// Before the first round: the number 0 for the slots that meet the question.
+// The number of a slot before the first round, which those have that meet the question.
+fn number(met: &[u8; BYTES], n: usize, e: usize) -> Option<u32>
+    requires { n ≤ limit.atomic }
+    ensures { e ≤ n → result ≡ (if bit_at met.now e then Some 0 else None) }
+{
+    (e <= n && facts_bits::get(met, e)).then_some(0)
+}
+
+// The numbers before the first round.
 fn outset(met: [u8; BYTES], n: usize) -> [Option<u32>; LISTED]
     requires { n ≤ limit.atomic }
     ensures { Begun met n result }
 {
-    let mut ranks = [None; LISTED];
-    for e in 0..=n {
-        if facts_bits::get(&met, e) {
-            ranks[e] = Some(0);
-        }
-    }
-    ranks
+    array::from_fn(|e| number(&met, n, e))
 }
 
 // The attacker's numbers on a board, for the slots 0 to n: rounds until one gives no number.

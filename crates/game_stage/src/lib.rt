@@ -16,6 +16,7 @@ ghost use Rattle.game_lists.specs.Lists.{OneVariable};
 ghost use Rattle.game_stage.specs.Meeting.{ShowsWith, Meeting};
 
 use facts_bits::BYTES;
+use facts_candidates::Choice;
 use model::Model;
 use search_states::States;
 
@@ -24,8 +25,8 @@ fn meets(work: &[u8], slots: &[u8], body: &[u32], e: usize) -> bool
     requires { Consistent work.now × Own (length slots.now) slots.now × Evaluable body.now 1 × (e < limit.listed) }
     ensures { (S : Database) → Rows S work.now → length S ≡ length slots.now → (result ≡ true) ↔ ShowsWith S work.now (body_of body.now (length body.now)) e }
 {
-    let free = facts_candidates::free();
-    let fixed = facts_candidates::choose(free, 0, e);
+    let free = Choice::free();
+    let fixed = free.choose(0, e);
     facts_holds::shows(work, slots, body, 1, fixed)
 }
 

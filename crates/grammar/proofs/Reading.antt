@@ -60,9 +60,6 @@ pub record Reading {A : Type 0} (item : List ℕ → Read A) (text : List ℕ) (
   pub count : length more + k ≡ n
   pub read : rest item n (drop at text) ≡ onto more (rest item k (drop i text))
 
-pub reading-start : {A : Type 0} {item : List ℕ → Read A} {text : List ℕ} {at n : ℕ} → at ≤ length text → Reading item text at n [] at n
-reading-start {item = item} {text} {at} {n} h = record { begins = omega arith; ends = h; count = omega arith; read = sym (onto-nothing (rest item n (drop at text))) }
-
 module _ {A : Type 0} {item : List ℕ → Read A} {text : List ℕ} {at n : ℕ} {more : List A} {i k : ℕ} (so : Reading item text at n more i k) where
   pub reading-more : {x : A} {e : ℕ} → 0 < k → after (bytes ")") (drop i text) ≡ none → after (bytes " ") (drop i text) ≡ some (drop (i + 1) text)
       → i + 1 < e → e ≤ length text → item (drop (i + 1) text) ≡ some (x, drop e text) → Reading item text at n (more ++ (x ∷ [])) e (k - 1)

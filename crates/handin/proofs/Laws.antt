@@ -24,7 +24,7 @@ use Rattle.handin_lines.specs.Lines.{verdict, nothing, place, said_by}
 use Rattle.handin_lines.specs.Found.{is_silent, number_said, clear}
 use Rattle.std.specs.Prelude.{Some, None}
 use Rattle.std.specs.Prelude as std
-use Rattle.std.specs.Option.{MatchOption}
+use Rattle.std.specs.Option.{MatchOption, IsSome}
 use denote.Ref.{Bor}
 use Rattle.handin.specs.declared.Lines.{Lines}
 use Rattle.handin.specs.Handins.{Handin, says-no, says-yes, unreadable, content, onwards, follows, preface, read_lines, reading}
@@ -184,6 +184,10 @@ run_of (unreadable n) = []
 
 pub no-yes : {n first : ℕ} {ps : List Place} → unreadable n ≡ says-yes first ps → ⊥
 no-yes e = absurd (false≢true cc)
+
+pub some-there : (r : std.Option ℕ) → (r ≡ None → ⊥) → IsSome r
+some-there None h = absurd (h refl)
+some-there (Some v) h = refl
 
 -- THE TABLE: one number more
 store-more : (xs d : List ℕ) (v : ℕ) → length xs < length d → set (xs ++ drop (length xs) d) (length xs) v ≡ (xs ++ v ∷ []) ++ drop (suc (length xs)) d

@@ -21,6 +21,7 @@ pub struct Run {
 }
 
 // A hand-in that is unreadable at a line.
+// 0 stays for no line, where the hand-in is too long: C is told it so.
 #[derive(Clone, Copy)]
 pub struct Unreadable {
     pub line: u32,
@@ -137,7 +138,7 @@ fn after_no(left: &[u8]) -> Result<Option<Run>, Unreadable>
     }
 }
 
-// Reads a hand-in, its size, its first line, and the others: none says no.
+// Reads a hand-in: its size, its first line, and the others. A no is `Ok(None)`.
 pub fn read(handin: &[u8]) -> Result<Option<Run>, Unreadable>
     ensures { result ≡ told (reading handin.now) }
 {
@@ -153,7 +154,7 @@ pub fn read(handin: &[u8]) -> Result<Option<Run>, Unreadable>
 }
 
 // Writes the numbers of the places into the table.
-// The `return` is never taken: in a hand-in that says yes each line behind the preface is a place.
+// In a hand-in that says yes each line behind the preface is a place.
 fn write_places(left: &[u8], run: &mut [u32])
     requires { (limit.run ≤ length run.old)
         × ((n first : ℕ) × (ps : List Place) × (onwards n [] (lines left.now) ≡ says-yes first ps)) }
@@ -162,10 +163,7 @@ fn write_places(left: &[u8], run: &mut [u32])
 {
     let lines = Lines { left };
     for (k, line) in lines.enumerate() {
-        let Some(number) = read_place(line) else {
-            return;
-        };
-        run[k] = number;
+        run[k] = read_place(line).unwrap();
     }
 }
 

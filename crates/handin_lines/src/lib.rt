@@ -1,7 +1,7 @@
 // One line of a hand-in, without its byte 10. Each reader takes what is left of the line.
 #![tactic(auto)]
 
-ghost use Rattle.std.specs.Prelude.{◌≡◌, MatchOption, if◌then◌else◌, ◌+◌, ◌-◌, ◌*◌, ◌≤◌, ◌<◌, length, drop};
+ghost use Rattle.std.specs.Prelude.{◌≡◌, MatchOption, if◌then◌else◌, ◌+◌, ◌-◌, ◌*◌, ◌≤◌};
 ghost use Rattle.std.proofs.Math.Option.{none, some};
 ghost use Rattle.limits.specs.Limits as limit;
 ghost use Rattle.model.specs.declared.Place.TheVariants.{Meeting};
@@ -115,7 +115,7 @@ fn read_object(line: &[u8]) -> Option<Number<'_>>
     read_below(rest, OBJECTS as u32)
 }
 
-// What is left of a `states` line after its first word.
+// Whether a number is next, and the bracket that ends the line.
 fn is_number(line: &[u8]) -> bool
     ensures { whole (states_rest line.now) ≡ (if result then some nothing else none) }
 {

@@ -70,6 +70,7 @@ fn put_run(out: &mut [u8], at: usize, run: &[u32]) -> usize
 }
 
 // Writes the listing of a verdict, of the states and of the places of the run, and says how many bytes it has.
+// The flag stays beside the run: the listing of any verdict with any run is promised, and an `Option` of the run would ask more of callers.
 pub fn put_listing(
     out: &mut [u8],
     text: &[u8],

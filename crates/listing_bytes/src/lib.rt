@@ -17,7 +17,7 @@ pub fn put_byte(out: &mut [u8], at: usize, b: u8) -> usize
 }
 
 // Writes the bytes from place `at` on.
-// It stays beside `write_str`, which takes a `&str` and may answer an error: here bytes are written, of which the contract asks nothing but that the slice that C lends has room for them.
+// It stays beside `write_str`, which takes a `&str` and may answer an error: here bytes are written, of which the contract asks nothing but that the lent slice has room for them.
 pub fn put_bytes(out: &mut [u8], at: usize, bytes: &[u8]) -> usize
     requires { at + length bytes.now ≤ length out.old }
     ensures { Writes out.old at bytes.now result out.new }
@@ -28,7 +28,7 @@ pub fn put_bytes(out: &mut [u8], at: usize, bytes: &[u8]) -> usize
 }
 
 // Writes the numeral of n, its last digit last.
-// It stays beside `Display`, whose law says what is written only where the writer answers no error: the slice that C lends has the room that the contract asks for, so that no call here fails, and through a writer each would have a failure to hand on.
+// It stays beside `Display`, whose law says what is written only where the writer answers no error: the lent slice has the room that the contract asks for, so that no call here fails, and through a writer each would have a failure to hand on.
 pub fn put_numeral(out: &mut [u8], at: usize, n: u32) -> usize
     requires { at + length (decimal n) ≤ length out.old }
     ensures { Writes out.old at (decimal n) result out.new }

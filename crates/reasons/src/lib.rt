@@ -1,7 +1,7 @@
 // Why a place is not allowed.
 #![tactic(auto)]
 
-ghost use Rattle.std.specs.Prelude.{◌≡◌, List, [], ◌∷◌, ◌≢◌, ℕ, ◌≤◌, ◌<◌, length};
+ghost use Rattle.std.specs.Prelude.{◌≡◌, List, [], ◌∷◌, ℕ, ◌≤◌, ◌<◌};
 ghost use Rattle.std.proofs.Math.Option.{some};
 ghost use Rattle.limits.specs.Limits as limit;
 ghost use Rattle.semantics.specs.Runs as runs;
@@ -13,7 +13,7 @@ ghost use Rattle.replay_steps.specs.Tries.{Lent, Open};
 ghost use Rattle.reasons.specs.Reasons.{Explains, Swapped, AnySwapped, Absent, Beyond};
 
 use facts_candidates::Choice;
-use limits::{CARRIED, NONE};
+use limits::CARRIED;
 use model::{Action, Model, Place, Stage};
 use replay_session::Position;
 
@@ -49,7 +49,7 @@ fn why_step(m: &Model, slots: &[u8], work: &[u8], at: Position, line: u32, objec
             Action::Next { .. } => Reason::NoObject,
         };
     };
-    let index = reasons_bodies::blame(c.body(&m.literals), &slots[..n], work, c.variables, fixed);
+    let index = reasons_bodies::blame(c.body(&m.literals), &slots[..n], work, fixed);
     Reason::Literal { index }
 }
 
@@ -64,7 +64,7 @@ fn absent(object: Option<usize>, objects: usize) -> bool
 fn beyond(c: Choice, n: usize, objects: usize) -> bool
     ensures { Says (Beyond c n objects) result }
 {
-    (0..n).any(|x| absent(facts_candidates::element(c, x), objects))
+    (0..n).any(|x| absent(c.element(x), objects))
 }
 
 // Does a choice have another object than the carried one for the stage's variable of a number?
@@ -77,7 +77,7 @@ fn swapped(g: Stage, number: u32, carried: Option<usize>, c: Choice) -> bool
         return false;
     };
     let n = g.variables as usize;
-    (0..n).any(|x| g.numbers[x] == number && facts_candidates::element(c, x) != Some(held))
+    (0..n).any(|x| g.numbers[x] == number && c.element(x) != Some(held))
 }
 
 // Does a choice have another object than the carried one for some of the carried variables of these numbers?
@@ -128,7 +128,7 @@ fn why_meeting(
     if any_swapped(m.carried, g, carried, fixed) {
         return Reason::Carried;
     }
-    let index = reasons_bodies::blame(g.body(&m.literals), &slots[..n], work, g.variables, fixed);
+    let index = reasons_bodies::blame(g.body(&m.literals), &slots[..n], work, fixed);
     Reason::Literal { index }
 }
 

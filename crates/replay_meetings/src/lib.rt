@@ -1,7 +1,7 @@
 // The meeting of a stage put to the replay's state.
 #![tactic(auto)]
 
-ghost use Rattle.std.specs.Prelude.{◌≡◌, IfSome, List, [], ◌∷◌, ℕ, ◌≤◌, ◌<◌, length};
+ghost use Rattle.std.specs.Prelude.{◌≡◌, IfSome, List, [], ◌∷◌, ℕ, ◌≤◌, length};
 ghost use Rattle.limits.specs.Limits as limit;
 ghost use Rattle.semantics.specs.Runs.{meet};
 ghost use Rattle.model.specs.Places.{objects};
@@ -20,7 +20,7 @@ use replay_steps::Outcome;
 use std::array;
 
 // How many objects a meeting names.
-// The three numbers stay apart, here and below, as the three fields of `model::Place` that they are: `place_of`, `number_of` and `choice` name each of them, and as an array they would name its places 0 to 2.
+// The three numbers stay apart, here and below, as the three fields of `model::Place` that they are.
 pub fn count(first: u32, second: u32, third: u32) -> u32
     ensures { result ≡ length (objects (first ∷ second ∷ third ∷ [])) }
 {
@@ -57,7 +57,7 @@ fn named(g: Stage, number: u32, c: Choice) -> Option<usize>
     ensures { Named g number c result }
 {
     let x = g.seat(number)?;
-    facts_candidates::element(c, x)
+    c.element(x)
 }
 
 // Whether an object may be met where another, or none, is carried.

@@ -25,6 +25,7 @@ use Rattle.model.proofs.Places.{number-of-place}
 use Rattle.model.proofs.Accepted.{stages}
 use Rattle.facts_table.specs.Table.{Consistent}
 use Rattle.std.specs.Prelude.{Option, Some}
+use Rattle.facts_plans.specs.declared.ClausePlan.{ClausePlan}
 use Rattle.facts_derived.specs.declared.Stock.{Stock}
 use Rattle.facts_derived.specs.Stocks.{ExactFor, StockedIfAny, Enough, Supplied}
 use Rattle.facts_derived.proofs.Users.{any, there, supplied}
@@ -150,7 +151,7 @@ pub running-ends : (m : Model) (run : List ℕ) (i : ℕ) (s : Session) → Runn
 running-ends m run i s r l t e = subst (Stopped m run i) (sym e) (record { within = l; kept = r.kept; fits = r.fits; long = r.long; cells = r.cells; leads = r.leads })
 
 -- WHAT THE RUN SEES of its database: a view, a work area that shows its row, and a stock of facts over it, if any are begun
-pub record Seen (m : Model) (plans : List ℕ) (db : Database) (v : View) (s : Option Stock) (units w d : List ℕ) : Type 0 where
+pub record Seen (m : Model) (plans : List ClausePlan) (db : Database) (v : View) (s : Option Stock) (units w d : List ℕ) : Type 0 where
   pub views : Views db v
   pub shown : Arranged (row_of v) w
   pub stocked : StockedIfAny m v.count plans s units w d
@@ -162,7 +163,7 @@ row-length db v h = let g = h.good in length-take-le v.count v.row (let a = g.fe
 pub exact-known : (m : Model) (R S w : List ℕ) → Consistent w → ExactFor m R S w → Known (program_of m) R S w
 exact-known m R S w c e = record { agree = c; states = e.states; facts = e.facts }
 
-module _ (m : Model) (plans need : List ℕ) (db : Database) (v : View) (s : Option Stock) (units w d : List ℕ) (seen : Seen m plans db v s units w d) where
+module _ (m : Model) (plans : List ClausePlan) (need : List ℕ) (db : Database) (v : View) (s : Option Stock) (units w d : List ℕ) (seen : Seen m plans db v s units w d) where
   pub seen-enough : Enough s need true → Sees m need db v w
   seen-enough h =
       record {

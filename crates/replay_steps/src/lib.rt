@@ -1,7 +1,7 @@
 // A step put to the replay's state: whether it is allowed, and what it makes of the state. The model is lent, and so are the slots of the view.
 #![tactic(auto)]
 
-ghost use Rattle.std.specs.Prelude.{◌≡◌, IfSome, List, map, ℕ, ◌+◌, ◌≤◌, ◌<◌, length};
+ghost use Rattle.std.specs.Prelude.{◌≡◌, IfSome, map, ℕ, ◌+◌, ◌<◌, length};
 ghost use Rattle.limits.specs.Limits as limit;
 ghost use Rattle.semantics.specs.Models.{vars, Supported};
 ghost use Rattle.semantics.specs.Runs.{step};
@@ -89,9 +89,9 @@ fn number(n: usize, c: Choice) -> u32
     requires { (x : ℕ) → x < n → chosen c x < limit.objects }
     ensures { result ≡ standing (map (chosen c) (up_from 0 n)) }
 {
-    let first = facts_candidates::object(n, 0, c);
-    let second = facts_candidates::object(n, 1, c);
-    let third = facts_candidates::object(n, 2, c);
+    let first = c.object(n, 0);
+    let second = c.object(n, 1);
+    let third = c.object(n, 2);
     first * 65_536 + second * 256 + third
 }
 
@@ -113,10 +113,10 @@ pub fn fixed(action: Action, n: usize, object: u32) -> Option<Choice>
 {
     let o = object as usize;
     match action {
-        Action::New { .. } if o == n => Some(facts_candidates::free()),
+        Action::New { .. } if o == n => Some(Choice::free()),
         Action::Next { .. } if o < n => {
-            let nobody = facts_candidates::free();
-            Some(facts_candidates::choose(nobody, 0, o))
+            let nobody = Choice::free();
+            Some(nobody.choose(0, o))
         }
         _ => None,
     }

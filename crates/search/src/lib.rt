@@ -2,7 +2,6 @@
 #![tactic(auto)]
 
 ghost use Rattle.std.specs.Prelude.{◌≡◌, ◌≤◌, ◌<◌, length, IfSome};
-ghost use Rattle.limits.specs.Limits as limit;
 ghost use Rattle.semantics.specs.Walkers.{Whole};
 ghost use Rattle.model.specs.Records.{program_of, stage_at};
 ghost use Rattle.model.specs.WellFormed.{WellFormed};
@@ -16,7 +15,7 @@ use facts_bits::BYTES;
 use model::Model;
 use search_levels::Levels;
 use search_states::{Listing, States};
-use search_ways::{MATRIX, Moves, TABLE};
+use search_ways::Moves;
 
 // The reachable states in order of discovery and by rising number, and their moves.
 #[derive(Clone, Copy)]
@@ -41,10 +40,8 @@ fn tables(work: &[u8], m: Model, s: States) -> Moves
     requires { WellFormed m × (room ≤ length work.now) × Exactly m work.now s × Whole (program_of m) (row s) }
     ensures { Moving m s result }
 {
-    let mut table = [0u8; TABLE];
-    search_ways::takes(work, m, &mut table);
-    let mut steps = [0u8; MATRIX];
-    search_ways::steps(m, s, &table, &mut steps);
+    let table = search_ways::takes(work, m);
+    let steps = search_ways::steps(m, s, &table);
     let mut ways = steps;
     search_ways::close(&mut ways, s.count);
     Moves { table, steps, ways }

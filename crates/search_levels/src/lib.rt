@@ -13,7 +13,7 @@ ghost use Rattle.search_ways.specs.Moves.{matrix_bytes, Exactly};
 ghost use Rattle.search_levels.specs.Levels.{Aims, pair_at, OnLevel, Filled};
 ghost use Rattle.search_levels.specs.Passing.{stands, place, Has, Picked, Onward, Led, besides, Aimed, Holding, Met, Hopeful, Over, Asked, Ready, walker_of, meeting_of, Clear, Written};
 
-use facts_bits::{BYTES, SLOTS, WIDTH};
+use facts_bits::{BYTES, WIDTH};
 use facts_candidates::Choice;
 use limits::{CARRIED, LISTED, STAGES};
 use model::{Model, Stage};
@@ -82,7 +82,7 @@ fn seated(c: Choice, a: Walker, e: usize) -> Choice
     ensures { (x : ℕ) → x < limit.variables → element_of result x ≡ (if stands a && x == place a then Some e else element_of c x) }
 {
     match a.seat {
-        Some(v) => facts_candidates::choose(c, v, e),
+        Some(v) => c.choose(v, e),
         None => c,
     }
 }
@@ -93,7 +93,7 @@ fn begins(work: &[u8], slots: &[u8], body: &[u32], variables: usize, c: Choice, 
     requires { Asked work.now slots.now body.now variables × (0 < variables) × (element_of c 0 ≡ None) }
     ensures { Over work.now (length slots.now) (λ S. (result ≡ true) ↔ Holding S work.now body.now variables c (λ σ. σ 0 ≡ e)) }
 {
-    let one = facts_candidates::choose(c, 0, e);
+    let one = c.choose(0, e);
     facts_holds::shows(work, slots, body, variables, one)
 }
 
@@ -143,7 +143,7 @@ fn holds(work: &[u8], slots: &[u8], body: &[u32], t: Meeting, e: usize, f: usize
     requires { Ready work.now slots.now body.now t × (e < limit.listed) × (f < limit.listed) }
     ensures { Over work.now (length slots.now) (λ S. (result ≡ true) ↔ Met S work.now body.now t e f) }
 {
-    let free = facts_candidates::free();
+    let free = Choice::free();
     let one = seated(free, t.first, e);
     let both = seated(one, t.second, f);
     pointed(work, slots, body, t.variables, t.pointing, both)
@@ -266,7 +266,7 @@ fn led(ways: &[u8; MATRIX], t: Meeting, rows: &[u8; LEVELS], k: usize, f: usize)
 }
 
 // The slots to which the first object goes from level k and with which the stage holds, whatever the second one does: one evaluation for each.
-// The matrices stay beside what the evaluator takes: the body is asked over the work area, and the moves are read in the matrices.
+// The matrices stay beside what the evaluator takes: `led` and `onward` take none of what the evaluator takes and `met` none of the matrices, so that a struct of both would be taken apart for each call.
 fn hopeful(
     work: &[u8],
     slots: &[u8],

@@ -66,9 +66,9 @@ pub fn seek(row: &[u32], x: u32) -> Option<usize>
 
 // The row with the state behind, unless it is listed already; of the empty state it is noted that it is found. Nothing where there is no room for the state.
 // It stays a function from states to states: over `&mut` it would still have to answer whether there was room, and its contract to say what stands in the states where there was none.
-pub fn add(mut s: States, state: u32, line: u32, origin: u32) -> Option<States>
+pub fn add(mut s: States, state: u32, arrival: Arrival) -> Option<States>
     requires { Proper s × (state < limit.sets) }
-    ensures { result ≡ added s state line origin }
+    ensures { result ≡ added s state arrival.line arrival.origin }
 {
     if state == 0 {
         s.empty = true;
@@ -82,7 +82,7 @@ pub fn add(mut s: States, state: u32, line: u32, origin: u32) -> Option<States>
         return None;
     }
     s.states[n] = state;
-    s.arrivals[n] = Arrival { line, origin };
+    s.arrivals[n] = arrival;
     s.count = n + 1;
     Some(s)
 }

@@ -16,7 +16,7 @@ use Rattle.facts_bits.proofs.Laws.{with-bit}
 use Rattle.search_ways.specs.Moves.{Marks, None, With, InRow}
 
 -- bytes that are 0 have no bit
-pub marks-zero : (w : List ℕ) (n : ℕ) → length w ≡ n → ((k d : ℕ) → k < n → ◌≡◌ {A = ℕ} 0 0 → get_or w k d ≡ 0) → Marks w None
+marks-zero : (w : List ℕ) (n : ℕ) → length w ≡ n → ((k d : ℕ) → k < n → ◌≡◌ {A = ℕ} 0 0 → get_or w k d ≡ 0) → Marks w None
 unfolding bit_at
 marks-zero w n long h = record { bits = λ i e l. ((λ q. false≢true (sym (rw (zero i e) (has-empty ((i * width.bits + e) % 8))) ∙ q)), λ q. absurd q) }
   where

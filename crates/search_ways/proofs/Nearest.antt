@@ -7,8 +7,8 @@ use Prim.Native.Nat.{ℕ, zero, suc, ◌+◌, ◌≤◌, ◌<◌}
 use native.Mathlib.Omega.{arith}
 use native.Mathlib.Numerals.{add-one}
 use native.Mathlib.Nat.{zero-add}
-use lib.Dec.{eqb, ltb}
-use borrow.Author.Tests.{eqb-true, eqb-false, ltb-true, ltb-false}
+use lib.Dec.{ltb}
+use borrow.Author.Tests.{ltb-true, ltb-false}
 use lib.ListN.{length, set, take, length-set}
 use lib.Seq.{slice, slice-cons, take-set-lt, drop-set-lt, get_or-set_same}
 use Rattle.std.proofs.lemmas.Bool.{cases_Bool}
@@ -149,11 +149,3 @@ said false A h q = clash q refl
 pub denied : (r : Bool) (A : Type 0) → Says r A → r ≡ false → A → ⊥
 denied true A h q = clash refl q
 denied false A h q = h
-
--- what a test of numbers or of a bit says
-pub says_eq : (a b : ℕ) → Says (eqb a b) (a ≡ b)
-says_eq a b = ⊎_elim (λ (q : eqb a b ≡ true). rw q (eqb-true a b q)) (λ (q : eqb a b ≡ false). rw q (eqb-false a b q)) (cases_Bool (eqb a b))
-
-pub says-bit : (b c : Bool) → b ≡ c → Says b (c ≡ true)
-says-bit true c q = sym q
-says-bit false c q = λ h. clash h (sym q)

@@ -1,7 +1,7 @@
 // The table of moves over the found states, who can come from which state to which, and a shortest way.
 #![tactic(auto)]
 
-ghost use Rattle.std.specs.Prelude.{◌≡◌, ℕ, ◌+◌, ◌*◌, ◌≤◌, ◌<◌, length, take};
+ghost use Rattle.std.specs.Prelude.{◌≡◌, ℕ, ◌+◌, ◌*◌, ◌≤◌, ◌<◌, length};
 ghost use Rattle.limits.specs.Limits as limit;
 ghost use Rattle.semantics.specs.Labels.{relabel};
 ghost use Rattle.semantics.specs.Models.{Distinct, line};
@@ -52,14 +52,15 @@ fn note(work: &[u8], c: Clause, i: usize, table: &mut [u8])
 // The table of moves: row i has the slots from which clause i can be taken, if it is a `next` clause.
 // That the model is well formed stays a clause: a record is blank before a text is read into it, which is not well formed, and a second type around a well-formed record would be opened wherever a field of it is read.
 // Here and in `steps` the loop stays over the numbers of the clauses: the rows of the table stand by the number, and `enumerate` would only give a name to the clause, which is read once.
-pub fn takes(work: &[u8], m: Model, table: &mut [u8; TABLE])
+pub fn takes(work: &[u8], m: Model) -> [u8; TABLE]
     requires { WellFormed m × (room ≤ length work.now) }
-    ensures { (s : States) → Exactly m work.now s → Marks table.new (CanTake m s) }
+    ensures { (s : States) → Exactly m work.now s → Marks result (CanTake m s) }
 {
-    table.fill(0);
+    let mut table = [0u8; TABLE];
     for i in 0..m.clausecount {
-        note(work, m.clauses[i], i, table);
+        note(work, m.clauses[i], i, &mut table);
     }
+    table
 }
 
 // Marks each of the first n slots with itself.
@@ -117,17 +118,18 @@ fn lead_clause(states: &[u32], c: Clause, table: &[u8; TABLE], i: usize, ways: &
 }
 
 // The matrix of single steps: row e has slot e and the slots to which some line takes an object of its state.
-// The model, the states and the table stay apart, with what they must be in clauses, as at `way`; the moves, which hold the table, are made of what this writes.
-pub fn steps(m: Model, s: States, table: &[u8; TABLE], ways: &mut [u8; MATRIX])
+// The model, the states and the table stay apart, with what they must be in clauses, as at `way`; the moves, which hold the table, are made of what this answers.
+pub fn steps(m: Model, s: States, table: &[u8; TABLE]) -> [u8; MATRIX]
     requires { WellFormed m × Proper s × Marks table.now (CanTake m s) }
-    ensures { Marks ways.new (Between s.count (OneStep (program_of m) (row s))) }
+    ensures { Marks result (Between s.count (OneStep (program_of m) (row s))) }
 {
-    ways.fill(0);
-    stay(s.count, ways);
+    let mut ways = [0u8; MATRIX];
+    stay(s.count, &mut ways);
     let states = s.row();
     for i in 0..m.clausecount {
-        lead_clause(states, m.clauses[i], table, i, ways);
+        lead_clause(states, m.clauses[i], table, i, &mut ways);
     }
+    ways
 }
 
 // Adds what row k has to each of the first n rows that has slot k.

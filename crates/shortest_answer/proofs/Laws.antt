@@ -26,7 +26,6 @@ use Rattle.search.specs.Search.{Surveyed}
 use Rattle.helpers.specs.Helpers.{Helpers, Helped}
 use Rattle.helpers.proofs.Beside.{some-helpers, way-leads, leads-way}
 use Rattle.shortest_empty.specs.Emptying as empty
-use Rattle.shortest_empty.specs.Emptying.{Mapped}
 use Rattle.shortest_empty.proofs.Laws.{take-most}
 use Rattle.std.specs.Prelude.{Option, Some, None, Ok}
 use Rattle.shortest_answer.specs.Answering.{Both, Answered}

@@ -110,7 +110,7 @@ fn complete(said: &mut [Option<bool>], m: Model, l: Lines, facts: &mut [u8])
 }
 
 // How many choices there are of so many lines.
-fn ways(count: usize) -> usize
+fn choices_of(count: usize) -> usize
     requires { count ≤ most }
     ensures { result ≡ 2 ^ count }
 {
@@ -122,7 +122,7 @@ pub fn fill(m: Model, l: Lines) -> Option<Table>
     requires { WellFormed m × (l.count ≤ most) }
     ensures { Fills (program_of m) (question_of m) (listed l) result }
 {
-    let total = ways(l.count);
+    let total = choices_of(l.count);
     let mut said = [None; CHOICES];
     let mut facts = [0u8; ROOM];
     let whole = search::search(&mut facts, m)?;

@@ -50,12 +50,12 @@ names_stand text d e m h v p =
           ∙ slice-prefix text (begin (name_at d i)) (end (name_at d i)) e (inside i l)));
     }
 
-module _ {text : List ℕ} {at n e : ℕ} {d : Declared} {m : Model} (so : Reached text at n d m) (k : AskLine text at e) where
-  form : form_of (slice at e text) ≡ whole (ask_rest (slice (at + 5) e text))
-  form = ask-line (slice at e text) k.word
+module _ {text : List ℕ} {at ask n e : ℕ} {d : Declared} {m : Model} (so : Reached text at n d m) (k : AskLine text at ask e) where
+  form : form_of (slice at e text) ≡ whole (ask_rest (slice ask e text))
+  form = ask-line (slice at e text) k.word.read
 
   module _ {f r : Model} where
-    pub ask-refused : (x : Row) → AskEnd (declared_of (take e text) d) f (ask_rest (slice (at + 5) e text)) (Err x) r → onwards text at n d m ≡ refused (number_of x) n
+    pub ask-refused : (x : Row) → AskEnd (declared_of (take e text) d) f (ask_rest (slice ask e text)) (Err x) r → onwards text at n d m ≡ refused (number_of x) n
     ask-refused x (unshaped w q) =
         onwards-line so k.line ∙ reads-unshaped n (declared_of (take e text) d) (program_of m) (lines (drop (e + 1) text)) (slice at e text) k.line.good (form ∙ w)
         ∙ ap (λ (i : ℕ). refused i n) (sym (ap (fault_in {A = Unit {0}}) q))
@@ -66,7 +66,7 @@ module _ {text : List ℕ} {at n e : ℕ} {d : Declared} {m : Model} (so : Reach
         ∙ (reads-faulty n (declared_of (take e text) d) P (lines (drop (e + 1) text)) (slice at e text) k.line.good g (form ∙ w) (λ y. some-number x (sym z ∙ y))
         ∙ ap (λ (i : ℕ). refused i n) z)
 
-    module _ (qs : List (List Literal)) (w : whole (ask_rest (slice (at + 5) e text)) ≡ some (ask_form qs)) (z : (clauses : ℕ) → 0 ≡ fault (declared_of (take e text) d) clauses (ask_form qs)) (a : Asks (declared_of (take e text) d) f qs r) where
+    module _ (qs : List (List Literal)) (w : whole (ask_rest (slice ask e text)) ≡ some (ask_form qs)) (z : (clauses : ℕ) → 0 ≡ fault (declared_of (take e text) d) clauses (ask_form qs)) (a : Asks (declared_of (take e text) d) f qs r) where
       onwards-ask : onwards text at n d m ≡ finish n (accepted (declared_of (take e text) d) (program_of m) (question_of (declared_of (take e text) d) qs)) (lines (drop (e + 1) text))
       onwards-ask =
           onwards-line so k.line ∙ reads-ask n (declared_of (take e text) d) (program_of m) (lines (drop (e + 1) text)) (slice at e text) k.line.good qs (form ∙ w) (sym (z (length (program_of m))))
@@ -92,10 +92,10 @@ module _ {text : List ℕ} {at n e : ℕ} {d : Declared} {m : Model} (so : Reach
             names = names_stand text d e r (omega arith) v g.names;
           }
 
-    pub ask-followed : AskEnd (declared_of (take e text) d) f (ask_rest (slice (at + 5) e text)) (Ok tt) r → e + 1 < length text → onwards text at n d m ≡ refused 10 (n + 1)
+    pub ask-followed : AskEnd (declared_of (take e text) d) f (ask_rest (slice ask e text)) (Ok tt) r → e + 1 < length text → onwards text at n d m ≡ refused 10 (n + 1)
     ask-followed (unshaped w q) h = absurd (ok-err q)
     ask-followed (shaped g w z (qs, y, a)) h = followed qs (w ∙ ap some y) (λ clauses. z clauses ∙ ap (fault (declared_of (take e text) d) clauses) y) a h
 
-    pub ask-last : AskEnd (declared_of (take e text) d) f (ask_rest (slice (at + 5) e text)) (Ok tt) r → length text ≤ e + 1 → f ≡ fitted m d n → Accepts (onwards text at n d m) text r
+    pub ask-last : AskEnd (declared_of (take e text) d) f (ask_rest (slice ask e text)) (Ok tt) r → length text ≤ e + 1 → f ≡ fitted m d n → Accepts (onwards text at n d m) text r
     ask-last (unshaped w q) h x = absurd (ok-err q)
     ask-last (shaped g w z (qs, y, a)) h x = last qs (w ∙ ap some y) (λ clauses. z clauses ∙ ap (fault (declared_of (take e text) d) clauses) y) a h x

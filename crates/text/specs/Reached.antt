@@ -1,16 +1,13 @@
 -- FROM LINE TO LINE: how far a text is read.
 use Rattle.std.specs.Prelude.{◌≡◌, List, ℕ, suc, ◌+◌, ◌≤◌, length, take, drop}
-use Rattle.std.proofs.Math.Option.{some}
-use Rattle.std.proofs.Math.Seq.{slice}
 use Rattle.limits.specs.Limits as limit
 use Rattle.model.specs.Records.{program_of}
 use Rattle.model.specs.declared.Model.{Model}
 use Rattle.grammar.specs.Bytes.{bytes, lines}
-use Rattle.grammar.specs.Shapes.{after}
 use Rattle.grammar.specs.Texts.{Outcome, read_lines}
 use Rattle.text_names.specs.Names.{Valid, declared_of}
 use Rattle.text_names.specs.declared.Declared.{Declared}
-use Rattle.text_scan.specs.Found.{LineEnd}
+use Rattle.text_scan.specs.Found.{BytesEnd, LineEnd}
 use Rattle.text_declarations.specs.Declares.{Limited}
 use Rattle.text_record.specs.Stored as stored
 
@@ -29,8 +26,7 @@ pub record Reached (text : List ℕ) (at n : ℕ) (d : Declared) (m : Model) : T
 unfoldable pub onwards : List ℕ → ℕ → ℕ → Declared → Model → Outcome
 onwards text at n d m = read_lines n (declared_of (take at text) d) (program_of m) (lines (drop at text))
 
--- it is the `ask` line
-pub record AskLine (text : List ℕ) (at e : ℕ) : Type 0 where
+-- it is the `ask` line, whose first word ends at `ask`
+pub record AskLine (text : List ℕ) (at ask e : ℕ) : Type 0 where
   pub line : LineEnd text at e
-  pub room : at + 5 ≤ e
-  pub word : after (bytes "(ask ") (slice at e text) ≡ some (slice (at + 5) e text)
+  pub word : BytesEnd (take e text) at (bytes "(ask ") ask

@@ -1,7 +1,7 @@
 // The bracket text: every byte list becomes an accepted model, or one listed refusal with its line.
 #![tactic(auto)]
 
-ghost use Rattle.std.specs.Prelude.{◌≡◌, [], ◌≤◌, length, Ok, Err, MatchResult};
+ghost use Rattle.std.specs.Prelude.{◌≡◌, [], ℕ, ◌≤◌, length, Ok, Err, MatchResult};
 ghost use Rattle.limits.specs.Limits as limit;
 ghost use Rattle.grammar.specs.Bytes.{lines};
 ghost use Rattle.grammar.specs.Texts.{read_lines, outcome};
@@ -21,21 +21,20 @@ fn on_line(answer: Result<(), Row>, line: u32) -> Result<(), Refusal>
     answer.map_err(|row| Refusal { row, line })
 }
 
-// The `ask` line from `at` to e, and whether a line follows it.
-// The place behind the first word stays a number: `strip_prefix` would give the rest of the line, and names keep their place in the whole text.
+// The `ask` line, whose first word ends at `ask` and the line at e, and whether a line follows it.
 fn read_question(
     text: &[u8],
-    at: usize,
+    ask: usize,
     e: usize,
     d: Declared,
     m: &mut Model,
     line: u32,
 ) -> Result<(), Refusal>
-    requires { (length text.now ≤ limit.text) × Reached text.now at line d m.old × AskLine text.now at e }
-    ensures { Fills (onwards text.now at line d m.old) text.now result m.new }
+    requires { (length text.now ≤ limit.text) × ((at : ℕ) × Reached text.now at line d m.old × AskLine text.now at ask e) }
+    ensures { (at : ℕ) → Reached text.now at line d m.old → AskLine text.now at ask e → Fills (onwards text.now at line d m.old) text.now result m.new }
 {
     text_opening::fit(m, d, line);
-    on_line(text_ask::read_ask(&text[..e], d, at + 5, m), line)?;
+    on_line(text_ask::read_ask(&text[..e], d, ask, m), line)?;
     if e + 1 < text.len() {
         return Err(Refusal {
             row: Row::End,
@@ -59,8 +58,8 @@ fn read_lines(text: &[u8], m: &mut Model) -> Result<(), Refusal>
             row: Row::Byte,
             line,
         })?;
-        if text_scan::at_bytes(&text[..e], at, b"(ask ") {
-            return read_question(text, at, e, d, m, line);
+        if let Some(ask) = text_scan::past_bytes(&text[..e], at, b"(ask ") {
+            return read_question(text, ask, e, d, m, line);
         }
         on_line(text_lines::read_line(&text[..e], at, &mut d, m, line), line)?;
         at = e + 1;

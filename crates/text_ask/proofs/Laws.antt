@@ -1,20 +1,21 @@
 -- Laws of the reader of the `ask` line.
 use mathlib.Core.Path.{◌≡◌, subst, ◌∙◌}
-use mathlib.Core.List.{List, [], ◌∷◌, ◌++◌, append-nil, append_assoc}
-use mathlib.Core.Option.{none, some}
-use Prim.Native.Nat.{ℕ, ◌+◌, ◌-◌, ◌≤◌, ◌<◌}
+use mathlib.Core.List.{List, [], ◌∷◌, ◌++◌, append_assoc}
+use mathlib.Core.Option.{none}
+use Prim.Native.Nat.{ℕ, ◌+◌, ◌-◌}
 use native.Mathlib.Omega.{arith}
-use lib.ListN.{length, drop, length-append}
+use lib.ListN.{drop, length-append}
 use Rattle.model.specs.declared.Model.{Model}
 use Rattle.grammar.specs.Bytes.{bytes}
 use Rattle.grammar.specs.Forms as forms
 use Rattle.grammar.specs.Shapes.{after, stage}
 use Rattle.grammar.specs.Declarations.{Declared}
-use Rattle.grammar.proofs.Reading.{Reading, reading-start, reading-more, reading-closed}
+use Rattle.grammar.proofs.Reading.{Reading, reading-more, reading-closed}
+use Rattle.text_scan.specs.Found.{BytesEnd}
 use Rattle.text_rows.specs.declared.Taken.{Taken}
 use Rattle.text_literals.specs.Frames.{Framed}
 use Rattle.text_stages.specs.Questions as questions
-use Rattle.text_stages.specs.Questions.{Asked, Addable, Added}
+use Rattle.text_stages.specs.Questions.{Asked, Added}
 use Rattle.text_bodies.specs.Bodies.{StageEnd}
 use Rattle.text_ask.specs.Asks.{Extends, StagesEnd, carrying}
 
@@ -37,36 +38,20 @@ pub record StagesSo (text : List ℕ) (D : Declared) (at n : ℕ) (s : Asked) (m
   pub reading : Reading stage text at n more i k
   pub holds : Extends text D s m more g h
 
-pub stages-start : {text : List ℕ} {D : Declared} {at n : ℕ} {s : Asked} {m : Model} → at ≤ length text → StagesSo text D at n s m s m at n
-stages-start h = record { more = []; reading = reading-start h; holds = λ m₀ qs l so. rw (append-nil qs) so }
-
 module _ {text : List ℕ} {D : Declared} {at n : ℕ} {s g : Asked} {m u : Model} {i k : ℕ} (so : StagesSo text D at n s m g u i k) where
-  pub stages-addable : {b : Taken Framed} {j : ℕ} → 0 < k → ((m₀ : Model) × (qs : List (List forms.Literal)) × (length qs + n ≤ 4) × questions.Holds text D m₀ qs s m) → StageEnd text D j b → Addable text g u b
-  stages-addable h (m₀, qs, l, o) e =
-      let c = so.reading.count in
-      record {
-        D = D;
-        m₀ = m₀;
-        qs = qs ++ so.more;
-        q = e.q;
-        few = omega (arith, length-append qs so.more);
-        holds = so.holds m₀ qs (omega arith) o;
-        frame = e.holds;
-      }
-
-  pub stages-more : {b : Taken Framed} {r : Asked} {v : Model} {j : ℕ} → j + 1 ≡ k → after (bytes ")") (drop i text) ≡ none → after (bytes " ") (drop i text) ≡ some (drop (i + 1) text)
-      → StageEnd text D (i + 1) b → Added text g u b r v → StagesSo text D at n s m r v b.end j
-  stages-more {b} {j = j} h p q e ad = record {
+  pub stages-more : {b : Taken Framed} {r : Asked} {v : Model} {o j : ℕ} → j + 1 ≡ k → after (bytes ")") (drop i text) ≡ none → BytesEnd text i (bytes " ") o
+      → StageEnd text D o b → Added text g u b r v → StagesSo text D at n s m r v b.end j
+  stages-more {b} {o = o} {j} h p q e ad = record {
     more = so.more ++ (e.q ∷ []);
-    reading = let z : k - 1 ≡ j = omega arith in subst (Reading stage text at n (so.more ++ (e.q ∷ [])) b.end) z (reading-more so.reading (omega arith) p q e.begins e.ends e.read);
-    holds = λ m₀ qs l o. let c = length-append so.more (e.q ∷ []) in rw (← append_assoc) (ad.added D m₀ (qs ++ so.more) e.q (omega (arith, length-append qs so.more)) (so.holds m₀ qs (omega arith) o) e.holds);
+    reading = let z : k - 1 ≡ j = omega arith in subst (Reading stage text at n (so.more ++ (e.q ∷ [])) b.end) z (reading-more so.reading (omega arith) p (rw q.begins at q.read) (omega (arith, q.begins, e.begins)) e.ends (rw q.begins at e.read));
+    holds = λ m₀ qs l so₀. let c = length-append so.more (e.q ∷ []) in rw (← append_assoc) (ad.added D m₀ (qs ++ so.more) e.q (omega (arith, length-append qs so.more)) (so.holds m₀ qs (omega arith) so₀) e.holds);
   }
 
-  pub stages-closed : i < length text → after (bytes ")") (drop i text) ≡ some (drop (i + 1) text) → StagesEnd text D at n s m (record { kept = g; end = i + 1 }) u
-  stages-closed h p = record {
+  pub stages-closed : {e : ℕ} → BytesEnd text i (bytes ")") e → StagesEnd text D at n s m (record { kept = g; end = e }) u
+  stages-closed p = record {
     more = so.more;
-    ends = omega arith;
+    ends = p.ends;
     few = omega (arith, so.reading.count);
-    read = reading-closed so.reading p;
+    read = rw p.begins (reading-closed so.reading (rw p.begins at p.read));
     holds = so.holds;
   }

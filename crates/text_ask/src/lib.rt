@@ -16,6 +16,7 @@ use model::Model;
 use rows::Row;
 use text_names::Declared;
 use text_rows::Taken;
+use text_scan::past;
 use text_scope::Scope;
 
 // The stages of a question behind its first.
@@ -41,26 +42,15 @@ fn read_stages(
     let mut table = s;
     let mut i = at;
     for _ in 0..n {
-        if text_scan::at_byte(text, i, b')') {
-            return Some(Taken {
-                kept: table,
-                end: i + 1,
-            });
+        if let Some(end) = past(text, i, b')') {
+            return Some(Taken { kept: table, end });
         }
-        if !text_scan::at_byte(text, i, b' ') {
-            return None;
-        }
-        let b = text_bodies::read_stage(text, d, i + 1)?;
+        let b = text_bodies::read_stage(text, d, past(text, i, b' ')?)?;
         table = text_stages::add(text, table, b, m);
         i = b.end;
     }
-    if !text_scan::at_byte(text, i, b')') {
-        return None;
-    }
-    Some(Taken {
-        kept: table,
-        end: i + 1,
-    })
+    let end = past(text, i, b')')?;
+    Some(Taken { kept: table, end })
 }
 
 // The cells of the carried variables, or the row of the line: 11 after 6 to 9.

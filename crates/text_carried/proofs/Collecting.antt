@@ -6,7 +6,7 @@ use mathlib.Core.List.{List, [], ◌∷◌, ◌++◌, append-nil}
 use Prim.Native.Nat.{ℕ, zero, suc, ◌+◌, ◌-◌, ◌≤◌, ◌<◌}
 use native.Mathlib.Nat.{zero-add, add-zero, suc-add}
 use native.Mathlib.Omega.{arith}
-use lib.ListN.{length, set, replicate, length-append}
+use lib.ListN.{length, set, length-append}
 use borrow.Author.Tests.{lt-ltb, le-ltb}
 use Rattle.std.proofs.lemmas.Bool.{cases_Bool}
 use Rattle.std.specs.Prelude.{Some, None}
@@ -58,9 +58,6 @@ module _ (t : Scope limit.asked) where
     pub found : k ≡ length (up_to n)
     pub few : k ≤ limit.carried
     pub cells : row ≡ padded limit.carried (up_to n)
-
-  pub collected-start : Collected (replicate limit.carried limit.none) 0 0
-  collected-start = record { below = omega arith; found = refl; few = omega arith; cells = refl }
 
   module _ {row : List ℕ} {k n : ℕ} (so : Collected row k n) where
     -- one that is not marked

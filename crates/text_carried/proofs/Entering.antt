@@ -1,6 +1,6 @@
 -- The variables of a stage, entered one after the other.
-use mathlib.Core.Path.{◌≡◌, refl, ◌∙◌}
-use mathlib.Core.List.{List, [], ◌∷◌, ◌++◌, map, map-append, append-nil, append_assoc}
+use mathlib.Core.Path.{◌≡◌, ◌∙◌}
+use mathlib.Core.List.{List, [], ◌∷◌, ◌++◌, map, map-append, append_assoc}
 use Prim.Native.Nat.{ℕ, ◌+◌, ◌≤◌, ◌<◌}
 use native.Mathlib.Numerals.{add-one}
 use native.Mathlib.Omega.{arith}
@@ -24,13 +24,7 @@ pub record NumberedSo (text : List ℕ) (t : Scope limit.asked) (s : Scope limit
   pub numbers : (ws : List Word) → Holds text t ws → take j ns ≡ map (place (extend [] (ws ++ list_of j (scopes.variable text s)))) (list_of j (scopes.variable text s))
   pub room : length ns ≡ 3
 
-pub numbered-start : {text : List ℕ} {t : Scope limit.asked} {s : Scope limit.variables} {numbers : List ℕ} → length numbers ≡ 3 → NumberedSo text t s t numbers 0
-numbered-start l = record { few = omega arith; holds = λ ws so. rw (append-nil ws) so; numbers = λ ws so. refl; room = l }
-
 module _ {text : List ℕ} {t : Scope limit.asked} {s : Scope limit.variables} {u : Scope limit.asked} {numbers : List ℕ} {j : ℕ} (so : NumberedSo text t s u numbers j) where
-  pub numbered-valid : ((ws : List Word) × Holds text t ws) → scopes.Valid text u
-  numbered-valid (ws, h) = (so.holds ws h).valid
-
   pub numbered_more : {u' : Scope limit.asked} {n : ℕ} → scopes.Valid text s → j < s.count → Met text u (scopes.variable_at s j).start (scopes.variable_at s j).end u' n → NumberedSo text t s u' (set numbers j n) (j + 1)
   numbered_more {n = n} v h m = record {
     few = let d = so.few in let y = m.few in omega arith;

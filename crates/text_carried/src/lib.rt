@@ -16,7 +16,7 @@ fn meet(text: &[u8], t: &mut Scope<ASKED>, a: usize, e: usize) -> usize
     requires { scopes.Valid text.now t.old × (a ≤ e) × (e ≤ length text.now) × (t.old.count < limit.asked) }
     ensures { Met text.now t.old a e t.new result }
 {
-    if let Some(number) = text_scope::find(text, t, &text[a..e]) {
+    if let Some(number) = t.find(text, &text[a..e]) {
         t.mark(number);
         return number;
     }

@@ -16,23 +16,25 @@ use Rattle.std.proofs.lemmas.Bool.{cases_Bool}
 use Rattle.limits.specs.Limits as limit
 use Rattle.grammar.specs.Bytes.{bytes, Word}
 use Rattle.grammar.specs.Forms as forms
-use Rattle.grammar.specs.Shapes.{after, name, arity, state_rest, rel_rest, whole}
+use Rattle.grammar.specs.Shapes.{after, state_rest, rel_rest, whole}
 use Rattle.grammar.specs.Models.{declare}
 use Rattle.grammar.specs.Declarations as grammar
 use Rattle.grammar.specs.Declarations.{lookup, count}
 use Rattle.grammar.specs.Rows.{lower, row, again, fault}
 use Rattle.grammar.proofs.Lower.{lower-first}
 use Rattle.std.specs.Prelude as prelude
-use Rattle.std.specs.Prelude.{Ok, Err, is_some}
+use Rattle.std.specs.Prelude.{Ok, Err, is_some, MatchOption}
+use Rattle.std.specs.Bool.{then_some}
 use Rattle.rows.specs.Rows.{number_of}
 use Rattle.rows.specs.declared.Row.{Row}
 use Rattle.text_faults.specs.Faults.{shaped}
+use Rattle.text_scan.specs.Found.{BytesEnd, NameEnd}
 use Rattle.text_names.specs.Names.{blank, declared_of, Valid, tally, added, found}
 use Rattle.text_names.specs.declared.Name.{Name}
 use Rattle.text_names.specs.declared.Declared.{Declared}
 use Rattle.text_names.proofs.Laws.{declared-added, valid-added, tally-count}
 use Rattle.text_clauses.proofs.Laws.{whole-all, whole_part}
-use Rattle.text_declarations.specs.Declares.{Limited, state_number, rel_number, next_name, Entered, DeclarationEnd, StateAt, RelAt}
+use Rattle.text_declarations.specs.Declares.{Limited, state_number, rel_number, next_name, Entered, DeclarationEnd, ArityAt, StateAt, RelAt}
 
 -- NUMBERS
 -- whether a name stands already, as `find` says
@@ -148,16 +150,19 @@ limited-rel d a e n c l few h k =
     limited-added d a e (n + 1) c l few (omega arith) (omega (arith, l.states)) (omega arith)
 
 -- THE END OF A DECLARATION
-module _ (text : List ℕ) (at e : ℕ) (h : name (drop at text) ≡ some (slice at e text, drop e text)) (k : after (bytes ")") (drop e text) ≡ some (drop (e + 1) text)) where
-  state-reads : state_rest (drop at text) ≡ some (forms.state_form (slice at e text), drop (e + 1) text)
+module _ {text : List ℕ} {at e f : ℕ} (h : NameEnd text at e) (k : BytesEnd text e (bytes ")") f) where
+  state-reads : state_rest (drop at text) ≡ some (forms.state_form (slice at e text), drop f text)
   unfolding state_rest
-  state-reads = rw (h, k)
+  state-reads = rw (h.read, k.read)
 
-  pub state-part : e < length text → (e + 1 ≡ length text → ⊥) → whole (state_rest (drop at text)) ≡ none
-  state-part l q = rw state-reads (whole_part (forms.state_form (slice at e text)) text (e + 1) (omega arith))
-
-  pub state-whole : e + 1 ≡ length text → whole (state_rest (drop at text)) ≡ some (forms.state_form (slice at e text))
-  state-whole q = rw state-reads (whole-all (forms.state_form (slice at e text)) text (e + 1) (omega arith))
+  -- the line ends there, or does not
+  pub state-chosen : (r : Bool) → r ≡ eqb f (length text) → MatchOption (then_some r e) (whole (state_rest (drop at text)) ≡ none) (StateAt text at)
+  state-chosen true q = let z = eqb-true f (length text) (sym q) in record {
+    begins = h.begins;
+    ends = omega (arith, k.begins, k.ends);
+    read = rw state-reads (whole-all (forms.state_form (slice at e text)) text f (omega arith));
+  }
+  state-chosen false q = let z = eqb-false f (length text) (sym q) in rw state-reads (whole_part (forms.state_form (slice at e text)) text f (omega (arith, k.ends)))
 
 module _ {text : List ℕ} {d : Declared} {at e : ℕ} (s : StateAt text at e) where
   pub state-faulty : (x : Row) → number_of x ≡ state_number (declared_of text d) (slice at e text) → DeclarationEnd text d (state_rest (drop at text)) (Err x)
@@ -193,25 +198,24 @@ rel-few text d u n z =
     ⊎_elim (λ (q : leb limit.rels s ≡ true). absurd (let y = rw (q, crowded (again (lookup u D))) at z in omega arith))
     (λ (q : leb limit.rels s ≡ false). let y = leb-false limit.rels s q in omega (arith, tally-count text d 1, tally-count text d 2, tally-count text d 3)) (cases_Bool (leb limit.rels s))
 
-module _ (text : List ℕ) (at e n : ℕ) (h : name (drop at text) ≡ some (slice at e text, drop e text)) (k : after (bytes " ") (drop e text) ≡ some (drop (e + 1) text))
-    (a : arity (drop (e + 1) text) ≡ some (n, drop (e + 1 + 1) text)) where
-  shift : e + 1 + 1 ≡ e + 2
-  shift = omega arith
-
-  pub rel-unclosed : after (bytes ")") (drop (e + 2) text) ≡ none → whole (rel_rest (drop at text)) ≡ none
+module _ {text : List ℕ} {at e i n : ℕ} (h : NameEnd text at e) (k : BytesEnd text e (bytes " ") i) (a : ArityAt text i n) where
+  pub rel-unclosed : after (bytes ")") (drop (i + 1) text) ≡ none → whole (rel_rest (drop at text)) ≡ none
   unfolding rel_rest
-  rel-unclosed b = rw (h, k, a, shift, b)
+  rel-unclosed b = rw (h.read, k.read, a.read, b)
 
-  module _ (b : after (bytes ")") (drop (e + 2) text) ≡ some (drop (e + 2 + 1) text)) where
-    rel-reads : rel_rest (drop at text) ≡ some (forms.rel_form (slice at e text) n, drop (e + 3) text)
+  module _ {f : ℕ} (b : BytesEnd text (i + 1) (bytes ")") f) where
+    rel-reads : rel_rest (drop at text) ≡ some (forms.rel_form (slice at e text) n, drop f text)
     unfolding rel_rest
-    rel-reads = let z : e + 2 + 1 ≡ e + 3 = omega arith in rw (h, k, a, shift, b, z)
+    rel-reads = rw (h.read, k.read, a.read, b.read)
 
-    pub rel-part : e + 2 < length text → (e + 3 ≡ length text → ⊥) → whole (rel_rest (drop at text)) ≡ none
-    rel-part l q = rw rel-reads (whole_part (forms.rel_form (slice at e text) n) text (e + 3) (omega arith))
-
-    pub rel-whole : e + 3 ≡ length text → whole (rel_rest (drop at text)) ≡ some (forms.rel_form (slice at e text) n)
-    rel-whole q = rw rel-reads (whole-all (forms.rel_form (slice at e text) n) text (e + 3) (omega arith))
+    pub rel-chosen : (r : Bool) → r ≡ eqb f (length text) → MatchOption {T = ℕ × ℕ} (then_some r (e, n)) (whole (rel_rest (drop at text)) ≡ none) (λ p. RelAt text at p.0 p.1)
+    rel-chosen true q = let z = eqb-true f (length text) (sym q) in record {
+      begins = h.begins;
+      ends = omega (arith, k.begins, k.ends);
+      small = a.small;
+      read = rw rel-reads (whole-all (forms.rel_form (slice at e text) n) text f (omega arith));
+    }
+    rel-chosen false q = let z = eqb-false f (length text) (sym q) in rw rel-reads (whole_part (forms.rel_form (slice at e text) n) text f (omega (arith, b.ends)))
 
 module _ {text : List ℕ} {d : Declared} {at e n : ℕ} (s : RelAt text at e n) where
   pub rel-faulty : (x : Row) → number_of x ≡ rel_number (declared_of text d) (slice at e text) n → DeclarationEnd text d (rel_rest (drop at text)) (Err x)

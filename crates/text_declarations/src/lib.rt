@@ -1,7 +1,7 @@
 // The declarations of the bracket text: `state` and `rel` lines after their first word.
 #![tactic(auto)]
 
-ghost use Rattle.std.specs.Prelude.{◌≡◌, ◌+◌, ◌≤◌, ◌<◌, length, drop, MatchOption};
+ghost use Rattle.std.specs.Prelude.{◌≡◌, ◌≤◌, ◌<◌, length, drop, MatchOption};
 ghost use Rattle.std.proofs.Math.Option.{none};
 ghost use Rattle.limits.specs.Limits as limit;
 ghost use Rattle.grammar.specs.Declarations.{lookup};
@@ -14,6 +14,7 @@ ghost use Rattle.text_declarations.specs.Declares.{Limited, state_number, rel_nu
 use limits::{PAIRS, RELS, STATES};
 use rows::Row;
 use text_names::{Declared, Name};
+use text_scan::past;
 
 // No relation with that name, or row 5.
 // Text and names stay two parameters, for the reason at `text_rows::Item::add`; the word is another one for each line.
@@ -87,10 +88,8 @@ fn state_end(text: &[u8], at: usize) -> Option<usize>
     ensures { MatchOption result (whole (state_rest (drop at text.now)) ≡ none) (StateAt text.now at) }
 {
     let e = text_scan::name_end(text, at)?;
-    if !text_scan::at_byte(text, e, b')') || e + 1 != text.len() {
-        return None;
-    }
-    Some(e)
+    let end = past(text, e, b')')?;
+    (end == text.len()).then_some(e)
 }
 
 // `(state A)`.
@@ -110,14 +109,10 @@ fn rel_end(text: &[u8], at: usize) -> Option<(usize, u32)>
     ensures { MatchOption result (whole (rel_rest (drop at text.now)) ≡ none) (λ p. RelAt text.now at p.0 p.1) }
 {
     let e = text_scan::name_end(text, at)?;
-    if !text_scan::at_byte(text, e, b' ') {
-        return None;
-    }
-    let n = arity_at(text, e + 1)?;
-    if !text_scan::at_byte(text, e + 2, b')') || e + 3 != text.len() {
-        return None;
-    }
-    Some((e, n))
+    let digit = past(text, e, b' ')?;
+    let n = arity_at(text, digit)?;
+    let end = past(text, digit + 1, b')')?;
+    (end == text.len()).then_some((e, n))
 }
 
 // `(rel R n)`.

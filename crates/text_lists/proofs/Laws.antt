@@ -6,13 +6,13 @@ use Rattle.std.specs.Prelude.{Option, Some, None, Result, Ok, Err, MatchOption}
 use mathlib.Core.Logic.{⊎_elim}
 use mathlib.Core.Bool.{true, false, ◌||◌, or_assoc}
 use mathlib.Core.List as seq
-use mathlib.Core.List.{[], ◌∷◌, ◌++◌, map, append_assoc, append-nil}
+use mathlib.Core.List.{[], ◌∷◌, ◌++◌, map}
 use mathlib.Core.Option.{none, some}
 use Prim.Native.Nat.{ℕ, ◌-◌, ◌*◌, ◌%◌, ◌^◌, ◌<◌}
 use native.Mathlib.Omega.{arith}
 use lib.Dec.{eqb}
 use lib.Bits.{bit_or, or_zero_r}
-use lib.ListN.{drop}
+use lib.ListN.{take, drop}
 use lib.Seq.{slice}
 use borrow.Author.Tests.{ltb-true}
 use Rattle.limits.specs.Limits as limit
@@ -20,20 +20,21 @@ use Rattle.semantics.specs.Labels.{union, set_of}
 use Rattle.semantics.specs.Models.{elem}
 use Rattle.semantics.proofs.Sets.{has-union, has-ext, has-set_of}
 use Rattle.grammar.specs.Bytes.{bytes, Word}
-use Rattle.grammar.specs.Shapes.{after, name, rest, bracket, list}
+use Rattle.grammar.specs.Shapes.{after, name, bracket, list}
 use Rattle.grammar.specs.Declarations.{is_state, Declared, lookup}
 use Rattle.grammar.specs.Rows.{lower, name_fault, list_fault}
 use Rattle.grammar.specs.Models.{code_of, codes}
 use Rattle.grammar.proofs.Lower.{lower-second, lower-assoc}
 use Rattle.rows.specs.declared.Row.{Row}
 use Rattle.text_scan.specs.Found.{BytesEnd, NameEnd}
+use Rattle.text_scan.proofs.Laws.{slice-part}
 use Rattle.text_names.specs.Names.{found}
 use Rattle.text_faults.specs.Faults.{fault_in, Both, Coded}
 use Rattle.text_lists.specs.Lists.{Chosen, Holds, NameAdded, Keeps, ListEnd}
 use Rattle.text_names.specs.declared.Declared as names
 use Rattle.text_names.specs.Names.{declared_of, Valid}
 use Rattle.text_rows.specs.declared.Taken.{Taken}
-use Rattle.text_rows.specs.Rows.{ItemEnd, RowEnd}
+use Rattle.text_rows.specs.Rows.{ItemEnd, BracketEnd}
 
 -- ONE NAME MORE
 fault-more : (D : Declared) (ws : seq.List Word) (w : Word) → list_fault D (ws ++ (w ∷ [])) ≡ lower (list_fault D ws) (name_fault (lookup w D))
@@ -57,13 +58,13 @@ map_more : {A B : Type 0} (f : A → B) (a : seq.List A) (x : A) → map f (a ++
 map_more f [] x = refl
 map_more f (y ∷ a) x = ap (λ (l : seq.List _). f y ∷ l) (map_more f a x)
 
-module _ (text : seq.List ℕ) (D : Declared) (a e : ℕ) {s : Chosen} {o : Option ℕ} {code : Chosen} {r : Result (ℕ × ℕ) Row}
-    (f : lookup (slice a e text) D ≡ found o) (k : Coded (name_fault (found o)) o code) (t : Both s code r) where
+module _ (D : Declared) (w : Word) {s : Chosen} {o : Option ℕ} {code : Chosen} {r : Result (ℕ × ℕ) Row}
+    (f : lookup w D ≡ found o) (k : Coded (name_fault (found o)) o code) (t : Both s code r) where
   -- the row of the names with the one more
-  number-more : {ws : seq.List Word} → Holds D ws s → fault_in r ≡ list_fault D (ws ++ (slice a e text ∷ []))
-  number-more {ws} so = t.number ∙ rw (so.number, k.row, ← f) (sym (fault-more D ws (slice a e text)))
+  number-more : {ws : seq.List Word} → Holds D ws s → fault_in r ≡ list_fault D (ws ++ (w ∷ []))
+  number-more {ws} so = t.number ∙ rw (so.number, k.row, ← f) (sym (fault-more D ws w))
 
-  pub name-faulty : (x : Row) → r ≡ Err x → NameAdded text D s a e (Err x)
+  pub name-faulty : (x : Row) → r ≡ Err x → NameAdded D s w (Err x)
   name-faulty x q = record { added = λ ws so. record { number = ap fault_in (sym q) ∙ number-more so; set = tt } }
 
   module _ (set c : ℕ) (q : r ≡ Ok (set, c)) where
@@ -76,22 +77,28 @@ module _ (text : seq.List ℕ) (D : Declared) (a e : ℕ) {s : Chosen} {o : Opti
     small : c < 32
     small = ⊎_elim (λ (y : is_state c ≡ true). ltb-true c 32 y) (λ (y : is_state c ≡ false). absurd (let z = rw (parts.1, coded, y) at k.row in omega arith)) (cases_Bool (is_state c))
 
-    pub name-added : NameAdded text D s a e (Ok (bit_or set ((1 * 2 ^ c) % 4294967296)))
+    pub name-added : NameAdded D s w (Ok (bit_or set ((1 * 2 ^ c) % 4294967296)))
     unfolding union
     name-added =
-        let g : lookup (slice a e text) D ≡ some c = (rw coded at f) in
+        let g : lookup w D ≡ some c = (rw coded at f) in
         record {
           added = λ ws so.
               let z : set ≡ set_of (codes D ws) = (rw (parts.0) at so.set) in
               record {
                 number = ap fault_in (sym q) ∙ number-more so;
-                set = ap (bit_or set) (one_shl c 32 small) ∙ rw (z, map_more (code_of D) ws (slice a e text), set_more (codes D ws) (code_of D (slice a e text)), g);
+                set = ap (bit_or set) (one_shl c 32 small) ∙ rw (z, map_more (code_of D) ws w, set_more (codes D ws) (code_of D w), g);
               };
         }
 
 -- A NAME OF A LIST
-pub listed : {text : seq.List ℕ} {d : names.Declared} {at e : ℕ} {s r : Chosen} → NameEnd text at e → NameAdded text (declared_of text d) s at e r → ItemEnd name (Keeps text d) text at s (record { kept = r; end = e })
-listed {text} {at = at} {e} n ad = record { value = slice at e text; begins = n.begins; ends = n.ends; found = n.read; holds = λ c ws so. (so.0, ad.added ws so.1) }
+pub listed : {text : seq.List ℕ} {d : names.Declared} {at e : ℕ} {s r : Chosen} → NameEnd text at e → NameAdded (declared_of text d) s (take (e - at) (drop at text)) r → ItemEnd name (Keeps text d) text at s (record { kept = r; end = e })
+listed {text} {at = at} {e} n ad = record {
+  value = slice at e text;
+  begins = n.begins;
+  ends = n.ends;
+  found = n.read;
+  holds = λ c ws so. (so.0, rw (slice-part text at e (omega (arith, n.begins))) (ad.added ws so.1));
+}
 
 -- LISTS
 pub empty-list : (D : Declared) → Holds D [] (Ok 0)
@@ -103,33 +110,14 @@ module _ (text : seq.List ℕ) (at : ℕ) where
   unfolding list
   list-empty {D} p = record { ws = []; begins = omega (arith, p.begins); ends = p.ends; read = rw p.read; holds = empty-list D }
 
-  module _ (p : after (bytes "()") (drop at text) ≡ none) where
-    pub list-unopened : after (bytes "(") (drop at text) ≡ none → list (drop at text) ≡ none
-    unfolding list bracket
-    list-unopened q = rw (p, q)
-
-    module _ {a : ℕ} (q : BytesEnd text at (bytes "(") a) where
-      pub list-nameless : name (drop a text) ≡ none → list (drop at text) ≡ none
-      unfolding list bracket
-      list-nameless m = rw (p, q.read, m)
-
-      module _ {e : ℕ} (m : NameEnd text a e) where
-        list-unended : rest name (limit.list - 1) (drop e text) ≡ none → list (drop at text) ≡ none
-        unfolding list bracket
-        list-unended v = rw (p, q.read, m.read, v)
-
-        module _ {d : names.Declared} (valid : Valid text d) where
-          list-found : {t : Chosen} {r : Taken Chosen} → NameAdded text (declared_of text d) (Ok 0) a e t → RowEnd name (Keeps text d) text e (limit.list - 1) t r → ListEnd text (declared_of text d) at r
-          unfolding list bracket
-          list-found ad v = record {
-            ws = slice a e text ∷ v.more;
-            begins = omega (arith, q.begins, m.begins, v.begins);
-            ends = v.ends;
-            read = rw (p, q.read, m.read, v.found);
-            holds = (v.holds tt (slice a e text ∷ []) (valid, ad.added [] (empty-list (declared_of text d)))).1;
-          }
-
-          pub list-read : {t : Chosen} (r : Option (Taken Chosen)) → NameAdded text (declared_of text d) (Ok 0) a e t
-              → MatchOption r (rest name (limit.list - 1) (drop e text) ≡ none) (RowEnd name (Keeps text d) text e (limit.list - 1) t) → MatchOption r (list (drop at text) ≡ none) (ListEnd text (declared_of text d) at)
-          list-read None ad v = list-unended v
-          list-read (Some r) ad v = list-found ad v
+  pub list-read : {d : names.Declared} (r : Option (Taken Chosen)) → after (bytes "()") (drop at text) ≡ none → Valid text d
+      → MatchOption r (bracket name (limit.list - 1) (drop at text) ≡ none) (BracketEnd name (Keeps text d) text at (limit.list - 1) (Ok 0)) → MatchOption r (list (drop at text) ≡ none) (ListEnd text (declared_of text d) at)
+  unfolding list
+  list-read None p valid v = rw (p, v)
+  list-read {d} (Some r) p valid v = record {
+    ws = v.items;
+    begins = v.begins;
+    ends = v.ends;
+    read = rw (p, v.found);
+    holds = (v.holds tt [] (valid, empty-list (declared_of text d))).1;
+  }

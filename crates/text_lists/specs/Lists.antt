@@ -2,7 +2,6 @@
 use Rattle.std.specs.Prelude.{◌≡◌, [], ◌∷◌, ◌++◌, ℕ, ◌≤◌, ◌<◌, length, drop, Result, IfOk, ⊤}
 use mathlib.Core.List as seq
 use Rattle.std.proofs.Math.Option.{some}
-use Rattle.std.proofs.Math.Seq.{slice}
 use Rattle.semantics.specs.Labels.{set_of}
 use Rattle.grammar.specs.Bytes.{Word}
 use Rattle.grammar.specs.Shapes.{list}
@@ -28,8 +27,8 @@ pub record Holds (D : Declared) (ws : seq.List Word) (s : Chosen) : Type 0 where
 abbrev pub Extends : Declared → Chosen → seq.List Word → Chosen → Type 0
 Extends D s more r = (ws : seq.List Word) → Holds D ws s → Holds D (ws ++ more) r
 
-pub record NameAdded (text : seq.List ℕ) (D : Declared) (s : Chosen) (a e : ℕ) (r : Chosen) : Type 0 where
-  pub added : Extends D s (slice a e text ∷ []) r
+pub record NameAdded (D : Declared) (s : Chosen) (w : Word) (r : Chosen) : Type 0 where
+  pub added : Extends D s (w ∷ []) r
 
 -- what is kept of the names of a list
 abbrev pub Keeps : seq.List ℕ → names.Declared → ⊤ → seq.List Word → Chosen → Type 0

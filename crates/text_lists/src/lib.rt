@@ -1,7 +1,7 @@
 // The lists of state relations of `new` and `next` lines.
 #![tactic(auto)]
 
-ghost use Rattle.std.specs.Prelude.{◌≡◌, ◌+◌, ◌≤◌, ◌<◌, length, drop, MatchOption, ⊤};
+ghost use Rattle.std.specs.Prelude.{◌≡◌, ◌≤◌, length, drop, MatchOption, ⊤};
 ghost use Rattle.std.proofs.Math.Option.{none};
 ghost use Rattle.limits.specs.Limits as limit;
 ghost use Rattle.grammar.specs.Bytes.{Word};
@@ -12,7 +12,7 @@ ghost use Rattle.text_lists.specs.Lists.{Keeps, NameAdded, ListEnd};
 use limits::LIST;
 use rows::Row;
 use text_names::Declared;
-use text_rows::{Item, Taken, read_row};
+use text_rows::{Item, Taken, read_bracket};
 
 // The names of a list behind its first.
 const FURTHER: usize = LIST - 1;
@@ -20,13 +20,13 @@ const FURTHER: usize = LIST - 1;
 // The set of the names' relations, or the lowest row of the names, and where the list ends.
 pub type List = Taken<Result<u32, Row>>;
 
-// The name from a to e is added.
+// The name with those bytes is added.
 // Text and names stay two parameters, as in `text_rows::Item::add`.
-fn add_name(text: &[u8], d: Declared, s: Result<u32, Row>, a: usize, e: usize) -> Result<u32, Row>
-    requires { names.Valid text.now d × (a ≤ e) × (e ≤ length text.now) }
-    ensures { NameAdded text.now (names.declared_of text.now d) s a e result }
+fn add_name(text: &[u8], d: Declared, s: Result<u32, Row>, word: &[u8]) -> Result<u32, Row>
+    requires { names.Valid text.now d }
+    ensures { NameAdded (names.declared_of text.now d) s word.now result }
 {
-    let code = text_faults::state_code(text_names::find(text, &d, &text[a..e]));
+    let code = text_faults::state_code(text_names::find(text, &d, word));
     let (set, c) = text_faults::both(s, code)?;
     Ok(set | (1 << c))
 }
@@ -50,7 +50,7 @@ impl Item for Listed {
     fn add(text: &[u8], d: Declared, at: usize, chosen: Result<u32, Row>) -> Option<List> {
         let end = text_scan::name_end(text, at)?;
         Some(List {
-            kept: add_name(text, d, chosen, at, end),
+            kept: add_name(text, d, chosen, &text[at..end]),
             end,
         })
     }
@@ -64,7 +64,5 @@ pub fn read_list(text: &[u8], d: Declared, at: usize) -> Option<List>
     if let Some(end) = text_scan::past_bytes(text, at, b"()") {
         return Some(List { kept: Ok(0), end });
     }
-    let a = text_scan::past(text, at, b'(')?;
-    let e = text_scan::name_end(text, a)?;
-    read_row::<Listed>(text, d, e, add_name(text, d, Ok(0), a, e), FURTHER)
+    read_bracket::<Listed>(text, d, at, Ok(0), FURTHER)
 }

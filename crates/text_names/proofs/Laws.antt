@@ -3,16 +3,19 @@ use mathlib.Core.Path.{◌≡◌, refl, sym, ◌∙◌, subst}
 use mathlib.Core.Logic.{⊎_elim}
 use mathlib.Core.Bool.{Bool, true, false, false≢true, cond}
 use mathlib.Core.List.{List, [], ◌∷◌, ◌++◌}
-use mathlib.Core.Option.{Option, none, some}
+use mathlib.Core.Option.{none, some}
+use mathlib.Core.Option as math
 use Prim.Native.Nat.{ℕ, zero, suc, ◌+◌, ◌-◌, ◌/◌, ◌≤◌, ◌<◌}
 use native.Mathlib.Numerals.{add-one}
 use native.Mathlib.Omega.{arith}
 use lib.Dec.{eqb}
 use lib.ListN.{length, take, drop, get_or, length-set, length-append, get_or-append}
-use lib.Seq.{slice, get_or_at, get_or-set_same, get_or-set_other, take-take}
+use lib.Seq.{slice, length-take-le, get_or_at, get_or-set_same, get_or-set_other, take-take}
 use borrow.Author.Tests.{eqb-true, eqb-false}
 use Rattle.std.proofs.lemmas.Bool.{cases_Bool}
-use Rattle.std.specs.List.{count_by}
+use Rattle.std.specs.Prelude.{Option, Some, None, MatchOption}
+use Rattle.std.specs.List.{count_by, AllWithin, HoldsAt}
+use Rattle.std.proofs.lemmas.List.{get_or-take, get_or_default}
 use Rattle.std.proofs.lemmas.List.Sums.{count_by_more_yes, count_by_more_no}
 use Rattle.limits.specs.Limits as limit
 use Rattle.grammar.specs.Bytes.{Word, same}
@@ -111,21 +114,37 @@ pub slice-prefix : (text : List ℕ) (a b e : ℕ) → b ≤ e → slice a b (ta
 slice-prefix text a b e h = rw (take-take b e text h)
 
 -- FINDING A NAME
-module _ (text : List ℕ) (d : Declared) (w : Word) where
-  -- whether name k is w
-  abbrev pub Named : Bool → ℕ → Type 0
-  Named b k = same w (entry text d k).0 ≡ b
+module _ {text : List ℕ} {d : Declared} (valid : Valid text d) where
+  -- the declared names
+  abbrev row : List Name
+  row = take d.count d.names
 
-  pub find_none : ((k : ℕ) → 0 ≤ k → k < d.count → Named false k) → lookup w (declared_of text d) ≡ none
-  unfolding declared_of
-  find_none h = lookup-misses w (entry text d) d.count (λ k l. h k (omega arith) l)
+  row-length : length row ≡ d.count
+  row-length = let c = valid.count in length-take-le d.count d.names (omega (arith, valid.names))
 
-  pub find-hit : {i : ℕ} → Valid text d → (0 ≤ i) × (i < d.count) × Named true i × ((k : ℕ) → 0 ≤ k → k < i → Named false k) → ((name_at d i).code < 128) × (lookup w (declared_of text d) ≡ some (name_at d i).code)
-  unfolding declared_of
-  find-hit {i} v h = (v.coded i h.1, lookup-hit w (entry text d) d.count i h.1 (lookup-misses w (entry text d) i (λ k l. h.3 k (omega arith) l)) h.2)
+  pub within-row : (k : ℕ) (n : Name) → k < length row → n ≡ get_or row k n → end n ≤ length text
+  within-row k n l e =
+      let l' : k < d.count = omega (arith, row-length) in
+      subst (λ (u : Name). end u ≤ length text) (sym (e ∙ (get_or_default row k n blank l ∙ get_or-take d.count d.names k blank l'))) (valid.within k l')
+
+  module _ (w : Word) where
+    -- whether it is w
+    abbrev pub Named : Bool → Name → Type 0
+    Named b n = same w (slice (begin n) (end n) text) ≡ b
+
+    there : {b : Bool} (k : ℕ) → k < d.count → Named b (get_or row k blank) → same w (entry text d k).0 ≡ b
+    there {b} k l h = subst (Named b) (get_or-take d.count d.names k blank l) h
+
+    pub found_name : (r : Option ℕ) → MatchOption r (AllWithin (Named false) row 0 (length row)) (λ i. (i < length row) × HoldsAt (Named true) row i × AllWithin (Named false) row 0 i)
+        → MatchOption r (lookup w (declared_of text d) ≡ none) (λ i. ((name_at d i).code < 128) × (lookup w (declared_of text d) ≡ some (name_at d i).code))
+    unfolding declared_of
+    found_name None h = lookup-misses w (entry text d) d.count (λ k l. there k l (h k blank (omega arith) (omega (arith, row-length))))
+    found_name (Some i) h =
+        let l : i < d.count = omega (arith, row-length, h.0) in
+        (valid.coded i l, lookup-hit w (entry text d) d.count i l (lookup-misses w (entry text d) i (λ k q. there k (omega arith) (h.2 k blank (omega arith) q))) (there i l (h.1 blank)))
 
 -- what a part of the text is found to be
-pub found-slice : (text : List ℕ) (D : grammar.Declared) {o : Option ℕ} (a e : ℕ) → a ≤ e → lookup (take (e - a) (drop a text)) D ≡ o → lookup (slice a e text) D ≡ o
+pub found-slice : (text : List ℕ) (D : grammar.Declared) {o : math.Option ℕ} (a e : ℕ) → a ≤ e → lookup (take (e - a) (drop a text)) D ≡ o → lookup (slice a e text) D ≡ o
 found-slice text D a e h q = rw (slice-part text a e h) q
 
 -- COUNTING by `filter` and `count`

@@ -1,7 +1,7 @@
 // The declared names: their relation codes, and where in the text they stand.
 #![tactic(auto)]
 
-ghost use Rattle.std.specs.Prelude.{◌≡◌, ◌+◌, ◌≤◌, ◌<◌, length, IfSome};
+ghost use Rattle.std.specs.Prelude.{◌≡◌, ◌≤◌, ◌<◌, length, IfSome};
 ghost use Rattle.std.proofs.Math.Seq.{slice};
 ghost use Rattle.limits.specs.Limits as limit;
 ghost use Rattle.grammar.specs.Declarations.{lookup};
@@ -37,13 +37,14 @@ fn is_named(text: &[u8], n: Name, word: &[u8]) -> bool
 }
 
 // The code of the name with those bytes, if it is declared.
-// The search stays beside that of `text_scope`: a name stands by its start and length, as the model keeps it, a variable by its start and end, so that one search for both would take a closure from one of them to its bytes, and save the one line that each has.
-// The search stays over places: the grammar's names are a list by place here, so that the place that `find` gives is what the lookup is shown by.
+// The search stays beside that of `text_scope`: a name stands by its start and length, as the model keeps it, a variable by its start and end, so that one search for both would take a closure from one of them to its bytes, and save the one chain that each has.
 pub fn find(text: &[u8], d: &Declared, word: &[u8]) -> Option<u32>
     requires { Valid text.now d.now }
     ensures { IfSome result (λ c. c < 128) × (lookup word.now (declared_of text.now d.now) ≡ found result) }
 {
-    let i = (0..d.count).find(|i| is_named(text, d.names[*i], word))?;
+    let i = d.names[..d.count]
+        .iter()
+        .position(|n| is_named(text, *n, word))?;
     Some(d.names[i].code)
 }
 

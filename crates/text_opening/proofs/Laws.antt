@@ -19,7 +19,6 @@ use Rattle.text_names.specs.declared.Name.{Name}
 use Rattle.text_names.specs.declared.Declared.{Declared}
 use Rattle.text_names.proofs.Laws.{length-list_of}
 use Rattle.text_record.specs.Stored as stored
-use Rattle.text_stages.specs.Questions as questions
 use Rattle.text_ask.proofs.Represented.{Before}
 use Rattle.text_opening.specs.Openings.{blank, fitted}
 
@@ -62,14 +61,6 @@ made-row d f g c h row y l = ext_get_or (f no_name) row (map f d.names) (y.long 
 
 -- AT THE `ask` LINE, in a text of n lines
 module _ {m : Model} {P : Program} (d : Declared) (n : ℕ) (so : stored.Holds m P) where
-  pub fitted-empty : m.stagecount ≡ 0 → length m.stages ≡ 4 → questions.Empty (fitted m d n)
-  fitted-empty z k = record {
-    stagecount = z;
-    literalcount = let r = so.room in let f = so.few in omega arith;
-    literals = so.literals;
-    stages = k;
-  }
-
   pub fitted-program : program_of (fitted m d n) ≡ P
   unfolding program_of
   fitted-program = so.program

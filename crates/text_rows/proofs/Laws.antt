@@ -1,15 +1,16 @@
 -- Laws of reading a row of items.
 use mathlib.Core.Path.{◌≡◌, subst}
-use mathlib.Core.List.{List, [], ◌∷◌, ◌++◌, append-nil, append_assoc}
+use mathlib.Core.List.{List, [], ◌∷◌, ◌++◌, append_assoc}
 use mathlib.Core.Option.{none}
-use Prim.Native.Nat.{ℕ, ◌+◌, ◌-◌, ◌≤◌, ◌<◌}
+use Rattle.std.specs.Prelude.{Option, Some, None, MatchOption}
+use Prim.Native.Nat.{ℕ, ◌+◌, ◌-◌}
 use native.Mathlib.Omega.{arith}
-use lib.ListN.{length, drop, length-append}
+use lib.ListN.{drop}
 use Rattle.grammar.specs.Bytes.{bytes}
-use Rattle.grammar.specs.Shapes.{Read, after}
-use Rattle.grammar.proofs.Reading.{Reading, reading-start, reading-more, reading-closed}
+use Rattle.grammar.specs.Shapes.{Read, after, rest, bracket}
+use Rattle.grammar.proofs.Reading.{Reading, reading-more, reading-closed}
 use Rattle.text_scan.specs.Found.{BytesEnd}
-use Rattle.text_rows.specs.Rows.{Extends, Room, ItemEnd, RowEnd}
+use Rattle.text_rows.specs.Rows.{Extends, ItemEnd, RowEnd, BracketEnd}
 use Rattle.text_rows.specs.declared.Taken.{Taken}
 
 -- from s, which is kept at `at`, some items are read up to i, where t is kept; at most k are left
@@ -19,13 +20,7 @@ pub record RowSo {V C K : Type 0} (read : List ℕ → Read V) (held : C → Lis
   pub holds : Extends held s more t
 
 module _ {V C K : Type 0} {read : List ℕ → Read V} {held : C → List V → K → Type 0} {text : List ℕ} {at n : ℕ} where
-  pub row-start : {s : K} → at ≤ length text → RowSo read held text at n s s at n
-  row-start h = record { more = []; reading = reading-start h; holds = λ c xs so. rw (append-nil xs) so }
-
   module _ {s t : K} {i k : ℕ} (so : RowSo read held text at n s t i k) where
-    pub row-room : {most : ℕ} → 0 < k → Room held most n s → Room held most 1 t
-    row-room h (c, xs, l, o) = let z = so.reading.count in (c, xs ++ so.more, omega (arith, length-append xs so.more), so.holds c xs o)
-
     pub row-more : {r : Taken K} {o j : ℕ} → j + 1 ≡ k → after (bytes ")") (drop i text) ≡ none → BytesEnd text i (bytes " ") o
         → ItemEnd read held text o t r → RowSo read held text at n s r.kept r.end j
     row-more {r} {o} {j} h p q e = record {
@@ -43,3 +38,17 @@ module _ {V C K : Type 0} {read : List ℕ → Read V} {held : C → List V → 
       found = rw p.begins (reading-closed so.reading (rw p.begins at p.read));
       holds = so.holds;
     }
+
+-- A BRACKET: its first item, and the row behind that
+module _ {V C K : Type 0} {read : List ℕ → Read V} {held : C → List V → K → Type 0} {text : List ℕ} {at i : ℕ} {s : K} {x : Taken K} (p : BytesEnd text at (bytes "(") i) (e : ItemEnd read held text i s x) where
+  pub bracket-read : (n : ℕ) (r : Option (Taken K)) → MatchOption r (rest read n (drop x.end text) ≡ none) (RowEnd read held text x.end n x.kept)
+      → MatchOption r (bracket read n (drop at text) ≡ none) (BracketEnd read held text at n s)
+  unfolding bracket
+  bracket-read n None v = rw (p.read, e.found, v)
+  bracket-read n (Some r) v = record {
+    items = e.value ∷ v.more;
+    begins = omega (arith, p.begins, e.begins, v.begins);
+    ends = v.ends;
+    found = rw (p.read, e.found, v.found);
+    holds = λ c xs so. subst (λ (l : List V). held c l r.kept) (append_assoc xs (e.value ∷ []) v.more) (v.holds c (xs ++ (e.value ∷ [])) (e.holds c xs so));
+  }

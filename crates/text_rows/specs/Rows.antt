@@ -1,7 +1,7 @@
 -- What is kept of items that are read one after the other.
 use Rattle.std.specs.Prelude.{◌≡◌, List, [], ◌∷◌, ◌++◌, ℕ, ◌+◌, ◌≤◌, ◌<◌, length, drop}
 use Rattle.std.proofs.Math.Option.{some}
-use Rattle.grammar.specs.Shapes.{Read, rest}
+use Rattle.grammar.specs.Shapes.{Read, rest, bracket}
 use Rattle.text_rows.specs.declared.Taken.{Taken}
 
 -- `held c xs s` says that s holds the items xs, in the case c
@@ -30,3 +30,11 @@ module _ {V C K : Type 0} where
     pub ends : r.end ≤ length text
     pub found : rest read n (drop at text) ≡ some (more, drop r.end text)
     pub holds : Extends held s more r.kept
+
+  -- a bracket of 1 to n + 1 items, added to s
+  pub record BracketEnd (read : List ℕ → Read V) (held : C → List V → K → Type 0) (text : List ℕ) (at n : ℕ) (s : K) (r : Taken K) : Type 0 where
+    pub items : List V
+    pub begins : at < r.end
+    pub ends : r.end ≤ length text
+    pub found : bracket read n (drop at text) ≡ some (items, drop r.end text)
+    pub holds : Extends held s items r.kept

@@ -1,11 +1,11 @@
 // Items one after the other, each after a space, up to the closing bracket: how they are read, and what is kept of them.
 #![tactic(auto)]
 
-ghost use Rattle.std.specs.Prelude.{◌≡◌, List, ℕ, ◌≤◌, length, drop, MatchOption};
+ghost use Rattle.std.specs.Prelude.{◌≡◌, List, ℕ, ◌+◌, ◌≤◌, length, drop, MatchOption};
 ghost use Rattle.std.proofs.Math.Option.{none};
-ghost use Rattle.grammar.specs.Shapes.{Read, rest};
+ghost use Rattle.grammar.specs.Shapes.{Read, rest, bracket};
 ghost use Rattle.text_names.specs.declared.Declared as names;
-ghost use Rattle.text_rows.specs.Rows.{Room, ItemEnd, RowEnd};
+ghost use Rattle.text_rows.specs.Rows.{Room, ItemEnd, RowEnd, BracketEnd};
 
 use text_names::Declared;
 use text_scan::past;
@@ -61,4 +61,19 @@ pub fn read_row<T: Item>(
     }
     let end = past(text, i, b')')?;
     Some(Taken { kept: so_far, end })
+}
+
+// A bracket of 1 to n + 1 items: they are added to what is kept.
+pub fn read_bracket<T: Item>(
+    text: &[u8],
+    d: Declared,
+    at: usize,
+    kept: T::Kept,
+    n: usize,
+) -> Option<Taken<T::Kept>>
+    requires { Room (T.Held text.now d) T.most (n + 1) kept }
+    ensures { MatchOption result (bracket T.read n (drop at text.now) ≡ none) (BracketEnd T.read (T.Held text.now d) text.now at n kept) }
+{
+    let first = T::add(text, d, past(text, at, b'(')?, kept)?;
+    read_row::<T>(text, d, first.end, first.kept, n)
 }

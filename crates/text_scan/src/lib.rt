@@ -3,7 +3,7 @@
 
 ghost use Rattle.std.specs.Prelude.{◌≡◌, [], ◌∷◌, ◌<◌, ◌≤◌, length, drop, true, MatchOption};
 ghost use Rattle.std.proofs.Math.Option.{none};
-ghost use Rattle.grammar.specs.Bytes.{alphanumeric, allowed, every, same, is_name};
+ghost use Rattle.grammar.specs.Bytes.{alphanumeric, allowed, every, same, is_name as named};
 ghost use Rattle.grammar.specs.Shapes.{after, word, name};
 ghost use Rattle.text_scan.specs.Found.{NextByte, NextBytes, BytesEnd, WordEnd, NameEnd, BadLine, LineEnd};
 
@@ -101,9 +101,9 @@ pub fn line_end(text: &[u8], at: usize) -> Option<usize>
 }
 
 // Whether a word of letters and digits is a name.
-fn is_named(word: &[u8]) -> bool
+fn is_name(word: &[u8]) -> bool
     requires { every alphanumeric word.now ≡ true }
-    ensures { result ≡ is_name word.now }
+    ensures { result ≡ named word.now }
 {
     if word.is_empty() || NAME < word.len() || same_words(word, b"not") {
         return false;
@@ -118,5 +118,5 @@ pub fn name_end(text: &[u8], at: usize) -> Option<usize>
     ensures { MatchOption result (name (drop at text.now) ≡ none) (NameEnd text.now at) }
 {
     let end = word_end(text, at);
-    is_named(&text[at..end]).then_some(end)
+    is_name(&text[at..end]).then_some(end)
 }

@@ -38,17 +38,25 @@ pub fn empty<const N: usize>() -> Scope<N>
     }
 }
 
-// The number of the variable with those bytes, if it is known.
-pub fn find<const N: usize>(text: &[u8], s: &Scope<N>, word: &[u8]) -> Option<usize>
-    requires { Valid text.now s.now }
-    ensures { MatchOption result (member word.now (known_of text.now s.now) ≡ false) (Known (known_of text.now s.now) word.now) }
-{
-    s.variables[..s.count]
-        .iter()
-        .position(|v| text_scan::same_words(word, &text[v.start..v.end]))
-}
-
 impl<const N: usize> Scope<N> {
+    // The number of the variable with those bytes, if it is known.
+    pub fn find(&self, text: &[u8], word: &[u8]) -> Option<usize>
+        requires { Valid text.now self.now }
+        ensures { MatchOption result (member word.now (known_of text.now self.now) ≡ false) (Known (known_of text.now self.now) word.now) }
+    {
+        self.variables[..self.count]
+            .iter()
+            .position(|v| text_scan::same_words(word, &text[v.start..v.end]))
+    }
+
+    // Whether each variable is marked.
+    pub fn all_marked(&self) -> bool
+        requires { (self.now.count ≤ N) × (length self.now.variables ≡ N) }
+        ensures { result ≡ all_marked (marks_of self.now) }
+    {
+        self.variables[..self.count].iter().all(|v| v.marked)
+    }
+
     // Variable i is marked.
     pub fn mark(&mut self, i: usize)
         requires { i < N }
@@ -65,12 +73,4 @@ impl<const N: usize> Scope<N> {
         self.variables[self.count] = Variable { start, end, marked };
         self.count += 1;
     }
-}
-
-// Whether each variable is marked.
-pub fn all_marked<const N: usize>(s: &Scope<N>) -> bool
-    requires { (s.now.count ≤ N) × (length s.now.variables ≡ N) }
-    ensures { result ≡ all_marked (marks_of s.now) }
-{
-    s.variables[..s.count].iter().all(|v| v.marked)
 }

@@ -5,7 +5,6 @@ use Prim.Native.Nat.{ℕ, ◌+◌, ◌≤◌, ◌<◌}
 use native.Mathlib.Omega.{arith}
 use Rattle.limits.specs.Limits as limit
 use Rattle.model.specs.declared.Model.{Model}
-use Rattle.grammar.specs.Bytes.{Word}
 use Rattle.grammar.specs.Forms as forms
 use Rattle.grammar.specs.Declarations.{Declared}
 use Rattle.grammar.specs.Rows.{lower, body_fault, scope_fault, stages_fault}
@@ -18,16 +17,12 @@ use Rattle.text_literals.specs.Frames as frames
 use Rattle.text_literals.specs.Frames.{Framed}
 use Rattle.text_literals.specs.declared.Frame.{Frame}
 use Rattle.text_rows.specs.declared.Taken.{Taken}
-use Rattle.text_clauses.specs.Clauses.{Complete, Completed}
-use Rattle.text_clauses.proofs.Laws.{final, frame-complete, body-short}
+use Rattle.text_clauses.specs.Clauses.{Completed}
+use Rattle.text_clauses.proofs.Laws.{final, body-short}
 use Rattle.text_carried.specs.Asking as asking
-use Rattle.text_carried.specs.Asking.{each}
 use Rattle.text_stages.specs.Questions.{with_stage, Stored, Asked, Holds, Aside, Addable, Added}
 use Rattle.text_scope.specs.declared.Scope.{Scope}
 use Rattle.text_stages.proofs.Laws.{fault-more, stored_more}
-
-pub frame-known : {text : List ℕ} {s : Asked} {m : Model} {b : Taken frames.Framed} → Addable text s m b → IfOk b.kept Complete
-frame-known {b = b} p = frame-complete b.kept p.frame
 
 -- A RECORD with one stage more, or none, keeps the rest
 pub none-aside : {m : Model} → Aside m m
@@ -64,12 +59,6 @@ module _ (text : List ℕ) (s : Asked) (m : Model) (b : Taken frames.Framed) {ow
 
     faultless : {D : Declared} {m₀ : Model} {qs : List (List forms.Literal)} {q : List forms.Literal} → Holds text D m₀ qs s m → frames.Holds text D [] 0 q b.kept → body_fault D q ≡ 0
     faultless {D} {q = q} so fr = (lower-none (body_fault D q) (scope_fault [] q) (sym (own-number so fr) ∙ ap fault_in parts.1)).0
-
-    pub number-ready : Addable text s m b → scopes.Valid text f.scope × (a.count + f.scope.count ≤ 12) × ((ws : List Word) × asking.Holds text a ws)
-    number-ready p =
-        let y = stored-before p.holds in
-        let v = (stage_body p.frame).scope.valid in
-        (v, omega (arith, y.few, v.count, p.few), (each p.qs, y.table))
 
     pub stage-ready : Addable text s m b → (m.stagecount < 4) × (m.literalcount + f.size ≤ limit.literals) × (f.size ≤ 8) × (f.scope.count ≤ 3)
     stage-ready p =

@@ -1,4 +1,4 @@
-// The `ask` line of the bracket text: its stages are read and stored in the model record.
+// The stages of an `ask` line: each that is read is stored in the model record, and its variables are numbered.
 #![tactic(auto)]
 
 ghost use Rattle.std.specs.Prelude.{◌≡◌, ◌+◌, ◌≤◌, ◌<◌};

@@ -95,13 +95,11 @@ fn open_with(
 {
     let first = p.pair.first;
     let second = p.pair.second;
-    let one = cast.first;
-    let two = cast.second;
     let c = witness_meetings::opening(work, slots, m, s, &moves.ways, slot, first, second);
     let to = c.first.unwrap();
-    let met = witness_meetings::meet_first(run, m, s, cast, object, c, p.at);
-    let then = witness_walk::errand(run, m, s, moves, 1, 0, second, second, two, met);
-    let at = approach(run, m, s, moves, carried, first, one, then);
+    let met = witness_meetings::meet_first(run, m, cast, object, c, p.at);
+    let then = witness_walk::errand(run, m, s, moves, 1, 0, second, second, cast.second, met);
+    let at = approach(run, m, s, moves, carried, first, cast.first, then);
     witness_walk::lead(run, m, s, moves, slot, to, object, at)
 }
 

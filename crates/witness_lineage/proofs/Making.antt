@@ -154,15 +154,6 @@ module _ (m : Model) (s : States) (b k : ℕ) (run₀ : List ℕ) where
           index = omega (arith, h.index, length-append (with (b + n) (lines_to m s n)) h.steps, length-steps (with (b + n) (lines_to m s n)));
         }
 
-  pub built-all : (run : List ℕ) (n at : ℕ) → n ≡ 0 → Built m s b k run₀ run n at → (at ≡ k + length (building m s b s.count)) × (run ≡ backwards run₀ k (building m s b s.count))
-  built-all run n at z h = (
-    omega (arith, h.index, ap length whole, length-steps (raise (program_of m) (by s) (from s) b s.count)),
-    h.written ∙ ap (λ (ts : List Pair). backwards run₀ k (places ts)) (sym whole),
-  )
-    where
-      whole : raise (program_of m) (by s) (from s) b s.count ≡ h.steps
-      whole = h.rest ∙ ap (λ (j : ℕ). raise (program_of m) (by s) (from s) b j ++ h.steps) z
-
 -- the places that make states have numbers
 module _ (m : Model) (wf : WellFormed m) (s : States) (proper : Proper s) (found : Discovered (program_of m) s) where
   numerable-lineage : (n i o : ℕ) → o < 255 → i < n → i < s.count → AllNumerable (places (with o (lineage (program_of m) (by s) (from s) n i)))

@@ -31,7 +31,7 @@ fn creates(m: &Model, line: u32) -> bool
 }
 
 // Which of the found states a `new` line made.
-// That the model is well formed and the states are proper stays in clauses: a record is blank before a text is read into it, which is not well formed, and the states, whose rows some ten crates read as fields, would be handed out by methods behind an `impl Model`.
+// That the model is well formed and the states are proper stays in clauses: a record is blank before a text is read into it, which is not well formed, and the states, whose count some ten crates read as a field, would be handed out by methods behind an `impl Model`.
 fn firsts(m: Model, s: States) -> [bool; ATOMIC]
     requires { WellFormed m × Proper s }
     ensures { Born m s result }

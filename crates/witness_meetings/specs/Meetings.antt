@@ -1,5 +1,5 @@
 -- MEETINGS of a shown run: what is known where one is written, and what the table then has.
-use Rattle.std.specs.Prelude.{◌≡◌, ◌⊎◌, ◌≢◌, true, if◌then◌else◌, List, [], ◌∷◌, map, ℕ, suc, ◌+◌, ◌≤◌, ◌<◌, ◌==◌, length, slice_index_or}
+use Rattle.std.specs.Prelude.{◌≡◌, true, if◌then◌else◌, List, [], ◌∷◌, map, ℕ, suc, ◌+◌, ◌≤◌, ◌<◌, ◌==◌, length, slice_index_or}
 use Rattle.std.specs.Prelude as prelude
 use Rattle.std.proofs.Math.Option.{Option, some}
 use Rattle.limits.specs.Limits as limit

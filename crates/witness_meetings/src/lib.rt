@@ -1,15 +1,14 @@
 // The meetings of a shown run: the objects that meet a stage, and the places that are written for them.
 #![tactic(auto)]
 
-ghost use Rattle.std.specs.Prelude.{◌≡◌, List, [], ◌∷◌, ℕ, ◌+◌, ◌*◌, ◌≤◌, ◌<◌, length};
+ghost use Rattle.std.specs.Prelude.{◌≡◌, [], ◌∷◌, ℕ, ◌+◌, ◌*◌, ◌≤◌, ◌<◌, length};
 ghost use Rattle.std.proofs.Math.Option.{Option};
 ghost use Rattle.limits.specs.Limits as limit;
 ghost use Rattle.semantics.specs.Building.{follows};
 ghost use Rattle.model.specs.Places.{number_of};
-ghost use Rattle.model.specs.Records.{body_at, stage_body, stage_at};
+ghost use Rattle.model.specs.Records.{stage_body, stage_at};
 ghost use Rattle.model.specs.WellFormed.{WellFormed};
 ghost use Rattle.facts_bits.specs.Width as width;
-ghost use Rattle.facts_table.specs.Table.{Consistent, Rows};
 ghost use Rattle.facts_candidates.specs.Choices.{chosen, Own};
 ghost use Rattle.search_states.specs.States.{row};
 ghost use Rattle.facts_holds.specs.Shows.{Seeks};
@@ -35,7 +34,7 @@ fn name(stage: Stage, variable: u32, e: usize, c: Choice) -> Choice
     ensures { Names stage variable e c result }
 {
     match stage.seat(variable) {
-        Some(x) => facts_candidates::choose(c, x, e),
+        Some(x) => c.choose(x, e),
         None => c,
     }
 }
@@ -99,7 +98,7 @@ fn choose(
     requires { Known m work.now s × Own width.slots slots.now × (k < m.stagecount) × ((σ : ℕ → ℕ) × Seating m work.now s k first second σ) }
     ensures { (σ : ℕ → ℕ) × Seating m work.now s k first second σ × Chooses (stage_at m k) result σ }
 {
-    let free = facts_candidates::free();
+    let free = Choice::free();
     let fixed = name_both(m, k, first, second, free);
     // A level's pair has a choice that meets the stage.
     seek_stage(work, slots, m, s, k, fixed).unwrap()
@@ -112,8 +111,8 @@ fn behind(n: usize, base: u32, c: Choice) -> Choice
 {
     let mut r = c;
     for x in 0..n {
-        if let Some(e) = facts_candidates::element(c, x) {
-            r = facts_candidates::choose(r, x, base as usize + e);
+        if let Some(e) = c.element(x) {
+            r = r.choose(x, base as usize + e);
         }
     }
     r
@@ -125,9 +124,9 @@ fn number(k: usize, n: usize, c: Choice) -> u32
     requires { (k < 127) × (n ≤ limit.variables) × ((x : ℕ) → x < n → chosen c x < limit.objects) }
     ensures { result ≡ number_of (meeting k n c) }
 {
-    let first = facts_candidates::object(n, 0, c);
-    let second = facts_candidates::object(n, 1, c);
-    let third = facts_candidates::object(n, 2, c);
+    let first = c.object(n, 0);
+    let second = c.object(n, 1);
+    let third = c.object(n, 2);
     let stage = k as u32 + 1;
     model::number_of(Place::Meeting {
         stage,
@@ -138,7 +137,7 @@ fn number(k: usize, n: usize, c: Choice) -> u32
 }
 
 // Writes the meeting of stage k + 1 at index `at` with these objects, but the cast's for the carried variables. Returns the index behind it.
-// The table, the model and the cast stay apart, with the room in clauses: the table is written, and the other two are only read.
+// The table, the model and the cast stay apart, with the room in clauses: a struct of the three, lent for writing, would have each contract say besides that the model and the cast are as they were.
 // The index stays beside the table, here and in the walk: a struct that holds the table lent would be lent on by every writer, and each `Written` would speak of two fields of it, old and new, where it speaks of two numbers.
 fn gather(run: &mut [u32], m: Model, cast: Cast, k: usize, objects: Choice, at: usize) -> usize
     requires { WellFormed m × (k < m.stagecount) × (cast.first < limit.objects) × (cast.second < limit.objects) × ((x : ℕ) → x < (stage_at m k).variables → chosen objects x < limit.objects) × (at < length run.old) }
@@ -185,14 +184,14 @@ fn attempt(
     requires { Known m work.now s × Own width.slots slots.now }
     ensures { Attempts m work.now s u first second result }
 {
-    let free = facts_candidates::free();
+    let free = Choice::free();
     let one = name_first(m, u, free);
     let fixed = name_both(m, 0, first, second, one);
     seek_stage(work, slots, m, s, 0, fixed)
 }
 
 // A choice of found states that meets stage 1, with the carried objects in these slots, and for its first variable a slot of row j.
-// The loop stays beside `filter` and `find_map`: two closures would hold all that is lent here, and the `unreachable!()` would stand behind them all the same.
+// The loop stays beside `filter` and `find_map`: two closures would hold all that is lent here, each with its own contract over it, and an `unwrap()` would stand for the `unreachable!()`.
 pub fn opening(
     work: &[u8],
     slots: &[u8],
@@ -217,16 +216,8 @@ pub fn opening(
 }
 
 // Writes the meeting of stage 1 for a choice of found states at index `at`, with the object for its first variable. Returns the index behind it.
-pub fn meet_first(
-    run: &mut [u32],
-    m: Model,
-    s: States,
-    cast: Cast,
-    object: u32,
-    c: Choice,
-    at: usize,
-) -> usize
-    requires { WellFormed m × Numbered s cast × (object < limit.objects) × ((x : ℕ) → x < (stage_at m 0).variables → chosen c x < s.count) × (at < length run.old) }
+pub fn meet_first(run: &mut [u32], m: Model, cast: Cast, object: u32, c: Choice, at: usize) -> usize
+    requires { WellFormed m × (object < limit.objects) × ((s : States) × Numbered s cast × ((x : ℕ) → x < (stage_at m 0).variables → chosen c x < s.count)) × (at < length run.old) }
     ensures { (σ : ℕ → ℕ) → Chooses (stage_at m 0) c σ → Written (λ ps. ps ≡ gathering m cast (follows (first_variable m) object) 0 σ ∷ []) 1 run.old at run.new result }
 {
     let stage = m.stages[0];

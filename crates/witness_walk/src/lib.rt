@@ -107,7 +107,7 @@ pub fn errand(
 
 // Can an object go from slot u to slot e before a stage is met?
 // The flags stay: they are two facts about a variable and a stage, and no value goes with them.
-fn moves(ways: &[u8; MATRIX], stands: bool, began: bool, u: usize, e: usize) -> bool
+fn goes(ways: &[u8; MATRIX], stands: bool, began: bool, u: usize, e: usize) -> bool
     requires { (u < limit.listed) × (e < limit.listed) }
     ensures { Says result (Moved ways.now stands began u e) }
 {
@@ -132,7 +132,7 @@ fn source(
     requires { (j * width.bytes + width.bytes ≤ levels_bytes) × (e < limit.listed) }
     ensures { MatchOption result ((u : ℕ) → u < limit.listed → Source rows.now ways.now j stands began e u → ⊥) (λ u. (u < limit.listed) × Source rows.now ways.now j stands began e u) }
 {
-    (0..LISTED).find(|u| facts_bits::get(rows, j * WIDTH + *u) && moves(ways, stands, began, *u, e))
+    (0..LISTED).find(|u| facts_bits::get(rows, j * WIDTH + *u) && goes(ways, stands, began, *u, e))
 }
 
 // A pair of level k that leads to a pair of the next level.
@@ -153,7 +153,7 @@ fn previous(
     let first_began = carries(m, 0, k);
     let second_began = carries(m, 1, k);
     for v in 0..LISTED {
-        if moves(ways, second_stands, second_began, v, second) {
+        if goes(ways, second_stands, second_began, v, second) {
             if let Some(u) = source(rows, ways, LISTED * k + v, first_stands, first_began, first) {
                 return Pair {
                     first: u,

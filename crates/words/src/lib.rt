@@ -47,6 +47,7 @@ pub fn refusal(number: u32, line: u32) -> u64
 }
 
 // The word of a refusal.
+// It stays a function and no `From`: neither `Refusal` nor `u64` is a type of this crate.
 pub fn refused(r: Refusal) -> u64
     ensures { result ≡ refusal_code (number_of r.row) r.line }
 {

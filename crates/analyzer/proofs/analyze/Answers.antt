@@ -1,4 +1,4 @@
-use mathlib.Core.Path.{refl, sym, ◌∙◌}
+use mathlib.Core.Path.{sym, ◌∙◌}
 use lib.Dec.{ltb}
 use lib.ListN.{length}
 use borrow.Author.Tests.{ltb-false}
@@ -13,9 +13,3 @@ decide-requires c =
     let r = c.in-Ok.ensures in
     let l = or-false (ltb (length a.work.now) limit.work) (ltb (length a.run.now) limit.run) (sym c.short.ensures ∙ not-short a.text.now _ _ _ r) in
     (called-well-formed a.text.now _ _ _ r, ltb-false (length a.work.now) limit.work l.0, ltb-false (length a.run.now) limit.run l.1)
-
-pub returns-in-Ok : goal.returns-in-Ok
-returns-in-Ok c = rw (← c.short.ensures, c.in-Ok.ensures.says) c.decide.ensures
-
-pub returns-in-Err : goal.returns-in-Err
-returns-in-Err c = rw (← c.short.ensures, c.in-Err.ensures) (c.refuse.ensures, refl, refl)

@@ -1,19 +1,12 @@
-use mathlib.Core.Path.{refl}
 use Rattle.model.specs.Records.{program_of, question_of}
 use Rattle.search.specs.Search.{Searched}
 use Rattle.analyzer_verdict.proofs.Laws.{listed, beside}
 use Rattle.analyzer_verdict.proofs.judge.Goals as goal
 use Rattle.analyzer_verdict.proofs.judge.Goals.{In-Some}
 
-pub returns-in_default : goal.returns-in_default
-returns-in_default c = rw c.refuse.ensures ((rw c.in_default.is at c.requires.1, refl, refl, refl), (refl, refl))
-
 -- the search ended with all states
 found : (c : In-Some) → let a = c.args in Searched a.m a.facts.now c.in-Some.found
 found c = rw c.in-Some.is at c.requires.1
-
-pub conclude-answer-requires : goal.conclude-answer-requires
-conclude-answer-requires c = (c.requires.0, found (goal.at.conclude-answer-requires c).In-Some, c.requires.2)
 
 pub returns : goal.returns
 returns c =

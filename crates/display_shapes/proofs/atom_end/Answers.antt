@@ -1,4 +1,5 @@
-use Rattle.display_shapes.proofs.Laws.{atom-unopened, atom-nameless, atom-found}
+use Rattle.text_scan.proofs.Openings.{atom-unopened, atom-nameless}
+use Rattle.display_shapes.proofs.Laws.{atom-found}
 use Rattle.display_shapes.proofs.atom_end.Goals as goal
 
 pub returns-in_err-past : goal.returns-in_err-past

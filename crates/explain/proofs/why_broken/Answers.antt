@@ -1,12 +1,9 @@
-use mathlib.Core.Path.{refl, sym, ◌∙◌}
+use mathlib.Core.Path.{sym, ◌∙◌}
 use lib.ListN.{length}
 use borrow.Author.Tests.{ltb-true}
 use Rattle.std.proofs.lemmas.Grind.{get_or_default_zero}
-use Rattle.explain.proofs.Laws.{reason-ends, reason-place}
+use Rattle.explain.proofs.Laws.{reason-place}
 use Rattle.explain.proofs.why_broken.Goals as goal
-
-pub returns-in_default : goal.returns-in_default
-returns-in_default c = let a = c.args in (reason-ends a.m a.run.now a.place a.s c.requires.3 c.requires.4 c.in_default.ensures.lookup.3, refl)
 
 pub returns : goal.returns
 returns c =

@@ -14,8 +14,8 @@ pack-left-requires c =
     let work = c.args.work.now in
     (place-fits text (narrow work) (eqb u.result.kept limit.run) u.result c.args.place work r.result r.new.s r.new.work u.ensures.1 (place_outcome text u.result work) refl r.ensures).1
 
-pub put-requires : goal.put-requires
-put-requires c =
+pub placed-requires : goal.placed-requires
+placed-requires c =
     let r = c.put-answer in
     let u = c.unpack-state in
     let text = c.args.text.now in
@@ -26,4 +26,4 @@ pub returns : goal.returns
 returns c =
     let r = c.put-answer in
     let u = c.unpack-state in
-    record { answer = r.result; after = r.new.s; puts = rw u.ensures.0 at r.ensures; number = c.put.ensures; cells = c.pack-left.ensures }
+    record { answer = r.result; after = r.new.s; puts = rw u.ensures.0 at r.ensures; number = c.placed.ensures; cells = c.pack-left.ensures }

@@ -1,4 +1,4 @@
-use mathlib.Core.Path.{refl, sym, ◌∙◌}
+use mathlib.Core.Path.{sym, ◌∙◌}
 use lib.Dec.{ltb}
 use lib.ListN.{length}
 use borrow.Author.Tests.{ltb-false}
@@ -17,9 +17,3 @@ decide-requires c =
       ltb-false (length a.work.now) limit.work l.0,
       ltb-false (length a.run.now) limit.run l.1,
     )
-
-pub returns-in-Ok : goal.returns-in-Ok
-returns-in-Ok c = rw (← c.short-short.ensures, c.in-Ok.ensures.says) c.decide.ensures
-
-pub returns-in-Err : goal.returns-in-Err
-returns-in-Err c = rw (← c.short-short.ensures, c.in-Err.ensures) (c.refuse.ensures, refl, refl)

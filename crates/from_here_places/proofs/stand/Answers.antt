@@ -1,17 +1,5 @@
-use mathlib.Core.Path.{sym, subst}
-use mathlib.Core.Bool.{Bool}
-use Prim.Native.Nat.{ℕ}
-use native.Mathlib.Omega.{arith}
-use lib.ListN.{length-replicate}
-use Rattle.limits.specs.Limits as limit
-use Rattle.facts_heads.specs.Heads.{room}
-use Rattle.from_here_places.specs.Stands.{Stands}
 use Rattle.from_here_places.proofs.Laws.{stands}
-use borrow.Author.Rules.{rules}
 use Rattle.from_here_places.proofs.stand.Goals as goal
-
-pub play_run-ending-requires : goal.play_run-ending-requires
-play_run-ending-requires c = (search rules, search rules, omega (arith, length-replicate {A = ℕ} room 0), omega (arith, length-replicate {A = ℕ} limit.run 0))
 
 pub returns : goal.returns
 returns c =

@@ -7,7 +7,7 @@ use Rattle.semantics.specs.Labels.{relabel}
 use Rattle.semantics.specs.Tables.{seat}
 use Rattle.search_states.proofs.Seats.{sought-or_length}
 use Rattle.search_ways.specs.Moves.{Marks, With}
-use Rattle.game_moves.proofs.Laws.{seat-most, GoesBelow, goes-more, goes-skip, goes-all}
+use Rattle.game_moves.proofs.Laws.{seat-most, GoesBelow, goes-more, goes-skip}
 use Rattle.game_moves.proofs.lead.Goals as goal
 use Rattle.game_moves.proofs.lead.Goals.{After-unwrap_or-t, else-get, then-get}
 
@@ -43,9 +43,3 @@ loop-e-preserved c =
       | else-get w ↦ subst (λ (t : List ℕ). Marks t (With a.moves.now (GoesBelow a.table.now a.i S a.plus a.minus (l.e + 1)))) (sym w.moves-is)
           (goes-skip a.table.now a.i S a.plus a.minus l.e a.moves.now l.moves l.invariant (sym g ∙ w.if-get.false))
     ]
-
-pub returns : goal.returns
-returns c =
-    let a = c.args in
-    let l = c.loop-e in
-    goes-all a.table.now a.i a.states.now a.plus a.minus l.e c.loop-e-test.false a.moves.now l.moves l.invariant

@@ -1,12 +1,5 @@
-use native.Mathlib.Omega.{arith}
 use Rattle.game_stage.proofs.Laws.{fixed-one}
 use Rattle.game_stage.proofs.meets.Goals as goal
-
-pub choose-fixed-requires : goal.choose-fixed-requires
-choose-fixed-requires c = omega arith
-
-pub shows-requires : goal.shows-requires
-shows-requires c = (c.requires.0, c.requires.1, c.requires.2)
 
 pub returns : goal.returns
 returns c =

@@ -1,8 +1,7 @@
-use mathlib.Core.Path.{refl, sym, ◌∙◌}
+use mathlib.Core.Path.{sym, ◌∙◌}
 use lib.Dec.{ltb}
 use lib.ListN.{length}
 use borrow.Author.Tests.{ltb-false}
-use Rattle.std.proofs.lemmas.Result.{err_from_is_err_and}
 use Rattle.limits.specs.Limits as limit
 use Rattle.semantics.proofs.Tools.{or-false}
 use Rattle.text.proofs.Laws.{not-short, called-well-formed}
@@ -20,11 +19,3 @@ mark_model-requires c =
       ltb-false (length a.run.now) limit.run k.1,
       ltb-false (length a.stood.now) limit.run l.1,
     )
-
-pub returns : goal.returns
-returns c = rw (← c.short-short.ensures, c.in_ok-m.ensures.says) c.mark_model.ensures
-
-pub returns-in_err-m : goal.returns-in_err-m
-returns-in_err-m c =
-    let p = err_from_is_err_and c.from_residual.result c.from_residual.ensures.1 in
-    rw (p.1, p.2, ← c.short-short.ensures, c.in_err-m.ensures) ((refl, refl), refl, refl, refl)

@@ -49,7 +49,7 @@ blame-index-requires c = let a = c.args in
     rw c.body.ensures (
       l.ready.sees.known.agree,
       omega (arith, codes-long a.m.now w a.at.met l.left, (w.stage a.at.met l.left).part.short),
-      codes-good a.m.now w a.at.met l.left,
+      ((stage_at a.m.now a.at.met).variables, codes-good a.m.now w a.at.met l.left),
       rw (codes-say a.m.now w a.at.met l.left) (part-supported a.m.now w a.at.met l.left),
     )
 
@@ -62,4 +62,4 @@ returns c = let a = c.args in
     let none = none-swapped a.m.now l.ready.accepted (stage_at a.m.now a.at.met) a.at.carried (choice_of a.first a.second a.third) (subst (λ (k : Choice). AnySwapped a.m.now.carried (stage_at a.m.now a.at.met) a.at.carried k → ⊥) c.choice-fixed.ensures (subst (Says _) c.if-any_swapped.false c.any_swapped.ensures)) in
     let g = stage_at a.m.now a.at.met in
     stage-literal a.m.now z v a.work.now l.ready l.left a.first a.second a.third a.stage next (sym c.count.ensures ∙ c.if-count-g.false) none c.blame-index.result
-    (subst (λ (k : Choice). ((σ : ℕ → ℕ) → Holding a.m.now z (stage_body a.m.now.literals g) g.variables k σ → ⊥) → Blames (program_of a.m.now) (take a.at.objects states) (stage_body a.m.now.literals g) (Fixed g.variables k) c.blame-index.result) c.choice-fixed.ensures (λ no. (rw (c.body.ensures, codes-say a.m.now l.ready.accepted a.at.met l.left) at c.blame-index.ensures) a.m.now v z l.ready (l.rests a.at.met l.left next) (slots-seat a.m.now v z a.slots.now a.work.now (meet a.stage (objects (a.first ∷ a.second ∷ a.third ∷ []))) l) no))
+    (subst (λ (k : Choice). ((σ : ℕ → ℕ) → Holding a.m.now z (stage_body a.m.now.literals g) g.variables k σ → ⊥) → Blames (program_of a.m.now) (take a.at.objects states) (stage_body a.m.now.literals g) (Fixed g.variables k) c.blame-index.result) c.choice-fixed.ensures (λ no. (rw (c.body.ensures, codes-say a.m.now l.ready.accepted a.at.met l.left) at c.blame-index.ensures) a.m.now v z g.variables l.ready (codes-good a.m.now l.ready.accepted a.at.met l.left) (l.rests a.at.met l.left next) (slots-seat a.m.now v z a.slots.now a.work.now (meet a.stage (objects (a.first ∷ a.second ∷ a.third ∷ []))) l) no))

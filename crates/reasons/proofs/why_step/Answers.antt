@@ -54,7 +54,7 @@ pub blame-index-requires : goal.blame-index-requires
 blame-index-requires c = let a = c.args in let f = c.in-Some in
     let m = a.m.now in let v = c.requires.0.0 in let z = session_in c.requires.0.1 a.at in
     let t = stepping m v z a.slots.now a.work.now a.line a.object c.requires.0.2 f.c f.ensures in
-    rw c.body.ensures (t.ready.sees.known.agree, omega (arith, codes-long m v z a.slots.now a.work.now f.c t, part-short m v z a.slots.now a.work.now f.c t), codes-good m v z a.slots.now a.work.now f.c t, codes-supported m v z a.slots.now a.work.now f.c t)
+    rw c.body.ensures (t.ready.sees.known.agree, omega (arith, codes-long m v z a.slots.now a.work.now f.c t, part-short m v z a.slots.now a.work.now f.c t), (f.c.variables, codes-good m v z a.slots.now a.work.now f.c t), codes-supported m v z a.slots.now a.work.now f.c t)
 
 pub returns : goal.returns
 returns c = let a = c.args in let f = c.in-Some in
@@ -62,4 +62,4 @@ returns c = let a = c.args in let f = c.in-Some in
     let z = session_in states a.at in
     let t = stepping a.m.now v z a.slots.now a.work.now a.line a.object l f.c f.ensures in
     subst (λ (ℓ : ℕ). Explains a.m.now z (step ℓ a.object) (Literal c.blame-index.result)) f.ensures.3
-    (step-literal a.m.now v z a.slots.now a.work.now f.c t a.object f.c.action refl c.in-Some-fixed.fixed c.in-Some-fixed.ensures c.blame-index.result (λ no. (rw (c.body.ensures, codes-say a.m.now v z a.slots.now a.work.now f.c t) at c.blame-index.ensures) a.m.now v z t.ready t.rests (slots-seat a.m.now v z a.slots.now a.work.now f.c t) no))
+    (step-literal a.m.now v z a.slots.now a.work.now f.c t a.object f.c.action refl c.in-Some-fixed.fixed c.in-Some-fixed.ensures c.blame-index.result (λ no. (rw (c.body.ensures, codes-say a.m.now v z a.slots.now a.work.now f.c t) at c.blame-index.ensures) a.m.now v z f.c.variables t.ready (codes-good a.m.now v z a.slots.now a.work.now f.c t) t.rests (slots-seat a.m.now v z a.slots.now a.work.now f.c t) no))

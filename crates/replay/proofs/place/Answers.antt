@@ -1,16 +1,9 @@
-use mathlib.Core.Path.{refl}
 use lib.ListN.{length}
 use borrow.Author.Tests.{ltb-false, eqb-false}
-use Rattle.std.proofs.lemmas.Result.{err_from_is_err_and}
 use Rattle.limits.specs.Limits as limit
 use Rattle.text.proofs.Laws.{not-short, not-long, called-well-formed}
 use Rattle.replay.proofs.Laws.{declared-states}
 use Rattle.replay.proofs.place.Goals as goal
-
-pub returns-in_err-m : goal.returns-in_err-m
-returns-in_err-m c =
-    let p = err_from_is_err_and c.from_residual.result c.from_residual.ensures.1 in
-    rw (p.1, p.2, c.in_err-m.ensures) ((refl, refl), refl, refl)
 
 pub place_model-requires : goal.place_model-requires
 place_model-requires c =

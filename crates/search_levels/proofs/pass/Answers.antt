@@ -9,7 +9,7 @@ use Rattle.search_levels.proofs.Passing.{led-so}
 use Rattle.search_levels.proofs.Filling.{written-more, rows_more}
 use Rattle.search_levels.proofs.pass.Invariants.{Paired}
 use Rattle.search_levels.proofs.pass.Goals as goal
-use Rattle.search_levels.proofs.pass.Goals.{After-hopeful-able, At-loop-f}
+use Rattle.search_levels.proofs.pass.Goals.{At-loop-f}
 
 -- level k is as it was
 before_same : (c : At-loop-f) → (u v : ℕ) → u < limit.listed → v < limit.listed → pair_at c.loop-f.rows c.args.k u v ≡ pair_at c.args.rows.now c.args.k u v

@@ -4,15 +4,15 @@ use native.Mathlib.Omega.{arith}
 use borrow.Author.Rules.{rules}
 use Rattle.search_states.specs.States.{row}
 use Rattle.search_states.proofs.Laws.{length-row}
-use Rattle.search_ways.specs.Moves.{Marks}
-use Rattle.search_ways.proofs.Marking.{marks-zero}
+use Rattle.search_ways.specs.Moves.{matrix_bytes, Marks}
+use Rattle.search_ways.proofs.Marking.{marks-none}
 use Rattle.search_ways.proofs.Stepping.{LedTo, led-start, led-more, led-all}
 use Rattle.search_ways.proofs.steps.Goals as goal
 
 pub loop-i-init : goal.loop-i-init
 loop-i-init c =
     let a = c.args in
-    (search rules, led-start a.m (row a.s) a.s.count a.table.now _ _ (marks-zero c.fill.new.self _ c.fill.ensures.len c.fill.ensures.clones) c.stay.ensures)
+    (search rules, led-start a.m (row a.s) a.s.count a.table.now _ _ (marks-none matrix_bytes) c.stay.ensures)
 
 pub loop-i-preserved : goal.loop-i-preserved
 loop-i-preserved c =

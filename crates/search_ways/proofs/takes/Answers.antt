@@ -1,15 +1,15 @@
 use mathlib.Core.Path.{◌≡◌, subst}
 use Prim.Native.Nat.{ℕ}
 use native.Mathlib.Omega.{arith}
-use Rattle.search_ways.specs.Moves.{Marks}
-use Rattle.search_ways.proofs.Marking.{marks-zero}
+use Rattle.search_ways.specs.Moves.{table_bytes, Marks}
+use Rattle.search_ways.proofs.Marking.{marks-none}
 use Rattle.search_ways.proofs.Table.{Below, below_none, below_more, can-take}
 use borrow.Author.Rules.{rules}
 use Rattle.search_ways.proofs.takes.Goals as goal
 
 pub loop-i-init : goal.loop-i-init
 loop-i-init c =
-    (search rules, below_none c.args.m c.args.work.now _ (marks-zero c.fill.new.self _ c.fill.ensures.len c.fill.ensures.clones))
+    (search rules, below_none c.args.m c.args.work.now _ (marks-none table_bytes))
 
 pub loop-i-preserved : goal.loop-i-preserved
 loop-i-preserved c =

@@ -1,11 +1,8 @@
 use mathlib.Core.Path.{◌∙◌}
 use Rattle.search_states.specs.States.{row}
 use Rattle.search_states.proofs.Seats.{list_any-elem}
-use Rattle.shortest_answer.proofs.Laws.{known-empty, known-row}
+use Rattle.shortest_answer.proofs.Laws.{known-row}
 use Rattle.shortest_answer.proofs.known.Goals as goal
-
-pub returns-then-state-eq0 : goal.returns-then-state-eq0
-returns-then-state-eq0 c = rw c.if-state-eq0.true (known-empty c.args.s c.requires)
 
 pub returns : goal.returns
 returns c =

@@ -1,7 +1,6 @@
 use mathlib.Core.Path.{◌≡◌, refl, ap, ◌∙◌, subst}
 use Prim.Native.Nat.{ℕ, ◌<◌}
 use mathlib.Core.Bool.{true}
-use Rattle.semantics.specs.Models.{elem}
 use Rattle.semantics.specs.Facts.{state}
 use Rattle.semantics.specs.Walkers.{Comes}
 use Rattle.model.specs.Records.{program_of}
@@ -9,26 +8,19 @@ use mathlib.Core.Logic.{◌≢◌}
 use Rattle.semantics.specs.Tables.{seat}
 use Rattle.search_states.specs.declared.States.{States}
 use Rattle.search_states.specs.States.{row, Proper, Known}
-use Rattle.search_states.proofs.Seats.{sought-known}
 use Rattle.shortest_answer.specs.Ending.{Ended}
-use Rattle.shortest_answer.proofs.Laws.{between-ended, known-row, slot, stuck}
+use Rattle.shortest_answer.proofs.Laws.{between-ended, slot, stuck}
 use Rattle.shortest_answer.proofs.onward.Goals as goal
 
 -- the slot that is sought is that of the state
 seated : (s : States) → Proper s → (t e : ℕ) → t ≢ 0 → Known s t → e ≡ seat t (row s) → (e < s.count) × (state (row s) e ≡ t)
 seated s proper t e n k q = let r = slot s proper t n k in (rw q r.0, ap (state (row s)) q ∙ r.1)
 
-listed : (s : States) (t : ℕ) → t ≢ 0 → Known s t → elem t (row s) ≡ true
-listed s t n k = (known-row s t n).1 k
-
 pub returns-then-from-eq0 : goal.returns-then-from-eq0
 returns-then-from-eq0 c =
     let a = c.args in
     let q = c.if-from-eq0.true in
     ((λ h. stuck a.m c.requires.0.model a.s a.to (λ z. c.requires.3 (q ∙ z)) (subst (λ (f : ℕ). Comes (program_of a.m) (row a.s) f a.to) q h)), refl)
-
-pub unwrap-e-requires : goal.unwrap-e-requires
-unwrap-e-requires c = sought-known c.args.from (row c.args.s) c.seek.result (rw c.row.ensures at c.seek.ensures) (listed c.args.s c.args.from c.if-from-eq0.false c.requires.1)
 
 pub way-requires : goal.way-requires
 way-requires c =
@@ -39,9 +31,6 @@ returns-then-to-eq0 c =
     let a = c.args in
     let r = c.way in
     rw c.if-to-eq0.true (subst (λ (x : ℕ). Ended (program_of a.m) (row a.s) x 0 a.run.now r.new.out r.result) (seated c.args.s c.requires.0.proper c.args.from c.unwrap-e.result c.if-from-eq0.false c.requires.1 (rw (c.row.ensures, c.unwrap-e.ensures) at c.seek.ensures).1).1 r.ensures)
-
-pub unwrap-u-requires : goal.unwrap-u-requires
-unwrap-u-requires c = sought-known c.args.to (row c.args.s) c.seek-2.result (rw c.row-2.ensures at c.seek-2.ensures) (listed c.args.s c.args.to c.if-to-eq0.false c.requires.2)
 
 pub between-requires : goal.between-requires
 between-requires c =

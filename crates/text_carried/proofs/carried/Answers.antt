@@ -1,18 +1,12 @@
 use native.Mathlib.Omega.{arith}
 use Prim.Native.Nat.{◌<◌}
-use Rattle.text_carried.proofs.Collecting.{collected-start, collected-skip, collected-mark, collected-many, collected-all}
+use Rattle.text_carried.proofs.Collecting.{collected-skip, collected-mark, collected-many, collected-all}
 use borrow.Author.Rules.{rules}
 use Rattle.text_carried.proofs.carried.Goals as goal
 use Rattle.text_carried.proofs.carried.Goals.{else-v, then-v+else-found-eq-CARRIED}
 
-pub loop-i-init : goal.loop-i-init
-loop-i-init c = collected-start _
-
 pub returns-then-found-eq-CARRIED : goal.returns-then-found-eq-CARRIED
 returns-then-found-eq-CARRIED c = collected-many _ c.loop-i.invariant (omega arith) c.if-v.true c.if-found-eq-CARRIED.true
-
-pub bounds-cells-found : goal.bounds-cells-found
-bounds-cells-found c = omega (arith, c.loop-i.invariant.few, c.if-found-eq-CARRIED.false)
 
 pub loop-i-preserved : goal.loop-i-preserved
 loop-i-preserved c =

@@ -1,4 +1,4 @@
-use mathlib.Core.Path.{◌≡◌, refl}
+use mathlib.Core.Path.{◌≡◌}
 use mathlib.Core.List.{List}
 use Prim.Native.Nat.{ℕ, ◌<◌}
 use native.Mathlib.Omega.{arith}
@@ -7,7 +7,7 @@ use lib.Seq.{get_or-take, length-take-le}
 use Rattle.text_scope.specs.Scopes as scopes
 use Rattle.text_scope.specs.Scopes.{blank, variable_at}
 use Rattle.text_scope.specs.declared.Scope.{Scope}
-use Rattle.text_carried.proofs.Entering.{numbered-start, numbered-valid, numbered_more, numbered-all}
+use Rattle.text_carried.proofs.Entering.{numbered_more, numbered-all}
 use Rattle.text_carried.proofs.number.Goals as goal
 
 -- the variables that count are as many as the scope says, and each is the scope's own
@@ -16,20 +16,6 @@ many {s = s} v = length-take-le s.count s.variables (omega (arith, v.count, v.va
 
 own : (s : Scope 3) (j : ℕ) → j < s.count → get_or (take s.count s.variables) j blank ≡ variable_at s j
 own s j h = get_or-take s.count s.variables j blank h
-
-pub loop-j-init : goal.loop-j-init
-loop-j-init c = (c.requires.0, c.requires.1, c.requires.2, numbered-start refl)
-
-pub meet-requires : goal.meet-requires
-meet-requires c =
-    let v = c.loop-j.invariant in
-    let h : c.loop-j.j < c.args.s.count = omega (arith, many v.0) in
-    let w = v.0.within _ h in
-    let f = v.3.few in
-    (numbered-valid v.3 v.2, rw (own c.args.s c.loop-j.j h) w.0, rw (own c.args.s c.loop-j.j h) w.1, omega (arith, v.1))
-
-pub overflow_cast-numbers : goal.overflow_cast-numbers
-overflow_cast-numbers c = let v = c.loop-j.invariant in let f = v.3.few in let h : c.loop-j.j < c.args.s.count = omega (arith, many v.0) in let b = c.meet.ensures.small in record { fits = omega (arith, v.1) }
 
 pub loop-j-preserved : goal.loop-j-preserved
 loop-j-preserved c = let v = c.loop-j.invariant in let h : c.loop-j.j < c.args.s.count = omega (arith, many v.0) in (v.0, v.1, v.2, numbered_more v.3 v.0 h (rw (own c.args.s c.loop-j.j h) at c.meet.ensures))

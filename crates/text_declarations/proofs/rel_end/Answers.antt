@@ -1,31 +1,23 @@
-use native.Mathlib.Omega.{arith}
+-- rel_end
+use mathlib.Core.Path.{refl}
 use Rattle.grammar.specs.Shapes.{rel_rest}
-use Rattle.text_declarations.proofs.Laws.{rel-unclosed, rel-part, rel-whole}
+use Rattle.text_declarations.proofs.Laws.{rel-unclosed, rel-chosen}
 use Rattle.text_declarations.proofs.rel_end.Goals as goal
-use Rattle.text_declarations.proofs.rel_end.Goals.{then-not-at_byte-2-via-then-not-at_byte-2, then-not-at_byte-2-via-else-not-at_byte-2+then-e-text}
 
 pub returns-in_err-e : goal.returns-in_err-e
 unfolding rel_rest
 returns-in_err-e c = rw c.from_residual.ensures (rw c.in_err-e.ensures)
 
-pub returns-then-not-at_byte : goal.returns-then-not-at_byte
+pub returns-in_err-digit : goal.returns-in_err-digit
 unfolding rel_rest
-returns-then-not-at_byte c = let x = c.in_ok-e.ensures in rw (x.read, c.at_byte.ensures.missing c.if-not-at_byte.true)
+returns-in_err-digit c = let x = c.in_ok-e.ensures in rw c.from_residual-in_err-digit.ensures (rw (x.read, c.in_err-digit.ensures))
 
 pub returns-in_err-n : goal.returns-in_err-n
 unfolding rel_rest
-returns-in_err-n c = let x = c.in_ok-e.ensures in rw c.from_residual-in_err-n.ensures (rw (x.read, (c.at_byte.ensures.found c.if-not-at_byte.false).1, c.in_err-n.ensures))
+returns-in_err-n c = let x = c.in_ok-e.ensures in rw c.from_residual-in_err-n.ensures (rw (x.read, c.in_ok-digit.ensures.read, c.in_err-n.ensures))
 
-pub returns-then-not-at_byte-2 : goal.returns-then-not-at_byte-2
-returns-then-not-at_byte-2 c = let t = c.args.text.now in let x = c.in_ok-e.ensures in let s = c.at_byte.ensures.found c.if-not-at_byte.false in elim c.then-not-at_byte-2.branch [
-  | then-not-at_byte-2-via-then-not-at_byte-2 w ↦ rel-unclosed t c.args.at c.in_ok-e.e c.in_ok-n.n x.read s.1 c.in_ok-n.ensures.read (c.at_byte-2.ensures.missing w.if-not-at_byte-2.true)
-  | then-not-at_byte-2-via-else-not-at_byte-2+then-e-text w ↦ let b = c.at_byte-2.ensures.found w.if-not-at_byte-2.false in rel-part t c.args.at c.in_ok-e.e c.in_ok-n.n x.read s.1 c.in_ok-n.ensures.read b.1 b.0 w.if-e-text.true
-]
+pub returns-in_err-end : goal.returns-in_err-end
+returns-in_err-end c = rw c.from_residual-in_err-end.ensures (rel-unclosed c.in_ok-e.ensures c.in_ok-digit.ensures c.in_ok-n.ensures c.in_err-end.ensures)
 
 pub returns : goal.returns
-returns c = let x = c.in_ok-e.ensures in let b = c.at_byte-2.ensures.found c.if-not-at_byte-2.false in record {
-  begins = x.begins;
-  ends = omega (arith, b.0);
-  small = c.in_ok-n.ensures.small;
-  read = rel-whole c.args.text.now c.args.at c.in_ok-e.e c.in_ok-n.n x.read (c.at_byte.ensures.found c.if-not-at_byte.false).1 c.in_ok-n.ensures.read b.1 c.if-e-text.false;
-}
+returns c = rw c.then_some.ensures (rel-chosen c.in_ok-e.ensures c.in_ok-digit.ensures c.in_ok-n.ensures c.in_ok-end.ensures _ refl)

@@ -1,4 +1,3 @@
-use Prim.Native.Nat.{◌+◌}
 use lib.ListN.{drop}
 use Rattle.grammar.specs.Shapes.{state_rest, rel_rest}
 use Rattle.text_names.specs.Names.{declared_of}
@@ -6,36 +5,27 @@ use Rattle.rows.proofs.Options.{passed}
 use Rattle.text_lines.proofs.Laws.{state-none, rel-none, line-state, line-rel, line-undeclared, line-declared, line-refused, line-stored, line-storable}
 use Rattle.text_lines.proofs.read_line.Goals as goal
 
-pub read_state-requires : goal.read_state-requires
-read_state-requires c = let f = (c.at_bytes.ensures.found c.if-at_bytes.true).0 in (f, c.requires.1, c.requires.2, c.requires.3)
-
 pub returns-in_err-d : goal.returns-in_err-d
 returns-in_err-d c =
-    let s = drop (c.args.at + 7) c.args.text.now in
+    let s = drop c.in-Some.end c.args.text.now in
     let p = passed c.in_err-d.was c.from_residual.ensures.1 in
-    rw p.1 (line-undeclared (state_rest s) (state-none (declared_of c.args.text.now c.args.d.now) c.args.number s) (line-state (drop c.args.at c.args.text.now) (c.at_bytes.ensures.found c.if-at_bytes.true).1) p.0 (rw p.2 at c.read_state.ensures))
+    rw p.1 (line-undeclared (state_rest s) (state-none (declared_of c.args.text.now c.args.d.now) c.args.number s) (line-state (drop c.args.at c.args.text.now) c.in-Some.ensures.read) p.0 (rw p.2 at c.read_state.ensures))
 
-pub returns-then-at_bytes : goal.returns-then-at_bytes
-returns-then-at_bytes c =
-    let s = drop (c.args.at + 7) c.args.text.now in
-    line-declared (state_rest s) (state-none (declared_of c.args.text.now c.args.d.now) c.args.number s) (line-state (drop c.args.at c.args.text.now) (c.at_bytes.ensures.found c.if-at_bytes.true).1) c.in_ok-d.ensures
-
-pub read_rel-requires : goal.read_rel-requires
-read_rel-requires c = let f = (c.at_bytes-2.ensures.found c.if-at_bytes-2.true).0 in (f, c.requires.1, c.requires.2, c.requires.3)
+pub returns-in-Some : goal.returns-in-Some
+returns-in-Some c =
+    let s = drop c.in-Some.end c.args.text.now in
+    line-declared (state_rest s) (state-none (declared_of c.args.text.now c.args.d.now) c.args.number s) (line-state (drop c.args.at c.args.text.now) c.in-Some.ensures.read) c.in_ok-d.ensures
 
 pub returns-in_err-d-2 : goal.returns-in_err-d-2
 returns-in_err-d-2 c =
-    let s = drop (c.args.at + 5) c.args.text.now in
+    let s = drop c.in-Some-past_bytes.end c.args.text.now in
     let p = passed c.in_err-d-2.was c.from_residual-in_err-d-2.ensures.1 in
-    rw p.1 (line-undeclared (rel_rest s) (rel-none (declared_of c.args.text.now c.args.d.now) c.args.number s) (line-rel (drop c.args.at c.args.text.now) (c.at_bytes.ensures.missing c.if-at_bytes.false) (c.at_bytes-2.ensures.found c.if-at_bytes-2.true).1) p.0 (rw p.2 at c.read_rel.ensures))
+    rw p.1 (line-undeclared (rel_rest s) (rel-none (declared_of c.args.text.now c.args.d.now) c.args.number s) (line-rel (drop c.args.at c.args.text.now) c.in_default.ensures c.in-Some-past_bytes.ensures.read) p.0 (rw p.2 at c.read_rel.ensures))
 
-pub returns-then-at_bytes-2 : goal.returns-then-at_bytes-2
-returns-then-at_bytes-2 c =
-    let s = drop (c.args.at + 5) c.args.text.now in
-    line-declared (rel_rest s) (rel-none (declared_of c.args.text.now c.args.d.now) c.args.number s) (line-rel (drop c.args.at c.args.text.now) (c.at_bytes.ensures.missing c.if-at_bytes.false) (c.at_bytes-2.ensures.found c.if-at_bytes-2.true).1) c.in_ok-d-2.ensures
-
-pub read_clause-requires : goal.read_clause-requires
-read_clause-requires c = (c.requires.0, c.requires.1, c.requires.2, record { states = c.at_bytes.ensures.missing c.if-at_bytes.false; relations = c.at_bytes-2.ensures.missing c.if-at_bytes-2.false })
+pub returns-in-Some-past_bytes : goal.returns-in-Some-past_bytes
+returns-in-Some-past_bytes c =
+    let s = drop c.in-Some-past_bytes.end c.args.text.now in
+    line-declared (rel_rest s) (rel-none (declared_of c.args.text.now c.args.d.now) c.args.number s) (line-rel (drop c.args.at c.args.text.now) c.in_default.ensures c.in-Some-past_bytes.ensures.read) c.in_ok-d-2.ensures
 
 pub returns-in_err-r : goal.returns-in_err-r
 returns-in_err-r c = let p = passed c.in_err-r.was c.from_residual-in_err-r.ensures.1 in rw p.1 (line-refused c.args.at c.args.number c.requires.2 c.requires.3 p.0 (rw p.2 at c.read_clause.ensures))

@@ -1,24 +1,14 @@
-use mathlib.Core.List.{[], ◌∷◌}
+use mathlib.Core.List.{[]}
 use native.Mathlib.Omega.{arith}
-use lib.Seq.{slice}
 use Rattle.text_names.specs.Names.{declared_of}
-use Rattle.text_lists.proofs.Laws.{empty-list, list-empty, list-unopened, list-nameless, list-read}
+use Rattle.text_lists.proofs.Laws.{empty-list, list-empty, list-read}
 use Rattle.text_lists.proofs.read_list.Goals as goal
 
 pub returns-in-Some : goal.returns-in-Some
 returns-in-Some c = list-empty c.args.text.now c.args.at c.in-Some.ensures
 
-pub returns-in_err-a : goal.returns-in_err-a
-returns-in_err-a c = rw c.from_residual.ensures (list-unopened c.args.text.now c.args.at c.in_default.ensures c.in_err-a.ensures)
-
-pub returns-in_err-e : goal.returns-in_err-e
-returns-in_err-e c = rw c.from_residual-in_err-e.ensures (list-nameless c.args.text.now c.args.at c.in_default.ensures c.in_ok-a.ensures c.in_err-e.ensures)
-
-pub add_name-requires : goal.add_name-requires
-add_name-requires c = let x = c.in_ok-e.ensures in (c.requires.1, omega (arith, x.begins), x.ends)
-
-pub read_row-requires : goal.read_row-requires
-read_row-requires c = (c.in_ok-e.ensures.ends, (tt, slice c.in_ok-a.a c.in_ok-e.e c.args.text.now ∷ [], omega arith, (c.requires.1, c.add_name.ensures.added [] (empty-list (declared_of c.args.text.now c.args.d)))))
+pub read_bracket-requires : goal.read_bracket-requires
+read_bracket-requires c = (tt, [], omega arith, (c.requires.1, empty-list (declared_of c.args.text.now c.args.d)))
 
 pub returns : goal.returns
-returns c = list-read c.args.text.now c.args.at c.in_default.ensures c.in_ok-a.ensures c.in_ok-e.ensures c.requires.1 c.read_row.result c.add_name.ensures c.read_row.ensures
+returns c = list-read c.args.text.now c.args.at c.read_bracket.result c.in_default.ensures c.requires.1 c.read_bracket.ensures

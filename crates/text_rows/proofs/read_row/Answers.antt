@@ -1,20 +1,13 @@
-use native.Mathlib.Nat.{sub-zero}
 use native.Mathlib.Omega.{arith}
 use Rattle.grammar.proofs.Reading.{reading-full, reading-ends, reading-fails}
-use Rattle.text_rows.proofs.Laws.{row-start, row-room, row-more, row-closed}
+use Rattle.text_rows.proofs.Laws.{row-more, row-closed}
 use Rattle.text_rows.proofs.read_row.Goals as goal
-
-pub loop-init : goal.loop-init
-loop-init g c = rw (sub-zero c.args.n) (row-start c.requires.0, c.requires.1)
 
 pub returns-in-Some : goal.returns-in-Some
 returns-in-Some g c = row-closed c.loop.invariant.0 c.in-Some.ensures
 
 pub returns-in_err-past : goal.returns-in_err-past
 returns-in_err-past g c = rw c.from_residual.ensures (reading-ends c.loop.invariant.0.reading c.in_default.ensures c.in_err-past.ensures)
-
-pub add-requires : goal.add-requires
-add-requires g c = (c.in_ok-past.ensures.ends, row-room c.loop.invariant.0 (omega arith) c.loop.invariant.1)
 
 pub returns-in_err-t : goal.returns-in_err-t
 returns-in_err-t g c =

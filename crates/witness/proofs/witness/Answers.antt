@@ -5,12 +5,6 @@ use Rattle.witness_walk.proofs.Laws.{written-length, behind-index}
 use Rattle.witness.proofs.Laws.{building-few, turn-fits, whole, shown}
 use Rattle.witness.proofs.witness.Goals as goal
 
-pub walk-from-requires : goal.walk-from-requires
-walk-from-requires c =
-    let p = c.requires in
-    let few = c.requires.0.known.proper.count in
-    (p.0, c.slots-slots.ensures, record { states = omega arith; first = omega arith; second = omega arith }, omega arith, c.goal-pair.ensures, p.2)
-
 pub build-r-requires : goal.build-r-requires
 build-r-requires c =
     let p = c.requires in

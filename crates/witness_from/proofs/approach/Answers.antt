@@ -6,6 +6,3 @@ use Rattle.witness_from.proofs.approach.Goals as goal
 
 pub returns-then-carried : goal.returns-then-carried
 returns-then-carried c = rw c.if-carried.true (record { places = []; good = refl; few = omega arith; numerable = tt; written = sym (backwards-none _ _); index = omega arith })
-
-pub returns : goal.returns
-returns c = rw c.if-carried.false c.errand.ensures

@@ -28,7 +28,7 @@ meet_first-met-requires c =
     let p = c.requires in
     let a = c.args in
     let e = c.opening-c.ensures in
-    (p.0.model, p.4, p.5, chosen-below a.m a.work.now a.s p.0 0 p.0.model.one _ e.0 e.1.0.0 e.2, omega (arith, p.9))
+    (p.0.model, p.5, (a.s, p.4, chosen-below a.m a.work.now a.s p.0 0 p.0.model.one _ e.0 e.1.0.0 e.2), omega (arith, p.9))
 
 pub errand-then-requires : goal.errand-then-requires
 errand-then-requires c =

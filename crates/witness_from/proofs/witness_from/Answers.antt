@@ -17,12 +17,6 @@ use Rattle.witness_from.proofs.witness_from.Goals.{After-open_with-at, After-wal
 same : (existing n object : ℕ) (r : Cast) (d e : Bool) → r ≡ cast_from d existing n object → d ≡ e → r ≡ cast_from e existing n object
 same existing n object r d e q h = q ∙ ap (λ (b : Bool). cast_from b existing n object) h
 
-pub walk-p-requires : goal.walk-p-requires
-walk-p-requires c =
-    let p = c.requires in
-    let a = c.args in
-    (p.0, c.slots-slots.ensures, subst (Numbered a.s) (sym (same a.existing a.s.count a.object _ _ _ c.cast-roles.ensures c.first_carried-carried.ensures)) (numbered a.m a.work.now a.s p.0.known p.3 a.existing a.object a.slot p.4 p.5), p.0.known.model.one, c.goal-pair.ensures, p.7)
-
 -- what is written of the walk
 behind : (c : After-walk-p) → let a = c.args in let q = c.walk-p.result in
     Behind a.m a.s (cast_from (first_carried a.m) a.existing a.s.count a.object) 1 a.rows.now a.run.now c.walk-p.new.run 1 q.pair.first q.pair.second q.at

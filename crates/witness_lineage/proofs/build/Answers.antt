@@ -4,7 +4,7 @@ use lib.ListN.{length}
 use Rattle.model.specs.declared.Model.{Model}
 use native.Mathlib.Omega.{arith}
 use Rattle.witness_lineage.specs.Lineage.{building, Ancestry}
-use Rattle.witness_lineage.proofs.Making.{Built, built-none, built-room, built-more, built-all}
+use Rattle.witness_lineage.proofs.Making.{Built, built-none, built-room, built-more}
 use Rattle.witness_lineage.proofs.build.Goals as goal
 use Rattle.witness_lineage.proofs.build.Goals.{After-firsts-born, In-loop-n}
 
@@ -38,9 +38,3 @@ loop-n-preserved c =
     let r = built-room m a.s a.base a.k a.run.now l.run (l.n - 1) l.at h q in
     let made = c.trace-at.ensures m anc (omega arith, omega (arith, r)) in
     built-more m a.s a.base a.k a.run.now l.run (l.n - 1) l.at h _ _ made.0 made.1
-
-pub returns : goal.returns
-returns c =
-    let a = c.args in
-    let l = c.loop-n in
-    built-all a.m a.s a.base a.k a.run.now l.run l.n l.at (omega arith) (l.invariant a.m (ancestry (goal.at.returns c).After-firsts-born) c.requires.4)

@@ -3,10 +3,10 @@ use borrow.Author.Count.{below_more}
 use Rattle.search_ways.proofs.Nearest.{denied}
 use Rattle.witness_walk.proofs.Sources.{pair_found}
 use Rattle.witness_walk.proofs.previous.Goals as goal
-use Rattle.witness_walk.proofs.previous.Goals.{else-moves, then-moves+in_default}
+use Rattle.witness_walk.proofs.previous.Goals.{else-goes, then-goes+in_default}
 
 pub loop-v-preserved : goal.loop-v-preserved
-loop-v-preserved c = below_more _ _ c.loop-v.invariant (elim (c.if-moves.branch) [ then-moves+in_default w ↦ λ h. w.in_default.ensures h.0 h.1 h.2 | else-moves w ↦ λ h. denied c.moves.result _ c.moves.ensures w.if-moves.false h.3 ])
+loop-v-preserved c = below_more _ _ c.loop-v.invariant (elim (c.if-goes.branch) [ then-goes+in_default w ↦ λ h. w.in_default.ensures h.0 h.1 h.2 | else-goes w ↦ λ h. denied c.goes.result _ c.goes.ensures w.if-goes.false h.3 ])
 
 pub unreachable-requires : goal.unreachable-requires
 unreachable-requires c =

@@ -1,4 +1,5 @@
-use Rattle.display_shapes.proofs.Laws.{not-missing, not-closed, plain-found}
+use Rattle.text_scan.proofs.Openings.{not-missing}
+use Rattle.display_shapes.proofs.Laws.{not-closed, plain-found}
 use Rattle.display_shapes.proofs.LiteralItem.end.Goals as goal
 
 pub returns-in_default : goal.returns-in_default

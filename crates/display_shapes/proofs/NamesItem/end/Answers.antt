@@ -1,4 +1,5 @@
-use Rattle.display_shapes.proofs.Laws.{list-empty, list-unopened, list-nameless, list-found}
+use Rattle.text_scan.proofs.Openings.{list-unopened, list-nameless}
+use Rattle.display_shapes.proofs.Laws.{list-empty, list-found}
 use Rattle.display_shapes.proofs.NamesItem.end.Goals as goal
 
 pub returns-in-Some : goal.returns-in-Some

@@ -1,4 +1,5 @@
-use Rattle.display_shapes.proofs.Laws.{stage-unopened, stage-empty, stage-found}
+use Rattle.text_scan.proofs.Openings.{stage-unopened, stage-empty}
+use Rattle.display_shapes.proofs.Laws.{stage-found}
 use Rattle.display_shapes.proofs.StageItem.end.Goals as goal
 
 pub returns-in_err-past : goal.returns-in_err-past
