@@ -11,6 +11,6 @@ pub fn analyze(text: &[u8], work: &mut [u8], run: &mut [u32]) -> Analysis
 {
     match text::accept(text, calls::short(work.len(), run.len()), false) {
         Ok(m) => analyzer_verdict::decide(m, work, run),
-        Err(refusal) => analyzer_verdict::refuse(refusal),
+        Err(refusal) => analyzer_verdict::refuse(refusal.row.number(), refusal.line),
     }
 }

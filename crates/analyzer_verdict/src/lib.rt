@@ -5,7 +5,6 @@ ghost use Rattle.std.specs.Prelude.{◌≡◌, ◌≤◌, length};
 ghost use Rattle.limits.specs.Limits as limit;
 ghost use Rattle.model.specs.Records.{program_of, question_of};
 ghost use Rattle.model.specs.WellFormed.{WellFormed};
-ghost use Rattle.rows.specs.Rows.{number_of};
 ghost use Rattle.search.specs.Search.{Searched, Finds};
 ghost use Rattle.analyzer_verdict.specs.Judging.{Answered, Beside, refusal, answer_beside, Judges};
 
@@ -13,7 +12,6 @@ use calls::CROWDED;
 use facts_heads::ROOM;
 use limits::LISTED;
 use model::{Model, Place};
-use rows::Refusal;
 use search::Found;
 use search_states::Listing;
 
@@ -37,14 +35,11 @@ pub struct Analysis {
 }
 
 // A refusal, with no states beside it.
-pub fn refuse(r: Refusal) -> Analysis
-    ensures { result ≡ refusal (number_of r.row) r.line }
+pub fn refuse(number: u32, line: u32) -> Analysis
+    ensures { result ≡ refusal number line }
 {
     Analysis {
-        answer: Answer::Refused {
-            number: r.row.number(),
-            line: r.line,
-        },
+        answer: Answer::Refused { number, line },
         states: [0u32; LISTED],
         count: 0,
     }
@@ -91,7 +86,7 @@ fn judge(m: Model, facts: &[u8], run: &mut [u32], searched: Option<Found>) -> An
     ensures { Answered (program_of m) (question_of m) run.old run.new result.answer × Beside (program_of m) result.states result.count result.answer }
 {
     let Some(found) = searched else {
-        return refuse(CROWDED);
+        return refuse(CROWDED.row.number(), CROWDED.line);
     };
     let answer = conclude(m, facts, run, found);
     with_states(answer, found.explored.listing)

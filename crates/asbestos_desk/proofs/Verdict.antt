@@ -30,6 +30,7 @@ use Rattle.rows.specs.declared.Refusal.{Refusal}
 use Rattle.asbestos_writer.specs.Writing.{refuses, Leaves, Desks}
 use Rattle.asbestos_writer.proofs.Checks.{Fit, fit}
 use Rattle.asbestos_desk.specs.Promise.{Tells, Promised, Keeps}
+use Rattle.words.specs.Words.{by_number}
 use Rattle.asbestos_desk.specs.Codes.{ShortText}
 
 -- A VERDICT that is right tells what is equivalent, where there are never too many states
@@ -75,6 +76,6 @@ keeps kinds port level out (Ok n) out' d = promised kinds port level out n out' 
 keeps kinds port level out (Err x) out' d = tt
 
 -- and its text is no longer than a text may be
-pub short-text : (kinds : List Process) (port level : ℕ) (out : List ℕ) (a : Result ℕ Refusal) (out' : List ℕ) → Desks kinds port level out a out' → ShortText a
+pub short-text : (kinds : List Process) (port level : ℕ) (out : List ℕ) (a : Result ℕ Refusal) (out' : List ℕ) → Desks kinds port level out a out' → ShortText (by_number a)
 short-text kinds port level out (Ok n) out' d = no_longer kinds port level out n out' d
 short-text kinds port level out (Err x) out' d = tt

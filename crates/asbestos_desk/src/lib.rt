@@ -8,7 +8,7 @@ ghost use Rattle.asbestos_desk.specs.Promise.{Keeps};
 
 use asbestos_writer::CELLS;
 use rows::Refusal;
-use words::Kind;
+use words::{Kind, Numbered};
 
 // Writes the text for the first kinds, so many, the port level and the asked receive level, whose verdict is the one over messages; or refuses with 20.
 pub fn write(
@@ -25,12 +25,12 @@ pub fn write(
 
 // The number of an answer.
 // It stays a function and no `From`: neither a `Result` nor `u64` is a type of this crate.
-pub fn coded(answer: Result<usize, Refusal>) -> u64
+pub fn coded(answer: Result<usize, Numbered>) -> u64
     requires { ShortText answer }
     ensures { result ≡ code answer }
 {
     match answer {
         Ok(length) => words::word(Kind::Written, length as u64),
-        Err(r) => words::refused(r),
+        Err(r) => words::refusal(r.number, r.line),
     }
 }

@@ -31,6 +31,7 @@ use Rattle.display_shapes.specs.declared.Span.{Span}
 use Rattle.display_shapes.specs.Rows.{pick, Shown}
 use Rattle.display.specs.declared.Declaration.{Declaration}
 use Rattle.display.specs.Shown.{relation_at, FindsRelation}
+use Rattle.words.specs.Words.{by_number}
 use Rattle.codes.specs.Ranges.{ShortRun, LowPlace, Near, NearName}
 
 -- WHAT A HAND-IN SAYS
@@ -40,7 +41,7 @@ said_fits handin (says-yes first ps) e = (run-writable handin first ps e).0
 said_fits handin (unreadable at) e = tt
 
 -- THE MARK
-worth-fits : (P : Program) (Q : Question) (h : Handin) (m : Result Mark Refusal) → ((first : ℕ) (ps : List Place) → h ≡ says-yes first ps → length ps ≤ limit.run) → Worth P Q h m → LowPlace m
+worth-fits : (P : Program) (Q : Question) (h : Handin) (m : Result Mark Refusal) → ((first : ℕ) (ps : List Place) → h ≡ says-yes first ps → length ps ≤ limit.run) → Worth P Q h m → LowPlace (by_number m)
 worth-fits P Q h (Err x) f w = tt
 worth-fits P Q h (Ok (Unreadable l)) f w = tt
 worth-fits P Q h (Ok Right) f w = tt
@@ -49,7 +50,7 @@ worth-fits P Q (unreadable at) (Ok (Breaks place line)) f w = absurd (false≢tr
 worth-fits P Q says-no (Ok (Breaks place line)) f w = absurd w
 worth-fits P Q (says-yes first ps) (Ok (Breaks place line)) f w = omega (arith, f first ps refl, w.1.0)
 
-pub mark-fits : (o : Outcome) (handin work run stood : List ℕ) (m : Result Mark Refusal) (work' run' stood' : List ℕ) → Marked o (reading handin) work run stood m work' run' stood' → LowPlace m
+pub mark-fits : (o : Outcome) (handin work run stood : List ℕ) (m : Result Mark Refusal) (work' run' stood' : List ℕ) → Marked o (reading handin) work run stood m work' run' stood' → LowPlace (by_number m)
 mark-fits o handin work run stood (Err x) work' run' stood' h = tt
 mark-fits (refused n l) handin work run stood (Ok m) work' run' stood' h = absurd h.0
 mark-fits (accepted D P Q) handin work run stood (Ok m) work' run' stood' h = worth-fits P Q (reading handin) (Ok m) (λ first ps e. (run-writable handin first ps e).0) h.0

@@ -1,7 +1,6 @@
 -- THE NUMBERS OF ANSWERS: kind × 2^32 + value; of what is shown: where it begins × 2^32, and what else there is to say of it.
 use Rattle.std.specs.Prelude.{if◌then◌else◌, Option, Some, None, Result, Ok, Err, ℕ, ◌+◌, ◌*◌}
-use Rattle.rows.specs.Rows.{number_of}
-use Rattle.rows.specs.declared.Refusal.{Refusal}
+use Rattle.words.specs.declared.Numbered.{Numbered}
 use Rattle.words.specs.Words.{code, refusal}
 use Rattle.handin.specs.declared.Run.{Run}
 use Rattle.handin.specs.declared.Unreadable as handin
@@ -17,8 +16,8 @@ handed (Ok (Some r)) = code 10 (r.places * 65536 + r.first)
 handed (Err u) = code 5 u.line
 
 -- THE MARK: kind 2 is refused, with number × 65,536 + line; kind 5 unreadable, with the line; kind 6 right; kind 7 the other verdict, with 1 where that is reached; kind 8 a run that breaks, with place × 65,536 + line
-abbrev pub marked : Result Mark Refusal → ℕ
-marked (Err x) = refusal (number_of x.row) x.line
+abbrev pub marked : Result Mark Numbered → ℕ
+marked (Err x) = refusal x.number x.line
 marked (Ok (Unreadable l)) = code 5 l
 marked (Ok Right) = code 6 0
 marked (Ok (Other reached)) = code 7 (if reached then 1 else 0)

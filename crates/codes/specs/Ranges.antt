@@ -1,6 +1,6 @@
 -- NUMBERS THAT FIT their codes.
 use Rattle.std.specs.Prelude.{Option, Some, None, Result, Ok, Err, ◌≤◌}
-use Rattle.rows.specs.declared.Refusal.{Refusal}
+use Rattle.words.specs.declared.Numbered.{Numbered}
 use Rattle.limits.specs.Limits as limit
 use Rattle.handin.specs.declared.Run.{Run}
 use Rattle.handin.specs.declared.Unreadable as handin
@@ -16,7 +16,7 @@ ShortRun (Ok (Some r)) = r.places ≤ limit.run
 ShortRun (Err u) = Unit {0}
 
 -- it breaks at one of its places, or at its end
-abbrev pub LowPlace : Result Mark Refusal → Type 0
+abbrev pub LowPlace : Result Mark Numbered → Type 0
 LowPlace (Err x) = Unit {0}
 LowPlace (Ok (Unreadable l)) = Unit {0}
 LowPlace (Ok Right) = Unit {0}

@@ -9,8 +9,7 @@ use display::Declaration;
 use display_shapes::Span;
 use handin::{Run, Unreadable};
 use marker_worth::Mark;
-use rows::Refusal;
-use words::Kind;
+use words::{Kind, Numbered};
 
 // The number of what a hand-in says.
 // It and the functions below stay functions and no `From`: neither what they take nor `u64` is a type of this crate.
@@ -26,7 +25,7 @@ pub fn handed(said: Result<Option<Run>, Unreadable>) -> u64
 }
 
 // The number of a mark.
-pub fn marked(mark: Result<Mark, Refusal>) -> u64
+pub fn marked(mark: Result<Mark, Numbered>) -> u64
     requires { LowPlace mark }
     ensures { result ≡ mark_code mark }
 {
@@ -37,7 +36,7 @@ pub fn marked(mark: Result<Mark, Refusal>) -> u64
         Ok(Mark::Breaks { place, line }) => {
             words::word(Kind::Breaks, place as u64 * 65_536 + line as u64)
         }
-        Err(r) => words::refused(r),
+        Err(r) => words::refusal(r.number, r.line),
     }
 }
 

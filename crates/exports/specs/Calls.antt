@@ -30,7 +30,7 @@ use Rattle.asbestos_desk.specs.Promise.{Keeps}
 use Rattle.asbestos_desk.specs.Codes.{code}
 use Rattle.codes.specs.Codes as codes
 use Rattle.reason_codes.specs.Codes.{explained}
-use Rattle.words.specs.Words.{refusal}
+use Rattle.words.specs.Words.{refusal, by_number}
 use Rattle.exports.specs.Codes.{coded, replied, put}
 use Rattle.exports.specs.Cells as cells
 use Rattle.exports.specs.Cells.{last_number, state_of, cells_of}
@@ -78,13 +78,13 @@ pub record Handed (handin run : List ℕ) (n : ℕ) (run' : List ℕ) : Type 0 w
 pub record Marked (text handin work run stood : List ℕ) (n : ℕ) (work' run' stood' : List ℕ) : Type 0 where
   pub mark : Result Mark Refusal
   pub marks : Marks text handin work run stood mark work' run' stood'
-  pub number : n ≡ codes.marked mark
+  pub number : n ≡ codes.marked (by_number mark)
 
 -- A RUN PUT TO A TEXT, and why it breaks, with the work area and the table of those who stood by after it
 pub record Reasoned (text run work table : List ℕ) (n : ℕ) (work' table' : List ℕ) : Type 0 where
   pub explanation : Result Explanation Refusal
   pub explains : Explained (run_outcome text run work table) run work table explanation work' table'
-  pub number : n ≡ explained explanation
+  pub number : n ≡ explained (by_number explanation)
 
 -- A DECLARED RELATION of a text, if there is one
 pub record Declared (text : List ℕ) (i n : ℕ) : Type 0 where
@@ -103,4 +103,4 @@ pub record Desked (kinds : List Process) (port level : ℕ) (out : List ℕ) (n 
   pub answer : Result ℕ Refusal
   pub desks : Desks kinds port level out answer out'
   pub keeps : Keeps kinds port level answer out'
-  pub number : n ≡ code answer
+  pub number : n ≡ code (by_number answer)

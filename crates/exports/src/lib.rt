@@ -249,7 +249,7 @@ pub extern "C" fn eon_mark(
 ) -> u64
     ensures { Marked text.now handin.now work.old run.old stood.old result work.new run.new stood.new }
 {
-    codes::marked(marker::mark(text, handin, work, run, stood))
+    codes::marked(words::by_number(marker::mark(text, handin, work, run, stood)))
 }
 
 // Replays a run over a text, notes who stood by at each kept step, and says why it breaks.
@@ -257,7 +257,7 @@ pub extern "C" fn eon_mark(
 pub extern "C" fn eon_why(text: &[u8], run: &[u32], work: &mut [u8], table: &mut [u32]) -> u64
     ensures { Reasoned text.now run.now work.old table.old result work.new table.new }
 {
-    reason_codes::explained(explain::explain(text, run, work, table))
+    reason_codes::explained(words::by_number(explain::explain(text, run, work, table)))
 }
 
 // What a line of an accepted text makes of an object in a state.
@@ -310,5 +310,5 @@ pub extern "C" fn eon_asbestos(
 ) -> u64
     ensures { Desked (kinds_of kinds.now count) port level out.old result out.new }
 {
-    asbestos_desk::coded(asbestos_desk::write(out, kinds, count, port, level))
+    asbestos_desk::coded(words::by_number(asbestos_desk::write(out, kinds, count, port, level)))
 }

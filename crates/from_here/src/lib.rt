@@ -19,6 +19,6 @@ pub fn from_here(
     let short = calls::short(work.len(), run.len());
     match text::accept(text, short, places.len() > RUN) {
         Ok(m) => from_here_verdict::decide(m, places, object, work, run),
-        Err(refusal) => analyzer_verdict::refuse(refusal),
+        Err(refusal) => analyzer_verdict::refuse(refusal.row.number(), refusal.line),
     }
 }

@@ -71,7 +71,7 @@ fn ask(m: Model, s: Session, object: u32, run: &mut [u32]) -> Analysis
     let mut facts = [0u8; ROOM];
     let state = s.states[object as usize];
     let Some(found) = search::search_from(&mut facts, m, state) else {
-        return analyzer_verdict::refuse(CROWDED);
+        return analyzer_verdict::refuse(CROWDED.row.number(), CROWDED.line);
     };
     let answer = conclude(m, s, object, &facts, run, found);
     analyzer_verdict::with_states(answer, found.explored.listing)
@@ -83,17 +83,17 @@ fn judge(m: Model, places: &[u32], object: u32, run: &mut [u32]) -> Analysis
     ensures { Put run.old result run.new (program_of m) (question_of m) places.now object }
 {
     let Some(s) = from_here_places::stand(m, places) else {
-        return analyzer_verdict::refuse(Row::Place.refusal());
+        return analyzer_verdict::refuse(Row::Place.number(), 0);
     };
     if object as usize >= s.objects {
-        return analyzer_verdict::refuse(Row::Place.refusal());
+        return analyzer_verdict::refuse(Row::Place.number(), 0);
     }
     let first = m.stages[0];
     if first.variables == 0 {
-        return analyzer_verdict::refuse(Row::NoVariable.refusal());
+        return analyzer_verdict::refuse(Row::NoVariable.number(), 0);
     }
     if s.objects > EARLIER {
-        return analyzer_verdict::refuse(Row::Objects.refusal());
+        return analyzer_verdict::refuse(Row::Objects.number(), 0);
     }
     ask(m, s, object, run)
 }

@@ -6,8 +6,7 @@ ghost use Rattle.reason_codes.specs.Codes.{reasoned as reason_code, explained as
 
 use explain::Explanation;
 use reasons::Reason;
-use rows::Refusal;
-use words::Kind;
+use words::{Kind, Numbered};
 
 // The number of a reason, and the place of the literal that is to blame.
 // The numbers stay written out: a reason that carries a literal's place cannot be cast, and they stand nowhere else.
@@ -29,7 +28,7 @@ fn reasoned(reason: Reason) -> u64
 
 // The number of what is said of a run.
 // It stays a function and no `From`: neither a `Result` nor `u64` is a type of this crate.
-pub fn explained(x: Result<Explanation, Refusal>) -> u64
+pub fn explained(x: Result<Explanation, Numbered>) -> u64
     ensures { result ≡ explanation_code x }
 {
     match x {
@@ -40,6 +39,6 @@ pub fn explained(x: Result<Explanation, Refusal>) -> u64
                 place as u64 % 65_536 * 65_536 + reasoned(reason),
             )
         }
-        Err(r) => words::refused(r),
+        Err(r) => words::refusal(r.number, r.line),
     }
 }

@@ -43,14 +43,15 @@ pub struct Outcome {
 }
 
 impl Outcome {
-    // The state after the place, where these were the states of the objects before it.
+    // The state after the place, where these were the states of the objects before it. An object that is none changes none of them.
     pub fn session(&self, states: [u32; OBJECTS]) -> Session
-        requires { IfSome self.now.given (λ given. given.object < limit.objects) }
         ensures { result ≡ afterwards states self.now }
     {
         let mut states = states;
         if let Some(given) = self.given {
-            states[given.object] = given.state;
+            if given.object < OBJECTS {
+                states[given.object] = given.state;
+            }
         }
         self.at.session(states)
     }

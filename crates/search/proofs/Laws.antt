@@ -24,10 +24,12 @@ use Rattle.search_states.specs.declared.States.{States}
 use Rattle.search_states.specs.States.{row, Known, by, from}
 use Rattle.search_states.proofs.Laws.{length-row, row-full}
 use Rattle.search_clauses.specs.Reach.{Lists}
-use Rattle.search_reachable.specs.Reachable.{Reaches}
+use Rattle.search_reachable.specs.Reachable.{Overflows, Reaches}
+use Rattle.search_reachable.proofs.Ends.{too-many}
 use Rattle.search_ways.specs.Moves.{Exactly}
 use Rattle.search_ways.proofs.Laws.{whole}
-use Rattle.std.specs.Prelude.{Option, Some, None}
+use Rattle.std.specs.Prelude.{Option, Some, None, Result, Ok, Err, MatchResult}
+use Rattle.std.specs.Result.{result_ok}
 use Rattle.search_levels.specs.Levels.{Aims, Filled}
 use Rattle.search_levels.proofs.Targets.{aims-points}
 use Rattle.search_levels.proofs.Laws as levels
@@ -72,6 +74,11 @@ module _ (m : Model) (wf : WellFormed m) (w : List ℕ) (s : States) (reaches : 
   reachable t =
       let q = states (program_of m) wf.safe (row s) no_more (by s) (from s) reaches.found t in
       ((λ r. ⊎_elim (λ e. inl (e.0, emptied e.1)) (λ e. inr e) (q.0 r)), λ k. q.1 (⊎_elim (λ e. inl (e.0, reaches.empty e.1)) (λ e. inr e) k))
+
+-- WHERE NO STATES ARE GIVEN there are too many
+pub many : (m : Model) → WellFormed m → (w : List ℕ) (r : Result States States) → None ≡ result_ok r → MatchResult r (Reaches m w) (Overflows m w) → MoreThan limit.atomic (program_of m)
+many m wf w (Ok s) q h = cc
+many m wf w (Err s) q h = too-many m wf w s h
 
 -- WHAT IS EXPLORED is what the levels rest on
 pub surveyed-exactly : (m : Model) (w : List ℕ) (e : Explored) → Surveyed m w e → Exactly m w e.states

@@ -67,7 +67,7 @@ pub fn explore(work: &mut [u8], m: Model) -> Option<Explored>
     requires { WellFormed m × (room ≤ length work.old) }
     ensures { Explores m work.new result × (length work.new ≡ length work.old) }
 {
-    let states = search_reachable::reachable(work, m)?;
+    let states = search_reachable::reachable(work, m).ok()?;
     Some(surveyed(work, m, states))
 }
 

@@ -224,27 +224,35 @@ pub fn line_between(m: Model, table: &[u8; TABLE], u: usize, from: u32, to: u32)
 }
 
 // The line of the first clause that takes an object of the state of slot u to that of slot t.
-fn line_to(m: Model, s: States, moves: &Moves, u: usize, t: usize) -> u32
-    requires { WellFormed m × Proper s × Marks moves.now.table (CanTake m s) × (u < s.count) × (t < s.count) × ((ℓ : ℕ) × Takes (program_of m) (row s) (state (row s) u) (state (row s) t) (line (program_of m) ℓ)) }
+fn line_to(m: Model, s: States, table: &[u8; TABLE], u: usize, t: usize) -> u32
+    requires { WellFormed m × Proper s × Marks table.now (CanTake m s) × (u < s.count) × (t < s.count) × ((ℓ : ℕ) × Takes (program_of m) (row s) (state (row s) u) (state (row s) t) (line (program_of m) ℓ)) }
     ensures { Takes (program_of m) (row s) (state (row s) u) (state (row s) t) (line (program_of m) result) }
 {
-    line_between(m, &moves.table, u, s.states[u], s.states[t]).unwrap()
+    line_between(m, table, u, s.states[u], s.states[t]).unwrap()
 }
 
 // The lines of a shortest way from one slot to another, and how many they are.
-// The model, the states and the moves stay apart: `line_between` reads the model and the table and no states, `reach` and `before` the steps alone, and what makes an object, in `witness_lineage`, the model and the states and no moves.
+// The model, the states, the table and the steps stay apart: `line_between` reads the model and the table and no states, `reach` and `before` the steps alone, and of all `Moves` the third matrix is not asked for, which a caller need not have.
 // The lines stay in a row that is lent, with their number as the answer: there is no heap, and the row is C's run table or one of fixed size.
-pub fn way(m: Model, s: States, moves: &Moves, from: usize, to: usize, out: &mut [u32]) -> usize
-    requires { WellFormed m × Proper s × Whole (program_of m) (row s) × Marks moves.now.table (CanTake m s) × Marks moves.now.steps (Between s.count (OneStep (program_of m) (row s))) × (from < s.count) × (to < s.count) × Comes (program_of m) (row s) (state (row s) from) (state (row s) to) × (s.count ≤ length out.old) }
+pub fn way(
+    m: Model,
+    s: States,
+    table: &[u8; TABLE],
+    steps: &[u8; MATRIX],
+    from: usize,
+    to: usize,
+    out: &mut [u32],
+) -> usize
+    requires { WellFormed m × Proper s × Whole (program_of m) (row s) × Marks table.now (CanTake m s) × Marks steps.now (Between s.count (OneStep (program_of m) (row s))) × (from < s.count) × (to < s.count) × Comes (program_of m) (row s) (state (row s) from) (state (row s) to) × (s.count ≤ length out.old) }
     ensures { Shortest (program_of m) (row s) from to out.old out.new result }
 {
     let n = s.count;
     let mut layers = [0u8; MATRIX];
-    let k = reach(&moves.steps, n, from, to, &mut layers);
+    let k = reach(steps, n, from, to, &mut layers);
     let mut t = to;
     for j in (0..k).rev() {
-        let u = before(&moves.steps, &layers, n, j, t);
-        out[j] = line_to(m, s, moves, u, t);
+        let u = before(steps, &layers, n, j, t);
+        out[j] = line_to(m, s, table, u, t);
         t = u;
     }
     k

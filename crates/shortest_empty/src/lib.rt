@@ -40,7 +40,7 @@ pub fn between(
     if !facts_bits::get(&moves.ways, from * WIDTH + to) {
         return None;
     }
-    Some(search_ways::way(m, s, moves, from, to, out))
+    Some(search_ways::way(m, s, &moves.table, &moves.steps, from, to, out))
 }
 
 // The fewest steps from one slot to another from where a line empties the object, if there is such a way.
@@ -78,7 +78,7 @@ pub fn way(m: Model, s: States, moves: &Moves, from: usize, out: &mut [u32]) -> 
     ensures { ToEmpty (program_of m) (row s) (state (row s) from) out.old out.new result }
 {
     let u = nearest(m, s, moves, from)?;
-    let k = search_ways::way(m, s, moves, from, u, out);
+    let k = search_ways::way(m, s, &moves.table, &moves.steps, from, u, out);
     out[k] = emptier(m, s, moves, u).unwrap();
     Some(k + 1)
 }

@@ -1,7 +1,7 @@
 // The `ask` line after its first word.
 #![tactic(auto)]
 
-ghost use Rattle.std.specs.Prelude.{◌≡◌, List, ◌+◌, ◌≤◌, ◌<◌, length, drop, MatchOption};
+ghost use Rattle.std.specs.Prelude.{◌≡◌, List, ◌+◌, ◌≤◌, ◌<◌, length, drop, MatchOption, IfErr};
 ghost use Rattle.std.proofs.Math.Option.{none};
 ghost use Rattle.limits.specs.Limits as limit;
 ghost use Rattle.grammar.specs.Forms as forms;
@@ -60,18 +60,20 @@ fn finish(s: Result<Scope<ASKED>, Row>) -> Result<[u32; CARRIED], Row>
     text_carried::carried(s?).ok_or(Row::Carried)
 }
 
-// `(ask (L ..) (L ..))`, in a record without stages. After a refusal its stages and literals are those read so far, and the relations, names, clauses and lines are untouched.
+// `(ask (L ..) (L ..))`, in a record without stages. The stages are read into a copy, so that the record is as it was after a refusal.
 pub fn read_ask(text: &[u8], d: Declared, at: usize, m: &mut Model) -> Result<(), Row>
     requires { (at ≤ length text.now) × (0 < at) × (length text.now < 4294967296) × names.Valid text.now d × questions.Empty m.old }
-    ensures { AskEnd (names.declared_of text.now d) m.old (ask_rest (drop at text.now)) result m.new × questions.Aside m.old m.new }
+    ensures { AskEnd (names.declared_of text.now d) m.old (ask_rest (drop at text.now)) result m.new × questions.Aside m.old m.new × IfErr result (λ _. m.new ≡ m.old) }
 {
     let b = text_bodies::read_stage(text, d, at).ok_or(Row::Shape)?;
+    let mut asked = *m;
     let s = text_scope::empty();
-    let f = text_stages::add(text, Ok(s), b, m);
-    let r = read_stages(text, d, b.end, f, FURTHER, m).ok_or(Row::Shape)?;
+    let f = text_stages::add(text, Ok(s), b, &mut asked);
+    let r = read_stages(text, d, b.end, f, FURTHER, &mut asked).ok_or(Row::Shape)?;
     if r.end != text.len() {
         return Err(Row::Shape);
     }
-    m.carried = finish(r.kept)?;
+    asked.carried = finish(r.kept)?;
+    *m = asked;
     Ok(())
 }

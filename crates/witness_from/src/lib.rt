@@ -73,7 +73,19 @@ fn approach(
     if carried {
         return at;
     }
-    witness_walk::errand(run, m, s, moves, 0, 0, to, to, object, at)
+    witness_walk::errand(
+        run,
+        m,
+        s,
+        &moves.table,
+        &moves.steps,
+        0,
+        0,
+        to,
+        to,
+        object,
+        at,
+    )
 }
 
 // Writes how stage 1 is met with the object for its first variable and the pair of level 1, the last place first. Returns the index behind it.
@@ -98,9 +110,21 @@ fn open_with(
     let c = witness_meetings::opening(work, slots, m, s, &moves.ways, slot, first, second);
     let to = c.first.unwrap();
     let met = witness_meetings::meet_first(run, m, cast, object, c, p.at);
-    let then = witness_walk::errand(run, m, s, moves, 1, 0, second, second, cast.second, met);
+    let then = witness_walk::errand(
+        run,
+        m,
+        s,
+        &moves.table,
+        &moves.steps,
+        1,
+        0,
+        second,
+        second,
+        cast.second,
+        met,
+    );
     let at = approach(run, m, s, moves, carried, first, cast.first, then);
-    witness_walk::lead(run, m, s, moves, slot, to, object, at)
+    witness_walk::lead(run, m, s, &moves.table, &moves.steps, slot, to, object, at)
 }
 
 // Writes a run into the table that goes on from a database with so many objects, of which this one has the state of the slot and stands for the first variable of stage 1. Returns how many places it has.

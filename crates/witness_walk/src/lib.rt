@@ -20,7 +20,7 @@ use limits::LISTED;
 use model::{Model, Place};
 use search_levels::{LEVELS, Pair};
 use search_states::States;
-use search_ways::{MATRIX, Moves};
+use search_ways::{MATRIX, Moves, TABLE};
 use witness_meetings::Cast;
 
 // The slots of the carried objects on a level, and the index at which the place before is written.
@@ -61,22 +61,23 @@ fn tell(run: &mut [u32], lines: &[u32], object: u32, k: usize) -> usize
 }
 
 // Writes a shortest way of the object from one slot to another, the last step first, from index `at` on. Returns the index behind it.
-// The run, the model, the states and the moves stay apart: the run is written, and each callee reads another part of the rest, a making the model and the states alone, a way the moves too, a meeting the work area in place of the moves.
+// The run, the model, the states, the table and the steps stay apart: the run is written, and each callee reads another part of the rest, a making the model and the states alone, a way the table and the steps too, a meeting the work area in place of them; the third matrix of `Moves` is not asked for.
 pub fn lead(
     run: &mut [u32],
     m: Model,
     s: States,
-    moves: &Moves,
+    table: &[u8; TABLE],
+    steps: &[u8; MATRIX],
     from: usize,
     to: usize,
     object: u32,
     at: usize,
 ) -> usize
-    requires { WellFormed m × Proper s × Mapped m s moves.now.table moves.now.steps × Ready m s true true from to × (object < limit.objects) × (at + s.count ≤ length run.old) }
+    requires { WellFormed m × Proper s × Mapped m s table.now steps.now × Ready m s true true from to × (object < limit.objects) × (at + s.count ≤ length run.old) }
     ensures { Written (Errand m s object true true from to) (s.count - 1) run.old at run.new result }
 {
     let mut lines = [0u32; LISTED];
-    let n = search_ways::way(m, s, moves, from, to, &mut lines);
+    let n = search_ways::way(m, s, table, steps, from, to, &mut lines);
     tell(run, &lines[..n], object, at)
 }
 
@@ -85,7 +86,8 @@ pub fn errand(
     run: &mut [u32],
     m: Model,
     s: States,
-    moves: &Moves,
+    table: &[u8; TABLE],
+    steps: &[u8; MATRIX],
     v: usize,
     k: usize,
     from: usize,
@@ -93,7 +95,7 @@ pub fn errand(
     object: u32,
     at: usize,
 ) -> usize
-    requires { WellFormed m × Proper s × Discovered (program_of m) s × Mapped m s moves.now.table moves.now.steps × (v < limit.carried) × (k < m.stagecount) × Ready m s (holder m v k) (chosen m v k) from to × (object < limit.objects) × (at + s.count ≤ length run.old) }
+    requires { WellFormed m × Proper s × Discovered (program_of m) s × Mapped m s table.now steps.now × (v < limit.carried) × (k < m.stagecount) × Ready m s (holder m v k) (chosen m v k) from to × (object < limit.objects) × (at + s.count ≤ length run.old) }
     ensures { Written (Errand m s object (holder m v k) (chosen m v k) from to) (effort s.count (holder m v k) (chosen m v k)) run.old at run.new result }
 {
     if !holds(m, v, k) {
@@ -102,7 +104,7 @@ pub fn errand(
     if !carries(m, v, k) {
         return witness_lineage::make(run, m, s, to, object, at);
     }
-    lead(run, m, s, moves, from, to, object, at)
+    lead(run, m, s, table, steps, from, to, object, at)
 }
 
 // Can an object go from slot u to slot e before a stage is met?
@@ -185,8 +187,32 @@ fn back(
     let second = p.pair.second;
     let q = previous(rows, &moves.ways, m, k, first, second);
     let met = witness_meetings::meet(run, work, slots, m, s, cast, k, first, second, p.at);
-    let then = errand(run, m, s, moves, 1, k, q.second, second, cast.second, met);
-    let at = errand(run, m, s, moves, 0, k, q.first, first, cast.first, then);
+    let then = errand(
+        run,
+        m,
+        s,
+        &moves.table,
+        &moves.steps,
+        1,
+        k,
+        q.second,
+        second,
+        cast.second,
+        met,
+    );
+    let at = errand(
+        run,
+        m,
+        s,
+        &moves.table,
+        &moves.steps,
+        0,
+        k,
+        q.first,
+        first,
+        cast.first,
+        then,
+    );
     Stand { pair: q, at }
 }
 

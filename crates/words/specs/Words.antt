@@ -1,5 +1,8 @@
 -- THE WORDS OF ANSWERS: kind × 2^32 + value; a refusal is of kind 2, and its value is number × 65,536 + line.
-use Rattle.std.specs.Prelude.{ℕ, ◌+◌, ◌*◌}
+use Rattle.std.specs.Prelude.{ℕ, ◌+◌, ◌*◌, Result, Ok, Err}
+use Rattle.rows.specs.Rows.{number_of}
+use Rattle.rows.specs.declared.Refusal.{Refusal}
+use Rattle.words.specs.declared.Numbered.{Numbered}
 use Rattle.words.specs.declared.Kind.{Kind}
 use Rattle.words.specs.declared.Kind.TheVariants.{Unreached, Reached, Refused, Kept, Broken, Unreadable, Right, Other, Breaks, SaysNo, SaysYes, Strike, NoChoice, Counted, Written, Told, Way, NoWay}
 
@@ -28,3 +31,8 @@ code kind value = kind * 4294967296 + value
 
 abbrev pub refusal : ℕ → ℕ → ℕ
 refusal n l = code 2 (n * 65536 + l)
+
+-- an answer whose refusal is told by its row's number, and its line
+abbrev pub by_number : {A : Type 0} → Result A Refusal → Result A Numbered
+by_number (Ok a) = Ok a
+by_number (Err x) = Err (record { number = number_of x.row; line = x.line })

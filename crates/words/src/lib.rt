@@ -3,7 +3,7 @@
 
 ghost use Rattle.std.specs.Prelude.{◌≡◌, ◌<◌};
 ghost use Rattle.rows.specs.Rows.{number_of};
-ghost use Rattle.words.specs.Words.{kind_number, code, refusal as refusal_code};
+ghost use Rattle.words.specs.Words.{kind_number, code, refusal as refusal_code, by_number as told_by_number};
 
 use rows::Refusal;
 
@@ -30,6 +30,14 @@ pub enum Kind {
     NoWay = 17,
 }
 
+// A refusal by a number, a row's or any other, and a line.
+// The number stays in place of the row: `codes`, `reason_codes` and `asbestos_desk` promise the word of any number.
+#[derive(Clone, Copy)]
+pub struct Numbered {
+    pub number: u32,
+    pub line: u32,
+}
+
 // The word of an answer: kind × 2^32 + value.
 pub fn word(kind: Kind, value: u64) -> u64
     requires { value < 9223372036854775808 }
@@ -52,4 +60,17 @@ pub fn refused(r: Refusal) -> u64
     ensures { result ≡ refusal_code (number_of r.row) r.line }
 {
     refusal(r.row.number(), r.line)
+}
+
+// An answer whose refusal is told by its number.
+pub fn by_number<T>(answer: Result<T, Refusal>) -> Result<T, Numbered>
+    ensures { result ≡ told_by_number answer }
+{
+    match answer {
+        Ok(said) => Ok(said),
+        Err(r) => Err(Numbered {
+            number: r.row.number(),
+            line: r.line,
+        }),
+    }
 }

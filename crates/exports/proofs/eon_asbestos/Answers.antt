@@ -7,4 +7,4 @@ pub coded-requires : goal.coded-requires
 coded-requires c =
     let a = c.args in
     let w = c.write in
-    short-text (kinds_of a.kinds.now a.count) a.port a.level a.out.now w.result w.new.out w.ensures.0
+    rw c.by_number.ensures (short-text (kinds_of a.kinds.now a.count) a.port a.level a.out.now w.result w.new.out w.ensures.0)

@@ -10,4 +10,4 @@ pub marked-requires : goal.marked-requires
 marked-requires c =
     let a = c.args in
     let r = c.mark in
-    mark-fits (called a.text.now (narrow (length a.work.now) (length a.run.now) (length a.stood.now)) false) a.handin.now a.work.now a.run.now a.stood.now r.result r.new.work r.new.run r.new.stood r.ensures
+    rw c.by_number.ensures (mark-fits (called a.text.now (narrow (length a.work.now) (length a.run.now) (length a.stood.now)) false) a.handin.now a.work.now a.run.now a.stood.now r.result r.new.work r.new.run r.new.stood r.ensures)
