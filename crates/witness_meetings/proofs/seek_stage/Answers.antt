@@ -20,4 +20,4 @@ returns c =
     let a = c.args in
     let p = c.requires in
     let long : length (take a.s.count a.slots.now) ≡ a.s.count = length-take-le a.s.count a.slots.now (let few = p.0.proper.count in let o = p.1.long in omega arith) in
-    rw (c.body.ensures, codes-say a.m p.0.model a.k p.2) at (c.seek.ensures (row a.s) p.0.exact.states (length-row a.s p.0.proper ∙ sym long))
+    rw (c.body.ensures, codes-say a.m p.0.model a.k p.2) at (c.seek.ensures (row a.s) p.0.exact.states (length-row a.s p.0.proper ∙ sym long)).0
